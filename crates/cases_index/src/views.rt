@@ -22,7 +22,7 @@ fn give_live(trial: &mut Trial, entry: &Entry) {
     let live = entry.live();
     trial.open();
     for number in 0..segment.docs() {
-        if number < live.len() && live.get(number) {
+        if live.contains(number) {
             trial.give_number(segment.stamp(number));
         }
     }

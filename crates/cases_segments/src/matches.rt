@@ -33,7 +33,7 @@ pub(crate) fn cursor_over<'a>(
 /// Whether a document is live and matches.
 fn is_found(trial: &mut Trial, bench: &Bench, query: &Query, doc: usize) -> bool {
     let segment = &bench.segment;
-    if doc >= segment.docs() || doc >= bench.live.len() || !bench.live.get(doc) {
+    if doc >= segment.docs() || !bench.live.contains(doc) {
         return false;
     }
     let matches = fts_scan::matches(

@@ -1,12 +1,11 @@
 -- Live documents that are picked from those that a cursor gives.
 use Rattle.std.proofs.Common.{◌≡◌, ℕ, zero, suc, ◌∙◌, ◌^◌, ◌≤◌, Bool, true, cond, List, [], ◌∷◌}
 use Rattle.std.proofs.Common.{drop, length, min, take, inl, inr, IfSome, None, Option, Some, refl, sym, ap, arith}
-use Rattle.std.specs.List.{filter}
+use Rattle.std.specs.List.{filter, list_all}
 use Rattle.std.specs.Prelude.{count_by, replicate}
 use Rattle.std.proofs.Math.Seq.{take-length}
 use Rattle.std.proofs.lemmas.Bool.{cases_lt}
 use Rattle.std.proofs.lemmas.List.{drop_all, length-replicate, take_all}
-use Rattle.std.proofs.lemmas.List.Sums.{length-filter}
 use Rattle.fts_cursor.proofs.BoolHits.{all_live}
 use Rattle.fts_cursor.specs.Hits.{is_live, live_hits}
 use Rattle.fts_model.specs.declared.operation.Stamped.{Stamped}
@@ -29,21 +28,17 @@ none_picked test n (x ∷ xs) passes none =
     let some : 0 ≡ length (x ∷ rest) = none ∙ ap (λ b. length (cond b (x ∷ rest) rest)) passes in
     absurd (omega (arith, some))
 
--- as many bits are set as there are, where each is
-length-set : (n : ℕ) → length (filter (λ (b : Bool). b) (replicate n true)) ≡ n
-length-set zero = refl
-length-set (suc n) = ap (λ k. suc k) (length-set n)
-
-count-set : (n : ℕ) → count_by (λ (b : Bool). b) (replicate n true) ≡ n
-count-set n = sym (length-filter (λ (b : Bool). b) (replicate n true)) ∙ length-set n
+-- of bits that are all set each is
+all_set : (n : ℕ) → list_all (λ bit. bit) (replicate n true) ≡ true
+all_set zero = refl
+all_set (suc n) = all_set n
 
 -- what is live of all hits
 pub picked_hits : (segment : SegmentValue) (live set : List Bool) (query : QueryValue) (n : ℕ) → set ≡ replicate n true → n ≡ length live →
     length live ≡ length segment.documents → filter (is_live live) (live_hits segment set query) ≡ live_hits segment live query
 picked_hits segment live set query n is long fits =
     let size : length set ≡ n = ap length is ∙ length-replicate n true in
-    ap (filter (is_live live)) (sym (all_live segment set query (size ∙ long ∙ fits)
-    (ap (count_by (λ (b : Bool). b)) is ∙ count-set n ∙ sym size)))
+    ap (filter (is_live live)) (sym (all_live segment set query (size ∙ long ∙ fits) (ap (list_all (λ bit. bit)) is ∙ all_set n)))
 
 -- all of which pass
 filter-all : {X : Type 0} (p : X → Bool) (xs : List X) → ((x : X) → p x ≡ true) → filter p xs ≡ xs

@@ -482,7 +482,7 @@ fn is_frequent_term(segment: &Segment, query: &Query) -> bool {
 /// Whether live hits are picked as they are taken, from a cursor of all hits. A cursor of the live ones would give 128
 /// at a time, and step to those that the dead left room for.
 fn picks(segment: &Segment, live: &Bits, query: &Query, request: &Request) -> bool {
-    if live.count_ones() == live.len() {
+    if live.is_all_set() {
         return false;
     }
     match request.groups {

@@ -141,18 +141,9 @@ fn keep_live(live: &Bits, count: usize, docs: &mut [u32; 128]) -> usize
     for index in 0..count {
         let doc = docs[index];
         docs[kept] = doc;
-        kept += usize::from(is_live(live, doc));
+        kept += usize::from(live.contains(doc as usize));
     }
     kept
-}
-
-/// Whether the document's bit is set. What has no bit isn't live.
-#[inline]
-fn is_live(live: &Bits, doc: u32) -> bool
-    ensures { result ≡ is_live live.now doc }
-{
-    let doc = doc as usize;
-    doc < live.len() && live.get(doc)
 }
 
 /// Passes over documents whose bit isn't set.
@@ -163,7 +154,7 @@ fn settle(cursor: &mut Cursor, live: &Bits)
     ensures walked { Walked cursor.old cursor.new }
 {
     while let Some(doc) = cursor.doc() {
-        if is_live(live, doc) {
+        if live.contains(doc as usize) {
             return;
         }
         cursor.advance();

@@ -2,11 +2,10 @@
 use Rattle.std.proofs.Common.{◌≡◌, ℕ, zero, suc, ◌+◌, ◌<◌, ◌≤◌, ◌==◌, Bool, true, false, not, ◌&&◌, ◌||◌, List, [], ◌∷◌, ◌++◌, drop, get_or, length, map, take}
 use Rattle.std.proofs.Common.{refl, sym, ap, ap₂, subst, ◌∙◌, inl, inr, arith}
 use Rattle.std.specs.Prelude.{if◌then◌else◌}
-use Rattle.std.specs.List.{AllZip, count_by, filter, list_all, list_any}
+use Rattle.std.specs.List.{AllZip, filter, list_all, list_any}
 use Rattle.std.specs.Option.{option_map_or}
 use Rattle.std.proofs.lemmas.Bool.{cases_lt, false≢true}
 use Rattle.std.proofs.lemmas.List.{take_more}
-use Rattle.std.proofs.lemmas.List.Sums.{count_by-le-length, length-filter}
 use Rattle.std.proofs.lemmas.Option.{slice_get_past}
 use Rattle.fts_model.specs.declared.operation.Stamped.{Stamped}
 use Rattle.fts_model.specs.declared.query.Query.{Query}
@@ -15,6 +14,7 @@ use Rattle.fts_model.specs.Documents.{DocumentValue}
 use Rattle.fts_model.specs.Queries.{is_nonempty, matches}
 use Rattle.fts_model.specs.QueryValues.{QueryValue}
 use Rattle.fts_model.proofs.QueriesBoolean.{matches_in}
+use Rattle.fts_pack.proofs.BitsLemmas.{each_set}
 use Rattle.fts_segment.specs.Segments.{SegmentValue, numbers_where}
 use Rattle.fts_segment.proofs.HoldingLemmas.{numbers_where-same}
 use Rattle.fts_cursor.specs.Hits.{is_live, live_hits, segment_hits}
@@ -112,27 +112,16 @@ bool_apart segment query must must_not should kept dropped bool is are =
     and_late (list_all (matches_in segment.schema document) must) (list_any (matches_in segment.schema document) must_not)
     (is_nonempty must || list_any (matches_in segment.schema document) should) ∙ sym (bool document))
 
--- where all bits are set, each is
-set_all : (bits : List Bool) → length (filter (λ (b : Bool). b) bits) ≡ length bits → (d : ℕ) → d < length bits → get_or bits d false ≡ true
-set_all [] all d inside = absurd (omega (arith, inside))
-set_all (true ∷ bits) all zero inside = refl
-set_all (true ∷ bits) all (suc d) inside =
-    let more : suc (length (filter (λ (b : Bool). b) bits)) ≡ suc (length bits) = all in
-    set_all bits (omega (arith, more)) d (omega (arith, inside))
-set_all (false ∷ bits) all d inside =
-    let less : length (filter (λ (b : Bool). b) bits) ≡ suc (length bits) = all in
-    absurd (omega (arith, less, length-filter (λ (b : Bool). b) bits, count_by-le-length (λ (b : Bool). b) bits))
-
--- then all documents are live
+-- where all bits are set, all documents are live
 pub all_live : (segment : SegmentValue) (live : List Bool) (query : QueryValue) → length live ≡ length segment.documents →
-    count_by (λ (b : Bool). b) live ≡ length live → segment_hits segment query ≡ live_hits segment live query
+    list_all (λ bit. bit) live ≡ true → segment_hits segment query ≡ live_hits segment live query
 all_live segment live query long all =
     let p : Stamped DocumentValue → Bool = λ e. matches segment.schema e.value query in
     sym (numbers_are p segment.documents (live_hits segment live query) (Rises-filter 0 (is_live live) (segment_hits segment query)
     (Rises-numbers p 0 segment.documents))
     (λ d. has-filter (is_live live) (segment_hits segment query) d ∙ ap (λ b. b && is_live live d) (has-all p segment.documents d)
     ∙ elim (cases_lt d (length segment.documents)) [
-      | inl inside ↦ ap (λ b. test_at p segment.documents d && b) (set_all live (length-filter (λ (b : Bool). b) live ∙ all) d (omega (arith, inside, long)))
+      | inl inside ↦ ap (λ b. test_at p segment.documents d && b) (each_set live d all (omega (arith, inside, long)))
           ∙ sym (and_true (test_at p segment.documents d))
       | inr past ↦ ap (λ s. option_map_or p s false && is_live live d) (slice_get_past segment.documents d past)
           ∙ sym (ap (λ s. option_map_or p s false) (slice_get_past segment.documents d past))

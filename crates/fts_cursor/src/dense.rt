@@ -3,7 +3,6 @@ ghost use Rattle.std.specs.Prelude.{◌≡◌, ℕ, true, false, ◌+◌, ◌-�
 ghost use Rattle.std.specs.Prelude.{min};
 ghost use Rattle.std.specs.Prelude.{slice_index_or};
 ghost use Rattle.fts_cursor.specs.Dense.{AreWithin, HoldsRow, IsRow, Tells, in_each, in_one, is_dense, word_of};
-ghost use Rattle.fts_cursor.specs.Hits.{is_live};
 ghost use Rattle.fts_postings.specs.Windows.{passing};
 
 use fts_pack::bits::Bits;
@@ -139,17 +138,9 @@ pub(crate) fn in_each(list: &[&Bits], doc: usize) -> bool
 {
     let mut found = true;
     for bits in list {
-        found = found && has_bit(bits, doc);
+        found = found && bits.contains(doc);
     }
     found
-}
-
-/// Whether the document's bit is set. What has no bit isn't there.
-#[inline]
-pub(crate) fn has_bit(bits: &Bits, doc: usize) -> bool
-    ensures { result ≡ is_live bits.now doc }
-{
-    doc < bits.len() && bits.get(doc)
 }
 
 /// 16 words of several bits, joined by "or".

@@ -3,7 +3,6 @@ ghost use Rattle.std.specs.Prelude.{◌≡◌, Option};
 ghost use Rattle.fts_cursor.specs.Tests.{passes, passes_one};
 ghost use Rattle.fts_pack.specs.column.Column.{is_within};
 
-use crate::dense::has_bit;
 use fts_pack::bits::Bits;
 use fts_pack::column::Column;
 
@@ -30,7 +29,7 @@ impl DocTest<'_> {
     {
         match self {
             DocTest::First(docs) => doc < *docs,
-            DocTest::Set(bits) => has_bit(bits, doc),
+            DocTest::Set(bits) => bits.contains(doc),
             DocTest::Within { column, low, high } => is_within(*low, *high, column.get(doc)),
         }
     }

@@ -10,7 +10,7 @@ ghost use Rattle.fts_cursor.specs.Hits.{is_live};
 ghost use Rattle.fts_cursor.specs.Standing.{Continues, Walked};
 ghost use Rattle.fts_cursor.specs.Terms.{AreTied};
 
-use crate::dense::{has_bit, in_each};
+use crate::dense::in_each;
 use fts_pack::ListSource;
 use fts_pack::bits::Bits;
 use fts_postings::{Conjunction, DocSet};
@@ -178,7 +178,7 @@ fn keep_set(bits: &Bits, from: usize, end: usize, docs: &mut [u32; 128]) -> usiz
     for index in from..end {
         let doc = docs[index];
         docs[kept] = doc;
-        kept += usize::from(has_bit(bits, doc as usize));
+        kept += usize::from(bits.contains(doc as usize));
     }
     kept
 }

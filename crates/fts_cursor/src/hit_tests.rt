@@ -10,7 +10,6 @@ ghost use Rattle.fts_cursor.specs.Hits.{live_hits, segment_hits};
 ghost use Rattle.fts_cursor.specs.Tests.{HasMore, hits_of_each, is_kept, passes_each, passes_one};
 ghost use Rattle.fts_postings.specs.Sets.{has, in_all, in_some};
 
-use crate::dense::has_bit;
 use crate::doc_test::{DocTest, passes_one};
 use crate::range::{bounds_of, is_open};
 use fts_model::{FieldValue, Query, Term};
@@ -50,7 +49,7 @@ impl HitTest<'_> {
     pub fn has(&self, doc: usize) -> bool
         ensures { result ≡ has self.now doc }
     {
-        has_bit(self.live, doc) && passes_each(&self.kept, doc) && !passes_one(&self.dropped, doc)
+        self.live.contains(doc) && passes_each(&self.kept, doc) && !passes_one(&self.dropped, doc)
     }
 
     /// About how many hits there are, by a sample of the documents.

@@ -1,5 +1,5 @@
 // The cursor of a query: a tree of cursors, one for each query within it.
-ghost use Rattle.std.specs.Prelude.{◌≡◌, ◌-◌, ◌^◌, ◌≤◌, ◌<◌, true, count_by, IfOk, IsOkUnless, MatchOption, None, Some};
+ghost use Rattle.std.specs.Prelude.{◌≡◌, ◌-◌, ◌^◌, ◌≤◌, ◌<◌, true, IfOk, IsOkUnless, MatchOption, None, Some};
 ghost use Rattle.std.specs.Prelude.{All, EachIndex, List, [], ◌∷◌, length, map, min, slice_index};
 ghost use Rattle.std.specs.List.{AllZip, list_all};
 ghost use Rattle.std.specs.List.Sorted.{IsStrictlyIncreasing};
@@ -53,7 +53,7 @@ pub fn cursor_of<'a>(
     match tree_of(alloc, segment, query) {
         Err(AllocError) => Err(Refusal::Memory),
         Ok(tree) => {
-            if all_set(live) {
+            if live.is_all_set() {
                 return Ok(Cursor::all(tree));
             }
             match Cursor::live(alloc, tree, live) {
@@ -62,13 +62,6 @@ pub fn cursor_of<'a>(
             }
         }
     }
-}
-
-/// Whether all bits are set.
-fn all_set(live: &Bits) -> bool
-    ensures { result ≡ true → count_by (λ bit. bit) live.now ≡ length live.now }
-{
-    live.count_ones() == live.len()
 }
 
 /// The documents that match a query.

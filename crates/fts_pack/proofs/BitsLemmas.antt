@@ -3,7 +3,7 @@ use Rattle.std.proofs.Common.{◌≡◌, ◌||◌, ℕ, zero, suc, ◌+◌, ◌-
 use Rattle.std.proofs.Common.{replicate, slice_get, Some, length, get_or, take, drop, set, bit_and, bit_or, count_by, refl, sym, ap, ap₂, ◌∙◌, subst, arith}
 use Rattle.std.proofs.Common.{mul-one, mod-eq_of_lt, suc-mul, lit<, cond, lt_of_le_of_lt, Decides}
 use Rattle.std.proofs.lemmas.List.Folds.{sum_by-replicate}
-use Rattle.std.proofs.lemmas.List.Sums.{count_by-le-length, sum_by-set}
+use Rattle.std.proofs.lemmas.List.Sums.{count_by-le-length, sum_by-cons, sum_by-set}
 use Rattle.std.specs.Int.{bit_at, w64}
 use Rattle.std.proofs.lemmas.Nat.{pow_pos, mod_below, shr_split, div-add-mod', pow-add, one_shl, pow_below, or_lt, and_le_l, mod_low, mod-pow-add, shr-shr}
 use Rattle.std.proofs.lemmas.Nat.{shl_whole, or_comm, or_shifted}
@@ -11,16 +11,17 @@ use mir.Val.{bool_byte}
 use Rattle.std.proofs.lemmas.Nat.Bits.{same_from_bits, bit_at_above, bit_at_cat_low, bit_at_ones, bit_at-zero, bit_at_set_same, bit_at_set_other}
 use Rattle.std.proofs.lemmas.Nat.Bits.{bit_at_clear_same, bit_at_clear_other, shr_and_one, bit_at_lowest, bit_at-suc}
 use Rattle.std.proofs.lemmas.List.{take_all, get_or-take, get_or-drop, get_or-map, ext_get_or, length-set, length-map, get_or-set_same, get_or-set_other}
-use Rattle.std.proofs.lemmas.List.{get_or-replicate, length-replicate, replicate_more, set_at, length_push}
+use Rattle.std.proofs.lemmas.List.{get_or-replicate, get_or_past, length-replicate, replicate_more, set_at, length_push}
 use Rattle.std.proofs.lemmas.Option.{get_or_from_slice_get, slice_get-get_or}
 use Rattle.std.proofs.lemmas.Bool.{cases_lt, cases_eq, eq-eqb, ne_eqb}
-use Rattle.std.specs.List.{list_any}
+use Rattle.std.specs.List.{list_all, list_any}
 use Rattle.std.proofs.lemmas.List.Folds.{list_any_more}
 use Rattle.std.proofs.lemmas.Bool.Decides.{same_from_decides, Decides-eqb}
 use Rattle.std.proofs.lemmas.Slice.Eq.{slice_eq-Decides}
 use Rattle.std.specs.Cmp.{booleans_Decides}
 use Rattle.std.specs.Cmp.Lexicographic.{pointwise}
 use Rattle.std.proofs.Math.Bool.{beq}
+use Rattle.std.proofs.Math.Dec.{eqb-suc-suc}
 use Rattle.fts_pack.specs.bits.Digits.{joined, digits, word_count, words_of, numbers_in}
 use Rattle.fts_pack.specs.bits.Bits.{IsBits, flags, marks, number_of}
 use Rattle.fts_pack.proofs.DigitsLemmas.{Below, Below-push, read_one, get_or-digits, length-digits, joined-append, joined-digits, digits-joined, joined-drop}
@@ -456,3 +457,25 @@ AreSet-more old new after docs i doc h inside is there put = record {
 
 pub AreSet-all : (old new : List Bool) (docs : List ℕ) (i : ℕ) → AreSet old new (take i docs) → length docs ≤ i → AreSet old new docs
 AreSet-all old new docs i h past = subst (AreSet old new) (take_all i docs past) h
+
+-- a bit that is set is there
+pub set_inside : (bits : List Bool) (doc : ℕ) → get_or bits doc false ≡ true → doc < length bits
+set_inside bits doc set = elim (cases_lt doc (length bits)) [
+  | inl inside ↦ inside
+  | inr past ↦ absurd (let no : false ≡ true = sym (get_or_past bits doc false past) ∙ set in cc)
+]
+
+-- as many bits are set as there are where each is
+pub all_counted : (bits : List Bool) → (count_by (λ bit. bit) bits == length bits) ≡ list_all (λ bit. bit) bits
+all_counted [] = refl
+all_counted (true ∷ bits) =
+    let one : count_by (λ bit. bit) (true ∷ bits) ≡ suc (count_by (λ bit. bit) bits) = sum_by-cons one_if true bits ∙ omega arith in
+    ap (λ n. n == suc (length bits)) one ∙ eqb-suc-suc (count_by (λ bit. bit) bits) (length bits) ∙ all_counted bits
+all_counted (false ∷ bits) = ne_eqb (count_by (λ bit. bit) (false ∷ bits)) (suc (length bits))
+    (λ same. omega (arith, same, count_by-le-length (λ (bit : Bool). bit) bits, sum_by-cons one_if false bits))
+
+pub each_set : (bits : List Bool) (doc : ℕ) → list_all (λ bit. bit) bits ≡ true → doc < length bits → get_or bits doc false ≡ true
+each_set [] doc all inside = absurd (omega (arith, inside))
+each_set (false ∷ bits) doc all inside = absurd (let no : false ≡ true = all in cc)
+each_set (true ∷ bits) zero all inside = refl
+each_set (true ∷ bits) (suc doc) all inside = each_set bits doc all (omega (arith, inside))

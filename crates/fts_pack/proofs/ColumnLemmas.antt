@@ -1,12 +1,11 @@
 -- The range of a column, the offsets from its least value, and the values that they give back.
-use Rattle.std.proofs.Common.{◌≡◌, ℕ, zero, suc, ◌+◌, ◌-◌, ◌%◌, ◌^◌, ◌<◌, ◌≤◌, inl, inr, List, [], ◌∷◌, ◌++◌, Bool, true, false, Option, Some, None, slice_get}
+use Rattle.std.proofs.Common.{◌≡◌, ℕ, zero, suc, ◌+◌, ◌-◌, ◌%◌, ◌^◌, ◌<◌, ◌≤◌, inl, inr, List, [], ◌∷◌, ◌++◌, Bool, true, false, Option, Some, None}
 use Rattle.std.proofs.Common.{is_some, IfSome, All, Contains, map, replicate, length, get_or, take, drop, set, min, max, cond, refl, sym, ap, ap₂, ◌∙◌, subst}
 use Rattle.std.proofs.Common.{arith, unwrap_or, lit<, mod-eq_of_lt}
 use Rattle.std.specs.Option.{option_map_or}
 use Rattle.std.proofs.lemmas.List.{length-map, get_or-map, set_at, append_assoc, take_more, map_push, length-take-le, get_or_past, get_or_append_left}
 use Rattle.std.proofs.lemmas.List.{get_or-append_right, get_or-take, length-append}
 use Rattle.std.proofs.lemmas.List.Elements.{All-push, Contains-append_left, Contains-push}
-use Rattle.std.proofs.lemmas.Option.{get_or_from_slice_get}
 use Rattle.std.proofs.lemmas.Nat.{pow_pos}
 use Rattle.std.proofs.lemmas.Bool.{cases_lt}
 use Rattle.fts_pack.specs.bits.Digits.{IsWidthOf, numbers_in, words_of}
@@ -300,18 +299,17 @@ none_of None missing = refl
 none_of (Some x) missing = absurd (cc)
 
 pub value_there : (values : List (Option ℕ)) (range : Option (ℕ × ℕ)) (width : ℕ) (words lanes : List ℕ) (present : List Bool) (least i : ℕ) →
-    IsColumn values range width words lanes → map is_some values ≡ present → least_of range ≡ least → slice_get present i ≡ Some true →
+    IsColumn values range width words lanes → map is_some values ≡ present → least_of range ≡ least → get_or present i false ≡ true →
     get_or values i None ≡ Some (least + get_or lanes i 0)
 value_there values range width words lanes present least i h present_is least_is there =
     some_of (get_or values i None) least (get_or lanes i 0) (subst (λ n. IfSome (get_or values i None) (λ x. (n ≤ x) × (n + get_or lanes i 0 ≡ x))) least_is
     (lane_there values range width words lanes h i))
-    (sym (presence-at values i) ∙ ap (λ bits. get_or bits i false) present_is ∙ get_or_from_slice_get present i true false there)
+    (sym (presence-at values i) ∙ ap (λ bits. get_or bits i false) present_is ∙ there)
 
-pub value_missing : (values : List (Option ℕ)) (present : List Bool) (i : ℕ) → map is_some values ≡ present → slice_get present i ≡ Some false →
+pub value_missing : (values : List (Option ℕ)) (present : List Bool) (i : ℕ) → map is_some values ≡ present → get_or present i false ≡ false →
     get_or values i None ≡ None
 value_missing values present i present_is missing =
-    none_of (get_or values i None) (sym (presence-at values i) ∙ ap (λ bits. get_or bits i false) present_is ∙ get_or_from_slice_get present i false false
-    missing)
+    none_of (get_or values i None) (sym (presence-at values i) ∙ ap (λ bits. get_or bits i false) present_is ∙ missing)
 
 -- a column has one range, and one width
 none_is_some : (v : Option ℕ) (x : ℕ) → v ≡ None → v ≡ Some x → ⊥

@@ -1,13 +1,14 @@
 -- Documents counted one by one.
-use Rattle.std.proofs.Common.{◌≡◌, ℕ, zero, suc, ◌+◌, ◌-◌, ◌*◌, ◌/◌, ◌%◌, ◌^◌, ◌<◌, ◌≤◌, Bool, true, false, cond, slice_get, Option, Some, None, IfSome}
+use Rattle.std.proofs.Common.{◌≡◌, ℕ, ◌+◌, ◌-◌, ◌*◌, ◌/◌, ◌%◌, ◌^◌, ◌<◌, ◌≤◌, Bool, true, false, cond, slice_get, Option, Some, None, IfSome}
 use Rattle.std.proofs.Common.{Contains, is_some, map, drop, List, [], ◌∷◌, length, take, set, get_or, count_by, refl, sym, ap, ap₂, ◌∙◌, subst, inl, inr, arith}
 use Rattle.std.proofs.Common.{mod-eq_of_lt}
 use Rattle.std.proofs.Math.Nat.{add-mul-mod_self_left, mod-add-div}
 use Rattle.std.proofs.lemmas.Bool.{cases_Bool, cases_eq, cases_lt, eq-eqb, ne_eqb}
 use Rattle.std.proofs.lemmas.List.{get_or-append_right, get_or-drop, get_or-map, get_or-set_other, get_or-set_same, get_or-take, get_or_append_left}
 use Rattle.std.proofs.lemmas.List.{get_or_past, length-drop, length-map, length-set, length-take-le, take-map, take_rest}
-use Rattle.std.proofs.lemmas.Option.{get_or_from_slice_get, slice_get-get_or, slice_get_past}
-use Rattle.std.proofs.lemmas.List.Sums.{count_by-le-length, count_by_more_no, count_by_more_yes, sum_by-cons}
+use Rattle.std.specs.List.{list_all}
+use Rattle.std.proofs.lemmas.Option.{slice_get-get_or, slice_get_past}
+use Rattle.std.proofs.lemmas.List.Sums.{count_by_more_no, count_by_more_yes, sum_by-cons}
 use borrow.Rule.Slice.PartMut.{put_mid}
 use Rattle.std.specs.Option.{option_map, option_map_or}
 use Rattle.fts_pack.specs.bits.Digits.{numbers_in}
@@ -15,6 +16,7 @@ use Rattle.fts_pack.proofs.PackingLemmas.{length-numbers_in}
 use Rattle.fts_pack.specs.column.Column.{IsColumn, least_of, values_at}
 use Rattle.fts_pack.specs.column.Counts.{AreCounted, AreWithin, having, is_value}
 use Rattle.fts_pack.specs.column.Lanes.{number_at}
+use Rattle.fts_pack.proofs.BitsLemmas.{each_set}
 use Rattle.fts_pack.proofs.ColumnLemmas.{above_least, lane_at, presence-values_at, value_missing, value_there}
 
 -- what is added to a remainder is added to the number
@@ -75,41 +77,24 @@ AreCounted-same number other docs old new same h = record {
 }
 
 -- a document whose bit is set has the number in its lane, and any other has none
-pub number_at-set : (present : List Bool) (lanes : List ℕ) (doc : ℕ) → slice_get present doc ≡ Some true →
-    number_at present lanes doc ≡ Some (get_or lanes doc 0)
-number_at-set present lanes doc bit =
-    ap (λ b. cond b (Some (get_or lanes doc 0)) None) (get_or_from_slice_get present doc true false bit)
+pub number_at-set : (present : List Bool) (lanes : List ℕ) (doc : ℕ) → get_or present doc false ≡ true → number_at present lanes doc ≡ Some (get_or lanes doc 0)
+number_at-set present lanes doc bit = ap (λ b. cond b (Some (get_or lanes doc 0)) None) bit
 
-pub number_at-clear : (present : List Bool) (lanes : List ℕ) (doc : ℕ) → slice_get present doc ≡ Some false → number_at present lanes doc ≡ None
-number_at-clear present lanes doc bit =
-    ap (λ b. cond b (Some (get_or lanes doc 0)) None) (get_or_from_slice_get present doc false false bit)
+pub number_at-clear : (present : List Bool) (lanes : List ℕ) (doc : ℕ) → get_or present doc false ≡ false → number_at present lanes doc ≡ None
+number_at-clear present lanes doc bit = ap (λ b. cond b (Some (get_or lanes doc 0)) None) bit
 
-pub number_at-past : (present : List Bool) (lanes : List ℕ) (doc : ℕ) → length present ≤ doc → number_at present lanes doc ≡ None
-number_at-past present lanes doc past =
-    ap (λ b. cond b (Some (get_or lanes doc 0)) None) (get_or_past present doc false past)
-
--- where as many bits are set as there are, each is
-each_set : (bits : List Bool) (i : ℕ) → count_by (λ bit. bit) bits ≡ length bits → i < length bits → get_or bits i false ≡ true
-each_set [] i all inside = absurd (omega (arith, inside))
-each_set (false ∷ bits) i all inside =
-    absurd (omega (arith, all, sum_by-cons (λ bit. cond bit 1 0) false bits, count_by-le-length (λ bit. bit) bits))
-each_set (true ∷ bits) zero all inside = refl
-each_set (true ∷ bits) (suc i) all inside =
-    each_set bits i (omega (arith, all, sum_by-cons (λ bit. cond bit 1 0) true bits)) (omega (arith, inside))
-
--- and then each document has the number in its lane
+-- where each bit is set, each document has the number in its lane
 pub every_number : {A : Type 0} (value : A → ℕ) (present : List Bool) (lanes : List A) (len doc : ℕ) → len ≡ length present →
-    count_by (λ bit. bit) present ≡ len → len ≤ length lanes → slice_get (map value (take len lanes)) doc ≡ number_at present (map value lanes) doc
+    list_all (λ bit. bit) present ≡ true → len ≤ length lanes → slice_get (map value (take len lanes)) doc ≡ number_at present (map value lanes) doc
 every_number value present lanes len doc long all room =
     let numbers = map value lanes in
     let size : length (take len numbers) ≡ len = length-take-le len numbers (omega (arith, room, length-map lanes value)) in
     ap (λ xs. slice_get xs doc) (sym (take-map value len lanes)) ∙ elim (cases_lt doc len) [
-      | inl inside ↦ (
-          let bit : get_or present doc false ≡ true = each_set present doc (all ∙ long) (omega (arith, inside, long)) in
-          slice_get-get_or (take len numbers) doc 0 (omega (arith, inside, size))
+      | inl inside ↦ slice_get-get_or (take len numbers) doc 0 (omega (arith, inside, size))
           ∙ ap Some (get_or-take len numbers doc 0 inside)
-          ∙ sym (ap (λ b. cond b (Some (get_or numbers doc 0)) None) bit))
-      | inr past ↦ slice_get_past (take len numbers) doc (omega (arith, past, size)) ∙ sym (number_at-past present numbers doc (omega (arith, past, long)))
+          ∙ sym (number_at-set present numbers doc (each_set present doc all (omega (arith, inside, long))))
+      | inr past ↦ slice_get_past (take len numbers) doc (omega (arith, past, size))
+          ∙ sym (number_at-clear present numbers doc (get_or_past present doc false (omega (arith, past, long))))
     ]
 
 -- the number of a lane, which is a place
@@ -147,20 +132,10 @@ pub value_of_number : (values : List (Option ℕ)) (range : Option (ℕ × ℕ))
 value_of_number values range width words lanes present first doc view column first_is =
     let h : IsColumn values range width words lanes = subst (λ v. IsColumn v range width words lanes) view column in
     let there : map is_some values ≡ present = ap (map is_some) (sym view) ∙ presence-values_at _ _ _ (length-numbers_in 64 width _ words) in
-    let size : length present ≡ length values = sym (ap length there) ∙ length-map values is_some in
-    elim (cases_lt doc (length present)) [
-      | inr past ↦ get_or_past values doc None (omega (arith, past, size)) ∙ sym (ap (option_map (λ n. first + n)) (number_at-past present lanes doc past))
-      | inl inside ↦ (
-          let bit : slice_get present doc ≡ Some (get_or present doc false) = slice_get-get_or present doc false inside in
-          elim (cases_Bool (get_or present doc false)) [
-            | inl set ↦ (
-                let yes : slice_get present doc ≡ Some true = bit ∙ ap Some set in
-                value_there values range width words lanes present first doc h there first_is yes
-                ∙ sym (ap (option_map (λ n. first + n)) (number_at-set present lanes doc yes)))
-            | inr clear ↦ (
-                let no : slice_get present doc ≡ Some false = bit ∙ ap Some clear in
-                value_missing values present doc there no ∙ sym (ap (option_map (λ n. first + n)) (number_at-clear present lanes doc no)))
-          ])
+    elim (cases_Bool (get_or present doc false)) [
+      | inl set ↦ value_there values range width words lanes present first doc h there first_is set
+          ∙ sym (ap (option_map (λ n. first + n)) (number_at-set present lanes doc set))
+      | inr clear ↦ value_missing values present doc there clear ∙ sym (ap (option_map (λ n. first + n)) (number_at-clear present lanes doc clear))
     ]
 
 -- a value is at its place, counted from the first or from the least on

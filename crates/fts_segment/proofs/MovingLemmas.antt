@@ -4,7 +4,10 @@ use Rattle.std.proofs.Common.{map, zero, suc, flat_map, count_by, get_or, refl, 
 use Rattle.std.specs.Prelude.{slice_get, slice_set}
 use Rattle.std.proofs.lemmas.List.{append_assoc, append-nil, drop-drop, drop_more, map-append, take_more, length-take-le}
 use Rattle.std.proofs.lemmas.List.Elements.{All-head, All-tail}
-use Rattle.std.proofs.lemmas.List.Sums.{sum_by-cons, count_by-le-length}
+use Rattle.std.proofs.lemmas.List.Sums.{sum_by-cons}
+use Rattle.std.proofs.lemmas.Bool.{eqb-true}
+use Rattle.std.specs.List.{list_all}
+use Rattle.fts_pack.proofs.BitsLemmas.{all_counted}
 use Rattle.std.proofs.lemmas.Option.{slice_get_within, get_or_from_slice_get}
 use Rattle.fts_pack.specs.Documents.{block_at}
 use Rattle.fts_pack.proofs.DocumentsLemmas.{take_block}
@@ -50,21 +53,20 @@ length-renumbered next (true ∷ live) = ap suc (length-renumbered (next + 1) li
 length-renumbered next (false ∷ live) = ap suc (length-renumbered next live)
 
 -- where all documents are live, their numbers are in a row
-numbered_at : (next : ℕ) (live : List Bool) (doc : ℕ) → count_by (λ bit. bit) live ≡ length live → doc < length live →
+numbered_at : (next : ℕ) (live : List Bool) (doc : ℕ) → list_all (λ bit. bit) live ≡ true → doc < length live →
     slice_get (renumbered next live) doc ≡ Some (Some (next + doc))
 numbered_at next [] doc all within = absurd (omega (arith, within))
 numbered_at next (true ∷ live) zero all within = ap (λ n. Some (Some n)) (let same : next ≡ next + 0 = omega arith in same)
 numbered_at next (true ∷ live) (suc doc) all within =
-    numbered_at (next + 1) live doc (omega (arith, all, sum_by-cons (λ (bit : Bool). cond bit 1 0) true live)) (omega (arith, within))
+    numbered_at (next + 1) live doc all (omega (arith, within))
     ∙ ap (λ n. Some (Some n)) (let same : next + 1 + doc ≡ next + suc doc = omega arith in same)
-numbered_at next (false ∷ live) doc all within =
-    absurd (omega (arith, all, count_by-le-length (λ (bit : Bool). bit) live, sum_by-cons (λ (bit : Bool). cond bit 1 0) false live))
+numbered_at next (false ∷ live) doc all within = absurd (let no : false ≡ true = all in cc)
 
-pub AreInARow-renumbered : (first : ℕ) (live : List Bool) → count_by (λ bit. bit) live ≡ length live → first + count_by (λ bit. bit) live < 2 ^ 32 →
+pub AreInARow-renumbered : (first : ℕ) (live : List Bool) → list_all (λ bit. bit) live ≡ true → first + count_by (λ bit. bit) live < 2 ^ 32 →
     AreInARow (renumbered first live) first
 AreInARow-renumbered first live all fit = record {
   are = λ doc within. numbered_at first live doc all (omega (arith, within, length-renumbered first live));
-  fit = omega (arith, all, fit, length-renumbered first live);
+  fit = omega (arith, eqb-true _ _ (all_counted live ∙ all), fit, length-renumbered first live);
 }
 
 -- a posting whose document has a new number is placed there

@@ -67,11 +67,7 @@ fn first_in_a_row(first: u32, live: &Bits) -> Option<u32>
     requires { first + count_by (λ bit. bit) live.now < 2 ^ 32 }
     ensures { IfSome result (AreInARow (renumbered first live.now)) }
 {
-    if live.count_ones() == live.len() {
-        Some(first)
-    } else {
-        None
-    }
+    if live.is_all_set() { Some(first) } else { None }
 }
 
 /// The new number of each document, where the first live one gets the number `first`; a dead one has none.

@@ -24,7 +24,7 @@ fn list_live(list: &mut String, entry: &Entry) -> Result<(), AllocError> {
     let segment = entry.segment();
     let live = entry.live();
     for number in 0..segment.docs() {
-        if number < live.len() && live.get(number) {
+        if live.contains(number) {
             let tag = tag_of(segment.document(number));
             write!(list, " {}{tag}", segment.stamp(number))?;
         }

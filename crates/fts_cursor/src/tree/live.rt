@@ -4,7 +4,6 @@ ghost use Rattle.fts_cursor.specs.Hits.{is_live};
 ghost use Rattle.fts_cursor.specs.Standing.{Walked};
 ghost use Rattle.fts_cursor.specs.Trees.{IsNow, StandsAt, gathered, tree_value};
 
-use crate::dense::has_bit;
 use crate::tree::buffered_union::{BufferedUnion, refill};
 use crate::tree::{Node, Source, Tree};
 use fts_pack::bits::Bits;
@@ -70,7 +69,7 @@ fn count_among(live: &Bits, docs: &[u32]) -> usize
 {
     let mut count = 0;
     for doc in docs {
-        count += usize::from(has_bit(live, *doc as usize));
+        count += usize::from(live.contains(*doc as usize));
     }
     count
 }

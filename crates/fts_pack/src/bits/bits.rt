@@ -1,7 +1,7 @@
 // One bit per document: bit `i % 64` of word `i / 64` is document `i`'s, and the bits past the last document are 0.
 ghost use Rattle.std.specs.Prelude.{◌≡◌, ℕ, ◌<◌, ◌*◌, List, Bool, true, false, IfOk, IsOkUnless, count_by, ◌==◌, drop};
 ghost use Rattle.std.specs.Prelude.{All, ◌||◌, length, map, replicate, slice_get, slice_index_or, slice_set, take};
-ghost use Rattle.std.specs.List.{list_any};
+ghost use Rattle.std.specs.List.{list_all, list_any};
 ghost use Rattle.std.specs.Cmp.{bool_eq_equiv, partial_equiv_from_equiv};
 ghost use Rattle.std.specs.Cmp.Lexicographic.{pointwise, lists_per};
 ghost use Rattle.std.proofs.lemmas.Cmp.{lists_equiv};
@@ -121,6 +121,14 @@ impl Bits {
         (self.words[doc / 64] >> (doc % 64)) & 1 == 1
     }
 
+    /// Whether there is such a document and its bit is set.
+    #[inline]
+    pub fn contains(&self, doc: usize) -> bool
+        ensures { result ≡ slice_index_or self.now doc false }
+    {
+        doc < self.len() && self.get(doc)
+    }
+
     /// Sets the document's bit.
     pub fn set(&mut self, doc: usize)
         requires { doc < length self.old }
@@ -190,6 +198,14 @@ impl Bits {
         ensures { result ≡ count_by (λ bit. bit) self.now }
     {
         self.ones
+    }
+
+    /// Whether each bit is set. Nothing is counted here either.
+    #[inline]
+    pub fn is_all_set(&self) -> bool
+        ensures { result ≡ list_all (λ bit. bit) self.now }
+    {
+        self.count_ones() == self.len()
     }
 
     /// The words in which the bits lie.

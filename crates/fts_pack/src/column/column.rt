@@ -119,7 +119,7 @@ impl Column {
         ensures { result ≡ slice_index_or self.now doc None }
     {
         let (least, _) = self.range?;
-        if doc < self.present.len() && self.present.get(doc) {
+        if self.present.contains(doc) {
             Some(least + self.lanes.at(doc))
         } else {
             None

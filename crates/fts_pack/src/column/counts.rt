@@ -15,9 +15,8 @@ pub(crate) fn count_lanes<L: Lane>(lanes: &[L], present: &Bits, docs: &[u32], co
         → slice_index (map L.value lanes.now) doc < length counts.old }
     ensures { AreCounted (number_at present.now (map L.value lanes.now)) docs.now counts.old counts.new }
 {
-    let len = present.len();
-    if present.count_ones() == len {
-        count_all(&lanes[..len], docs, counts);
+    if present.is_all_set() {
+        count_all(&lanes[..present.len()], docs, counts);
     } else {
         count_present(lanes, present, docs, counts);
     }
@@ -42,10 +41,9 @@ fn count_present<L: Lane>(lanes: &[L], present: &Bits, docs: &[u32], counts: &mu
         → slice_index (map L.value lanes.now) doc < length counts.old }
     ensures { AreCounted (number_at present.now (map L.value lanes.now)) docs.now counts.old counts.new }
 {
-    let len = present.len();
     for doc in docs {
         let doc = *doc as usize;
-        if doc < len && present.get(doc) {
+        if present.contains(doc) {
             count_one(counts, lanes[doc].number() as usize);
         }
     }

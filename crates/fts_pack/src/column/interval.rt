@@ -19,9 +19,8 @@ pub(crate) fn last_lane<L: Lane>(
     requires { length present.now ≤ length lanes.now }
     ensures { IsLastWithin (number_at present.now (map L.value lanes.now)) low high docs.now result }
 {
-    let len = present.len();
-    if present.count_ones() == len {
-        last_of_all(&lanes[..len], docs, low, high)
+    if present.is_all_set() {
+        last_of_all(&lanes[..present.len()], docs, low, high)
     } else {
         last_present(lanes, present, docs, low, high)
     }
@@ -54,12 +53,11 @@ fn last_present<L: Lane>(
     requires { length present.now ≤ length lanes.now }
     ensures { IsLastWithin (number_at present.now (map L.value lanes.now)) low high docs.now result }
 {
-    let len = present.len();
     let mut place = docs.len();
     while place > 0 {
         place -= 1;
         let doc = docs[place] as usize;
-        if doc < len && present.get(doc) && is_between(lanes[doc].number(), low, high) {
+        if present.contains(doc) && is_between(lanes[doc].number(), low, high) {
             return Some(place);
         }
     }

@@ -117,8 +117,7 @@ impl Entry {
     pub fn is_live(&self, document: usize) -> bool
         ensures { result ≡ is_set self.now.live document }
     {
-        let live = self.live();
-        document < live.len() && live.get(document)
+        self.live().contains(document)
     }
 
     /// How large the segment is.

@@ -14,8 +14,8 @@ pub loop-index-preserved : goal.loop-index-preserved
 loop-index-preserved c =
     let l = c.loop-index in
     record {
-      places = kept_more (is_live c.args.bits.now) c.args.docs.now l.docs l.kept l.index (get_or l.docs l.index 0) _ c.has_bit.result l.invariant.places
-          (omega arith) refl c.has_bit.ensures (ap (λ n. l.kept + n) c.from-kept.ensures);
+      places = kept_more (is_live c.args.bits.now) c.args.docs.now l.docs l.kept l.index (get_or l.docs l.index 0) _ c.contains.result l.invariant.places
+          (omega arith) refl c.contains.ensures (ap (λ n. l.kept + n) c.from-kept.ensures);
       low = omega (arith, l.invariant.low);
     }
 

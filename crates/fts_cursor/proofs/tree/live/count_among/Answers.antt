@@ -16,7 +16,7 @@ overflow_add-count c =
       length-filter-le (is_live c.args.live.now) (take l.doc-index docs),
       length-take-le l.doc-index docs (omega arith),
       byte_few
-          c.has_bit.result,
+          c.contains.result,
       c.from-count.ensures,
     )
 
@@ -25,5 +25,5 @@ loop-doc-preserved c =
     let l = c.loop-doc in
     let docs = c.args.docs.now in
     let doc = get_or docs l.doc-index 0 in
-    live_more (is_live c.args.live.now) docs l.doc-index doc l.count _ c.has_bit.result c.loop-doc-test.true
-    (get_or_default docs l.doc-index 0 doc c.loop-doc-test.true) c.has_bit.ensures l.invariant (ap (λ n. l.count + n) c.from-count.ensures)
+    live_more (is_live c.args.live.now) docs l.doc-index doc l.count _ c.contains.result c.loop-doc-test.true
+    (get_or_default docs l.doc-index 0 doc c.loop-doc-test.true) c.contains.ensures l.invariant (ap (λ n. l.count + n) c.from-count.ensures)

@@ -7,18 +7,18 @@ use Rattle.fts_pack.proofs.column.counts.count_lanes.Goals as goal
 pub count_all-requires : goal.count_all-requires
 count_all-requires g c = λ doc inside.
     let lanes = c.args.lanes.now in
-    let len = c.len-len.result in
-    let near : doc < len = omega (arith, inside, length-take-le len lanes (omega (arith, c.requires.enough, c.len-len.ensures))) in
+    let len = c.len.result in
+    let near : doc < len = omega (arith, inside, length-take-le len lanes (omega (arith, c.requires.enough, c.len.ensures))) in
     subst (λ xs. get_or xs doc 0 < length c.args.counts.now) (take-map g.L.Lane.value len lanes)
-    (rw (get_or-take len (map g.L.Lane.value lanes) doc 0 near) (c.requires.within doc (omega (arith, near, c.len-len.ensures))))
+    (rw (get_or-take len (map g.L.Lane.value lanes) doc 0 near) (c.requires.within doc (omega (arith, near, c.len.ensures))))
 
-pub returns-then-count_ones-len : goal.returns-then-count_ones-len
-returns-then-count_ones-len g c =
+pub returns-then-is_all_set : goal.returns-then-is_all_set
+returns-then-is_all_set g c =
     let value = g.L.Lane.value in
     let present = c.args.present.now in
     let lanes = c.args.lanes.now in
-    let len = c.len-len.result in
+    let len = c.len.result in
     AreCounted-same (slice_get (map value (take len lanes))) (number_at present (map value lanes)) c.args.docs.now c.args.counts.now c.count_all.new.counts
-    (λ doc. every_number value present lanes len doc c.len-len.ensures (sym c.count_ones.ensures ∙ c.if-count_ones-len.true)
-    (omega (arith, c.requires.enough, c.len-len.ensures)))
+    (λ doc. every_number value present lanes len doc c.len.ensures (sym c.is_all_set.ensures ∙ c.if-is_all_set.true)
+    (omega (arith, c.requires.enough, c.len.ensures)))
     c.count_all.ensures

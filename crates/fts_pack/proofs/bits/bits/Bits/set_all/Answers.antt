@@ -1,8 +1,6 @@
 -- One bit more is set.
-use Rattle.std.proofs.Common.{length, take, get_or, arith, ap, refl}
-use Rattle.std.specs.List.{list_any}
-use Rattle.std.proofs.lemmas.List.{take_all}
-use Rattle.fts_pack.proofs.BitsLemmas.{AreSet, AreSet-all, AreSet-more, AreSet-none}
+use Rattle.std.proofs.Common.{arith, refl}
+use Rattle.fts_pack.proofs.BitsLemmas.{AreSet-all, AreSet-more, AreSet-none}
 use Rattle.fts_pack.proofs.bits.bits.Bits.set_all.Goals as goal
 
 pub loop-doc-init : goal.loop-doc-init

@@ -1,13 +1,12 @@
 -- A value that is there is the number in its lane above the least.
 use Rattle.std.proofs.Common.{◌≡◌, ◌+◌, ◌∙◌, Some, None, is_some, map, get_or, ap, sym, arith, subst}
-use Rattle.std.proofs.lemmas.List.{get_or_past}
 use Rattle.std.proofs.Math.Facts.{Fits-of_lt}
 use Rattle.fts_pack.specs.column.Column.{least_of, IsColumn, IsRangeOf}
 use Rattle.fts_pack.specs.column.Lanes.{in_lanes}
+use Rattle.fts_pack.proofs.BitsLemmas.{set_inside}
 use Rattle.fts_pack.proofs.PackingLemmas.{length-numbers_in}
 use Rattle.fts_pack.proofs.ColumnLemmas.{column_length, lane_inside, presence-values_at, value_there, value_missing, value_fits}
 use Rattle.fts_pack.proofs.column.column.Column.get.Goals as goal
-use Rattle.fts_pack.proofs.column.column.Column.get.Goals.{else-doc-len-via-then-doc-len+else-get, else-doc-len-via-else-doc-len}
 
 pub at-requires : goal.at-requires
 at-requires c =
@@ -15,7 +14,7 @@ at-requires c =
     let size = column_length _ _ _ _ _ c.self.view_is in
     lane_inside c.args.self.now column.range column.width column.words.items (in_lanes column.lanes)
     (subst (λ v. IsColumn v c.self.inside.range c.self.inside.width c.self.inside.words.items (in_lanes c.self.inside.lanes)) c.self.view_is
-    c.self.invariant.0) c.args.doc (omega (arith, size, c.len.ensures, c.if-doc-len.true))
+    c.self.invariant.0) c.args.doc (omega (arith, size, set_inside column.present c.args.doc (sym c.if-contains.ensures)))
 
 there : (c : goal.After-at) → get_or c.args.self.now c.args.doc None ≡ Some (c.in_ok-least.least + c.at.result)
 there c =
@@ -24,7 +23,7 @@ there c =
     (subst (λ v. IsColumn v c.self.inside.range c.self.inside.width c.self.inside.words.items (in_lanes c.self.inside.lanes)) c.self.view_is
     c.self.invariant.0)
     (ap (map is_some) (sym c.self.view_is) ∙ presence-values_at _ _ _ (length-numbers_in 64 c.self.inside.width _ c.self.inside.words.items))
-    (ap least_of c.in_ok-least.was) (c.get.ensures ∙ ap Some c.if-get.true) ∙ ap (λ n. Some (c.in_ok-least.least + n)) (sym c.at.ensures)
+    (ap least_of c.in_ok-least.was) (sym c.if-contains.ensures) ∙ ap (λ n. Some (c.in_ok-least.least + n)) (sym c.at.ensures)
 
 pub overflow_add-result : goal.overflow_add-result
 overflow_add-result c =
@@ -32,18 +31,13 @@ overflow_add-result c =
     let size = column_length _ _ _ _ _ c.self.view_is in
     let range : IsRangeOf c.args.self.now column.range = subst (λ v. IsRangeOf v column.range) c.self.view_is c.self.invariant.0.range_is in
     Fits-of_lt (value_fits c.args.self.now column.range c.args.doc _ _ _ range c.self.invariant.0.range_fits c.in_ok-least.was
-    (omega (arith, size, c.len.ensures, c.if-doc-len.true)) (there c))
+    (omega (arith, size, set_inside column.present c.args.doc (sym c.if-contains.ensures))) (there c))
 
-pub returns-then-get : goal.returns-then-get
-returns-then-get c = sym (there c)
+pub returns-then-contains : goal.returns-then-contains
+returns-then-contains c = sym (there c)
 
-pub returns-else-doc-len : goal.returns-else-doc-len
-returns-else-doc-len c =
+pub returns-else-contains : goal.returns-else-contains
+returns-else-contains c =
     let column = c.self.inside in
-    let size = column_length _ _ _ _ _ c.self.view_is in
-    elim c.else-doc-len.branch [
-      | else-doc-len-via-then-doc-len+else-get w ↦ sym (value_missing c.args.self.now column.present c.args.doc
-          (ap (map is_some) (sym c.self.view_is) ∙ presence-values_at _ _ _ (length-numbers_in 64 c.self.inside.width _ c.self.inside.words.items))
-          (w.get.ensures ∙ ap Some w.if-get.false))
-      | else-doc-len-via-else-doc-len w ↦ sym (get_or_past c.args.self.now c.args.doc None (omega (arith, size, c.len.ensures, w.if-doc-len.false)))
-    ]
+    sym (value_missing c.args.self.now column.present c.args.doc
+    (ap (map is_some) (sym c.self.view_is) ∙ presence-values_at _ _ _ (length-numbers_in 64 column.width _ column.words.items)) (sym c.if-contains.ensures))
