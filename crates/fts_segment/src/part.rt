@@ -10,6 +10,7 @@ use crate::moves::move_postings;
 use crate::names::Name;
 use crate::new_numbers::NewNumbers;
 use crate::position_lists::PositionListLog;
+use fts_pack::BLOCK;
 use std::alloc::AllocError;
 use std::marker::Model;
 
@@ -23,6 +24,8 @@ pub(crate) struct Part<'a> {
     /// The next term.
     term: Option<Name<'a>>,
     lists: UnpackedLists<'a>,
+    /// Room for a block of documents.
+    room: [u32; BLOCK],
 }
 
 impl<'a> Model for Part<'a> {
@@ -58,6 +61,7 @@ impl<'a> Part<'a> {
             at: 0,
             term: term_at(dictionary, 0),
             lists: dictionary.positions.lists.unpacked(),
+            room: [0; BLOCK],
         }
     }
 
@@ -97,7 +101,15 @@ impl<'a> Part<'a> {
         if self.is_next(term) {
             let list = &self.dictionary.lists[self.at];
             let positions = self.dictionary.positions.get(self.at);
-            move_postings(list, positions, &self.numbers, &mut self.lists, docs, log)?;
+            move_postings(
+                list,
+                positions,
+                &self.numbers,
+                &mut self.lists,
+                &mut self.room,
+                docs,
+                log,
+            )?;
             self.at += 1;
             self.term = term_at(self.dictionary, self.at);
         }
