@@ -13,7 +13,7 @@ use Rattle.fts_model.specs.declared.schema.Kind.TheVariants as kinds
 use Rattle.fts_model.specs.declared.value.FieldValue.{FieldValue}
 use Rattle.fts_model.specs.declared.value.FieldValue.TheVariants as values
 use Rattle.fts_segment.specs.declared.keyword_index.KeywordIndex.{KeywordIndex}
-use Rattle.fts_segment.specs.Between.{AreBetween, IsCut}
+use Rattle.fts_segment.specs.Between.{AreBetween, AreKeyed, IsCut}
 use Rattle.fts_segment.specs.declared.dictionary.Dictionary.{Dictionary}
 use Rattle.fts_segment.specs.FieldIndexes.{AreKeywords, AreTerms}
 use Rattle.fts_segment.specs.Keywords.{before, keyword_of, ordinals_of, texts_of}
@@ -54,11 +54,6 @@ numbers_where-has {X} p n (y ∷ xs) (suc k) x at is = by (p y) refl (numbers_wh
 
 numbers_where-at : {X : Type 0} (p : X → Bool) (xs : List X) (k : ℕ) (x : X) → slice_get xs k ≡ Some x → p x ≡ true → Contains (numbers_where p 0 xs) k
 numbers_where-at p xs k x at is = let start : 0 + k ≡ k = omega arith in subst (Contains (numbers_where p 0 xs)) start (numbers_where-has p 0 xs k x at is)
-
--- each list has the documents with its own number
-pub record AreKeyed (column : List (Option ℕ)) (lists : List (List ℕ)) (key : ℕ → ℕ) : Type 0 where
-  pub sound : (k doc : ℕ) → k < length lists → Contains (get_or lists k []) doc → slice_get column doc ≡ Some (Some (key k))
-  pub whole : (doc x : ℕ) → slice_get column doc ≡ Some (Some x) → (k : ℕ) × (k < length lists) × (key k ≡ x) × Contains (get_or lists k []) doc
 
 -- those from one place to another
 pub AreBetween-cut : (column : List (Option ℕ)) (lists : List (List ℕ)) (key : ℕ → ℕ) (low high start end : ℕ) → AreKeyed column lists key → start ≤ end →

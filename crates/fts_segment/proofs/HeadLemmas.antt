@@ -1,13 +1,16 @@
 -- Heads of names, and the order that they tell.
-use Rattle.std.proofs.Common.{◌≡◌, ◌+◌, ◌*◌, ◌^◌, ◌<◌, ◌≤◌, ℕ, zero, suc, List, [], ◌∷◌, ◌++◌, length, get_or, refl, sym, ap, ◌∙◌, arith, Ordering, Less, Equal}
+use Rattle.std.proofs.Common.{◌≡◌, ◌+◌, ◌*◌, ◌^◌, ◌<◌, ◌≤◌, ℕ, zero, suc, List, [], ◌∷◌, ◌++◌, length, get_or, refl, sym, ap, ◌∙◌, arith, Ordering, Less, Equal, false, inl, inr}
 use Rattle.std.proofs.Common.{add-one, pow-suc}
+use Rattle.std.specs.Str.{bytes_eq}
+use Rattle.std.proofs.lemmas.Bool.{cases_Bool}
+use Rattle.std.proofs.lemmas.Slice.Eq.{bytes_eq-Decides}
 use Rattle.std.specs.Ordering.{nat_cmp, ordering_then}
 use Rattle.std.specs.Cmp.Lexicographic.{slice_cmp}
 use Rattle.std.proofs.Math.Nat.{one-le-pow, pow-le-pow_right, mul-le-mul_right}
 use Rattle.std.proofs.lemmas.Cmp.{ranked, by_ranked}
 use Rattle.std.proofs.lemmas.List.{map-append, get_or-map}
 use Rattle.std.proofs.lemmas.List.Elements.{All-push}
-use Rattle.fts_segment.specs.Heads.{head, AreBytes, AreHeads}
+use Rattle.fts_segment.specs.Heads.{head, AreBytes, AreHeads, IsHead}
 use Rattle.fts_segment.proofs.FindLemmas.{turned}
 
 pub head-below : (n : ℕ) (bytes : List ℕ) → AreBytes bytes → head n bytes < 256 ^ n
@@ -59,6 +62,13 @@ order_of_heads n xs ys o these those is differ =
     (λ less before. less ∙ sym (lower n xs ys those before))
     (λ equal same. absurd (differ equal))
     (λ greater behind. greater ∙ sym (turned ys xs Less (lower n ys xs these behind)))
+
+-- names whose heads differ are not the same
+pub heads-differ : (a b : ℕ) (xs ys : List ℕ) → IsHead a xs → IsHead b ys → (a ≡ b → ⊥) → bytes_eq xs ys ≡ false
+heads-differ a b xs ys these those differ = elim (cases_Bool (bytes_eq xs ys)) [
+  | inl same ↦ absurd (differ (these.is ∙ ap (head 8) ((bytes_eq-Decides xs ys).0 same) ∙ sym those.is))
+  | inr other ↦ other
+]
 
 pub AreHeads-push : (heads : List ℕ) (names : List (List ℕ)) (name : List ℕ) → AreBytes name → AreHeads heads names →
     AreHeads (heads ++ head 8 name ∷ []) (names ++ name ∷ [])

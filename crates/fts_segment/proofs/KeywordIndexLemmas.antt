@@ -78,17 +78,3 @@ text_among vs t h = in_order-has (texts vs) t (there_is vs h)
 pub number_of_text : (names : List (List ℕ)) (i : ℕ) (t : List ℕ) → Ascends names → slice_get names i ≡ Some t → i ≡ before names t
 number_of_text names i t up found =
     sym (before-at names i (climbs_by_place names up) (slice_get_within names i t found)) ∙ ap (before names) (get_or_from_slice_get names i t [] found)
-
--- so is the text of a document's value, where it has one
-keyword_among : (vs : List (Option FieldValue)) (v : Option FieldValue) → Contains vs v →
-    IfSome (keyword_of kinds.Keyword v) (Contains (texts_of kinds.Keyword vs))
-keyword_among vs None h = tt
-keyword_among vs (Some (values.Number n)) h = tt
-keyword_among vs (Some (values.Texts ts)) h = tt
-keyword_among vs (Some (values.Text t)) h = text_among vs t h
-
-pub document_among : (field : ℕ) (ds : List (Stamped DocumentValue)) (i : ℕ) (d : Stamped DocumentValue) → i < length ds → d ≡ get_or ds i d →
-    IfSome (keyword_of kinds.Keyword (value_in_field d.value field)) (Contains (texts_of kinds.Keyword (values_in field ds)))
-document_among field ds i d within is =
-    let value : Stamped DocumentValue → Option FieldValue = λ d. value_in_field d.value field in
-    keyword_among (values_in field ds) (value d) (i, omega (arith, length-map ds value, within), get_or-map value ds i d (value d) within ∙ ap value (sym is))

@@ -13,6 +13,7 @@ pub mod KeywordsLemmas
 pub mod KeywordIndexLemmas
 pub mod FieldLemmas
 pub mod OrdinalLemmas
+pub mod OrdinalsLemmas
 pub mod NumberLemmas
 pub mod BetweenLemmas
 pub mod SumsLemmas

@@ -14,6 +14,13 @@ pub record AreBetween (column : List (Option ℕ)) (low high : ℕ) (lists : Lis
   pub whole : (doc x : ℕ) → slice_get column doc ≡ Some (Some x) → low ≤ x → x ≤ high →
       (k : ℕ) × (k < length lists) × Contains (slice_index_or lists k []) doc
 
+-- each list has the documents with its own number in a column
+pub record AreKeyed (column : List (Option ℕ)) (lists : List (List ℕ)) (key : ℕ → ℕ) : Type 0 where
+  pub sound : (k doc : ℕ) → k < length lists → Contains (slice_index_or lists k []) doc →
+      slice_get column doc ≡ Some (Some (key k))
+  pub whole : (doc x : ℕ) → slice_get column doc ≡ Some (Some x) →
+      (k : ℕ) × (k < length lists) × (key k ≡ x) × Contains (slice_index_or lists k []) doc
+
 -- how many documents have a number of these in a column
 abbrev pub count_between : ℕ → ℕ → List (Option ℕ) → ℕ
 count_between low high column = length (filter (is_within low high) column)

@@ -1,5 +1,5 @@
 -- The different texts of a field in the order of their bytes, and what comes before a text among them.
-use Rattle.std.specs.Prelude.{ℕ, List, [], ◌∷◌, Option, Some, None, length, filter, fold, map, option_map}
+use Rattle.std.specs.Prelude.{ℕ, List, [], ◌∷◌, Option, Some, None, length, filter, fold, map, option_map, slice_set}
 use Rattle.std.specs.Ordering.{nat_cmp, match_ordering}
 use Rattle.std.specs.Cmp.Lexicographic.{slice_cmp}
 use Rattle.fts_model.specs.Queries.{text_lt, text_le}
@@ -48,3 +48,7 @@ texts_of kind vs = in_order (texts_in (map (keyword_of kind) vs))
 -- of each value how many of these texts are before its own
 abbrev pub ordinals_of : Kind → List (Option FieldValue) → List (Option ℕ)
 ordinals_of kind vs = map (λ v. option_map (before (texts_of kind vs)) (keyword_of kind v)) vs
+
+-- ordinals of documents, after some of them were given this one
+abbrev pub with_ordinal : ℕ → List (Option ℕ) → List ℕ → List (Option ℕ)
+with_ordinal ordinal ordinals documents = fold (λ given doc. slice_set given doc (Some ordinal)) ordinals documents

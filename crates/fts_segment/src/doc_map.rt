@@ -3,7 +3,7 @@ ghost use Rattle.std.specs.Prelude.{◌≡◌, [], Some, IfOk, slice_get};
 ghost use Rattle.fts_segment.specs.Numberings.{GoesOn};
 
 use crate::guesses::{Guesses, hash_of};
-use crate::names::Names;
+use crate::names::{Name, Names};
 use std::alloc::{AllocError, Global};
 use std::marker::Model;
 
@@ -55,7 +55,7 @@ impl Numbering {
             return Ok(id);
         }
         let id = self.names.len();
-        self.names.push(name)?;
+        self.names.push(&Name::new(name))?;
         self.guesses.put(self.alloc, hash, id);
         Ok(id)
     }

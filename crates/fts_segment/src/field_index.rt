@@ -84,7 +84,7 @@ impl FieldIndex {
             }
             Kind::Keyword => {
                 let dictionary = joined_terms(alloc, sources, field, kind)?;
-                let index = KeywordIndex::of(alloc, documents, field, dictionary)?;
+                let index = KeywordIndex::of(alloc, documents.len(), dictionary)?;
                 Ok(FieldIndex::Keywords(index))
             }
             Kind::U64 | Kind::I64 => {

@@ -1,23 +1,19 @@
 // The texts of a keyword field: a dictionary, and for each document the ordinal of its text.
-ghost use Rattle.std.specs.Prelude.{◌≡◌, ◌<◌, ◌≤◌, ◌^◌, ℕ, [], Contains, IfOk, IfSome, List, MatchOption, None, Option};
-ghost use Rattle.std.specs.Prelude.{Some};
-ghost use Rattle.std.specs.Prelude.{length, option_copied, option_map, slice_get};
+ghost use Rattle.std.specs.Prelude.{◌≡◌, ◌<◌, ◌≤◌, ◌^◌, [], All, Contains, IfOk, List, MatchOption, None, Option};
+ghost use Rattle.std.specs.Prelude.{length, slice_get};
 ghost use Rattle.fts_model.specs.declared.value.FieldValue.{FieldValue};
 ghost use Rattle.fts_model.specs.declared.schema.Kind.TheVariants as kinds;
 ghost use Rattle.fts_segment.specs.FieldIndexes.{AreKeywords, AreTerms, HasKeywordAt};
-ghost use Rattle.fts_segment.specs.Keywords.{before, keyword_of, ordinals_of, texts_of, up_to};
+ghost use Rattle.fts_segment.specs.Keywords.{ordinals_of, texts_of, with_ordinal};
 ghost use Rattle.fts_segment.specs.Occurrences.{values_in};
-ghost use Rattle.fts_segment.specs.Sorted.{Ascends};
-ghost use Rattle.fts_segment.specs.Between.{AreBetween, count_between};
+ghost use Rattle.fts_segment.specs.Between.{AreBetween, AreKeyed, NumberColumn, count_between};
 
 use crate::dictionary::Dictionary;
-use crate::lookup::find_name;
-use crate::names::Names;
 use crate::sums::sums_of;
 use fts_base::release;
-use fts_model::{Document, FieldValue, Kind, Stamped};
-use fts_pack::Blocks;
+use fts_model::{Document, Kind, Stamped};
 use fts_pack::column::Column;
+use fts_pack::{BLOCK, Blocks};
 use std::alloc::{AllocError, Global};
 
 /// The texts of a keyword field.
@@ -52,30 +48,30 @@ impl KeywordIndex {
         ensures { IfOk result (AreKeywords kinds.Keyword (values_in field documents.now)) }
     {
         let dictionary = Dictionary::new(alloc, documents, field, Kind::Keyword)?;
-        let index = KeywordIndex::of(alloc, documents, field, dictionary)?;
+        let index = KeywordIndex::of(alloc, documents.len(), dictionary)?;
         Ok(index)
     }
 
-    /// The same where their dictionary is known.
+    /// The same of this many documents whose dictionary is known.
     pub(crate) fn of(
         alloc: Global,
-        documents: &[Stamped<Document>],
-        field: usize,
+        docs: usize,
         dictionary: Dictionary,
     ) -> Result<KeywordIndex, AllocError>
-        requires few { length documents.now < 2 ^ 32 }
-        requires terms { AreTerms kinds.Keyword (values_in field documents.now) dictionary }
-        ensures { IfOk result (AreKeywords kinds.Keyword (values_in field documents.now)) }
+        requires few { docs < 2 ^ 32 }
+        requires terms { (vs : List (Option FieldValue)) × (length vs ≡ docs) × AreTerms kinds.Keyword vs dictionary }
+        ensures { (vs : List (Option FieldValue)) → length vs ≡ docs → AreTerms kinds.Keyword vs dictionary
+            → IfOk result (AreKeywords kinds.Keyword vs) }
     {
-        let values = ordinals_of(alloc, documents, field, &dictionary.names)?;
-        let Ok(ordinals) = Column::build(alloc, &values) else {
+        let ordinals = ordinals_by(alloc, &dictionary.lists, docs)?;
+        let Ok(column) = Column::build(alloc, &ordinals) else {
             return Err(AllocError);
         };
-        release(values);
+        release(ordinals);
         let sums = sums_of(alloc, &dictionary.lists)?;
         Ok(KeywordIndex {
             dictionary,
-            ordinals,
+            ordinals: column,
             sums,
         })
     }
@@ -123,32 +119,47 @@ fn some_document(list: &fts_pack::List) -> Option<u32>
     Some(list.source().last(0))
 }
 
-/// How many names are before the text of a document, which is among them.
-fn ordinal(names: &Names, value: Option<&FieldValue>) -> Option<u64>
-    requires ascends { Ascends names.now }
-    requires among { IfSome (keyword_of kinds.Keyword (option_copied value)) (Contains names.now) }
-    ensures { result ≡ option_map (before names.now) (keyword_of kinds.Keyword (option_copied value.entry)) }
+/// Gives documents an ordinal.
+fn set_ordinals(ordinals: &mut [Option<u64>], documents: &[u32], ordinal: u64)
+    requires { All (λ doc. doc < length ordinals.old) documents.now }
+    ensures { ordinals.new ≡ with_ordinal ordinal ordinals.old documents.now }
 {
-    match value? {
-        FieldValue::Text(text) => Some(find_name(names, text.as_str().as_bytes())? as u64),
-        FieldValue::Texts(_) | FieldValue::Number(_) => None,
+    for doc in documents {
+        ordinals[*doc as usize] = Some(ordinal);
     }
 }
 
-/// The ordinals of the documents in a keyword field of these texts.
-fn ordinals_of(
-    alloc: Global,
-    documents: &[Stamped<Document>],
-    field: usize,
-    names: &Names,
-) -> Result<Vec<Option<u64>>, AllocError>
-    requires ascends { Ascends names.now }
-    requires whole { names.now ≡ texts_of kinds.Keyword (values_in field documents.now) }
-    ensures { IfOk result (λ v. v.items ≡ ordinals_of kinds.Keyword (values_in field documents.now)) }
+/// Gives the documents of a list an ordinal. `room` is for those of a block.
+fn set_ordinals_of(
+    ordinals: &mut [Option<u64>],
+    list: &fts_pack::List,
+    ordinal: u64,
+    room: &mut [u32; BLOCK],
+)
+    requires { All (λ doc. doc < length ordinals.old) list.now }
+    ensures { ordinals.new ≡ with_ordinal ordinal ordinals.old list.now }
 {
-    let mut ordinals = Vec::with_capacity(alloc, documents.len())?;
-    for document in documents {
-        ordinals.push(ordinal(names, document.value.value(field)))?;
+    let mut source = list.source();
+    for block in 0..source.blocks() {
+        let count = source.open(block, room);
+        set_ordinals(ordinals, &room[..count], ordinal);
+    }
+}
+
+/// The ordinals of documents, of which each is in the list of its own ordinal. No text is looked at.
+fn ordinals_by(
+    alloc: Global,
+    lists: &[fts_pack::List],
+    docs: usize,
+) -> Result<Vec<Option<u64>>, AllocError>
+    requires { (column : NumberColumn) × (length column ≡ docs) × AreKeyed column lists.now (λ k. k) }
+    ensures { (column : NumberColumn) → length column ≡ docs → AreKeyed column lists.now (λ k. k)
+        → IfOk result (λ ordinals. ordinals.items ≡ column) }
+{
+    let mut ordinals = vec![in alloc; None; docs]?;
+    let mut room = [0; BLOCK];
+    for (ordinal, list) in lists.iter().enumerate() {
+        set_ordinals_of(&mut ordinals, list, ordinal as u64, &mut room);
     }
     Ok(ordinals)
 }

@@ -6,7 +6,7 @@ ghost use Rattle.std.specs.List.Sorted.{IsStrictlyIncreasing};
 ghost use Rattle.fts_segment.specs.Sorted.{Ascends};
 ghost use Rattle.fts_segment.specs.Between.{IsCut};
 
-use crate::names::{Names, head_of};
+use crate::names::{Name, Names};
 use std::cmp::Ordering;
 
 /// The number of a name; or, if it isn't there, how many names are before it.
@@ -18,12 +18,12 @@ fn place_of_name(names: &Names, name: &[u8]) -> Result<usize, usize>
     ensures before { IfErr result (λ i. i ≡ before names.now name.now) }
     ensures up_to { IfErr result (λ i. i ≡ up_to names.now name.now) }
 {
-    let wanted = head_of(name);
+    let wanted = Name::new(name);
     let mut low = 0;
     let mut high = names.len();
     while low < high {
         let middle = low + (high - low) / 2;
-        match names.compare(middle, name, wanted) {
+        match names.compare(middle, &wanted) {
             Ordering::Less => low = middle + 1,
             Ordering::Greater => high = middle,
             Ordering::Equal => return Ok(middle),

@@ -26,16 +26,20 @@ fn push_shifted(docs: &mut Vec<u32>, first: u32, block: &[u32]) -> Result<(), Al
     Ok(())
 }
 
-/// Puts the documents of a list after others, with a number added to each.
-fn shift(list: &List, first: u32, docs: &mut Vec<u32>) -> Result<(), AllocError>
+/// Puts the documents of a list after others, with a number added to each. `room` is for a block of them.
+fn shift(
+    list: &List,
+    first: u32,
+    room: &mut [u32; BLOCK],
+    docs: &mut Vec<u32>,
+) -> Result<(), AllocError>
     requires { All (λ doc. first + doc < 2 ^ 32) list.now }
     ensures { OnOk result (docs.new.items ≡ docs.old.items ++ map (λ doc. first + doc) list.now) }
 {
     let mut source = list.source();
-    let mut documents = [0; BLOCK];
     for block in 0..source.blocks() {
-        let count = source.open(block, &mut documents);
-        push_shifted(docs, first, &documents[..count])?;
+        let count = source.open(block, room);
+        push_shifted(docs, first, &room[..count])?;
     }
     Ok(())
 }
@@ -87,12 +91,14 @@ fn move_some(
 }
 
 /// Puts the postings of a term after others, by the new numbers of their documents: these after `docs`, and their
-/// positions after those of a log. Where no document is dead, positions are moved as a whole.
+/// positions after those of a log. `room` is for a block of documents. Where no document is dead, positions are moved as
+/// a whole.
 pub(crate) fn move_postings(
     list: &List,
     positions: TermPositionLists<'_>,
     numbers: &NewNumbers,
     lists: &mut UnpackedLists<'_>,
+    room: &mut [u32; BLOCK],
     docs: &mut Vec<u32>,
     log: &mut PositionListLog,
 ) -> Result<(), AllocError>
@@ -105,16 +111,15 @@ pub(crate) fn move_postings(
         docs.old.items log.old docs.new.items log.new) }
 {
     if let Some(first) = numbers.first() {
-        shift(list, first, docs)?;
+        shift(list, first, room, docs)?;
         lists.move_lists(positions.start, positions.end, log)?;
         return Ok(());
     }
     let mut source = list.source();
-    let mut documents = [0; BLOCK];
     for block in 0..source.blocks() {
-        let count = source.open(block, &mut documents);
+        let count = source.open(block, room);
         let start = positions.start + block * BLOCK;
-        move_some(&documents[..count], start, numbers, lists, docs, log)?;
+        move_some(&room[..count], start, numbers, lists, docs, log)?;
     }
     Ok(())
 }

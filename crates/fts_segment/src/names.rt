@@ -2,7 +2,8 @@
 ghost use Rattle.std.specs.Prelude.{◌≡◌, ◌<◌, ◌++◌, ◌∷◌, [], length, IfOk, OnOk, OnErr, slice_index_or};
 ghost use Rattle.std.specs.Ordering.{nat_cmp};
 ghost use Rattle.std.specs.Cmp.Lexicographic.{slice_cmp};
-ghost use Rattle.fts_segment.specs.Heads.{head, AreBytes};
+ghost use Rattle.std.specs.Str.{bytes_eq};
+ghost use Rattle.fts_segment.specs.Heads.{IsHead};
 
 use fts_base::{piece, release};
 use std::alloc::{AllocError, Global};
@@ -41,9 +42,8 @@ impl Drop for Names {
 }
 
 /// The head of a name: its first eight bytes as one number. Names with different heads are in the order of these.
-pub(crate) fn head_of(name: &[u8]) -> u64
-    ensures is { result ≡ head 8 name.now }
-    ensures bytes { AreBytes name.now }
+fn head_of(name: &[u8]) -> u64
+    ensures { IsHead result name.now }
 {
     let mut head = 0;
     for place in 0..8 {
@@ -51,6 +51,68 @@ pub(crate) fn head_of(name: &[u8]) -> u64
         head = head * 256 + u64::from(byte);
     }
     head
+}
+
+/// A name with its head, so that most comparisons with others look at one number each. Contracts see its bytes.
+#[derive(Drop)]
+pub(crate) struct Name<'a> {
+    bytes: &'a [u8],
+    head: u64,
+}
+
+impl<'a> Model for Name<'a> {
+    ghost use Rattle.std.specs.Prelude.{List, ℕ};
+    ghost use Rattle.fts_segment.specs.Heads.{IsHead, NameBytes};
+
+    ghost Value = { NameBytes };
+
+    ghost view = { λ n. n.bytes.now };
+
+    ghost invariant = { λ n. IsHead n.head n.bytes.now };
+}
+
+impl<'a> Name<'a> {
+    /// The name of these bytes.
+    pub(crate) fn new(bytes: &'a [u8]) -> Name<'a>
+        ensures { result ≡ bytes.now }
+    {
+        let head = head_of(bytes);
+        Name { bytes, head }
+    }
+
+    /// Its bytes.
+    pub(crate) fn bytes(&self) -> &'a [u8]
+        ensures { result.now ≡ self.now }
+    {
+        self.bytes
+    }
+
+    /// The same name.
+    pub(crate) fn again(&self) -> Name<'a>
+        ensures { result ≡ self.now }
+    {
+        Name {
+            bytes: self.bytes,
+            head: self.head,
+        }
+    }
+
+    /// The order of this name and another. Only where the heads are equal the bytes are compared.
+    pub(crate) fn compare(&self, other: &Name<'_>) -> Ordering
+        ensures { result ≡ slice_cmp nat_cmp self.now other.now }
+    {
+        match self.head.cmp(&other.head) {
+            Ordering::Equal => self.bytes.cmp(other.bytes),
+            order => order,
+        }
+    }
+
+    /// Whether it is another name.
+    pub(crate) fn is(&self, other: &Name<'_>) -> bool
+        ensures { result ≡ bytes_eq self.now other.now }
+    {
+        self.head == other.head && self.bytes == other.bytes
+    }
 }
 
 impl Names {
@@ -90,29 +152,37 @@ impl Names {
         piece(&self.bytes, &self.ends, number)
     }
 
-    /// The order of the name of this number and of another, whose head is `wanted`. Only where the heads are equal the
-    /// bytes are compared.
-    pub(crate) fn compare(&self, number: usize, name: &[u8], wanted: u64) -> Ordering
-        requires within { number < length self.now }
-        requires is { wanted ≡ head 8 name.now }
-        requires bytes { AreBytes name.now }
+    /// The name of this number with its head.
+    pub(crate) fn name(&self, number: usize) -> Name<'_>
+        requires { number < length self.now }
+        ensures { result ≡ slice_index_or self.now number [] }
+    {
+        Name {
+            bytes: self.get(number),
+            head: self.heads[number],
+        }
+    }
+
+    /// The order of the name of this number and of another. Only where the heads are equal the bytes are looked up.
+    pub(crate) fn compare(&self, number: usize, name: &Name<'_>) -> Ordering
+        requires { number < length self.now }
         ensures { result ≡ slice_cmp nat_cmp (slice_index_or self.now number []) name.now }
     {
-        match self.heads[number].cmp(&wanted) {
-            Ordering::Equal => self.get(number).cmp(name),
+        match self.heads[number].cmp(&name.head) {
+            Ordering::Equal => self.get(number).cmp(name.bytes),
             order => order,
         }
     }
 
     /// Puts a name after the others.
-    pub(crate) fn push(&mut self, name: &[u8]) -> Result<(), AllocError>
+    pub(crate) fn push(&mut self, name: &Name<'_>) -> Result<(), AllocError>
         ensures ok { OnOk result (self.new ≡ self.old ++ name.now ∷ []) }
         ensures err { OnErr result (self.new ≡ self.old) }
     {
         let len = self.bytes.len();
         let count = self.ends.len();
-        self.bytes.extend_from_slice(name)?;
-        if self.ends.push(self.bytes.len()).is_err() || self.heads.push(head_of(name)).is_err() {
+        self.bytes.extend_from_slice(name.bytes)?;
+        if self.ends.push(self.bytes.len()).is_err() || self.heads.push(name.head).is_err() {
             self.bytes.truncate(len);
             self.ends.truncate(count);
             return Err(AllocError);

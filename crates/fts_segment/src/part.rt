@@ -1,5 +1,5 @@
 // A dictionary that is passed term by term, as it is joined with others.
-ghost use Rattle.std.specs.Prelude.{◌≡◌, drop, option_map, slice_get, OnOk};
+ghost use Rattle.std.specs.Prelude.{◌≡◌, drop, slice_get, OnOk};
 ghost use Rattle.fts_segment.specs.Parts.{begins, given, passed, part_from, IsWhole};
 ghost use Rattle.fts_segment.specs.PositionListLogs.{IsPositionListLog};
 ghost use Rattle.fts_segment.specs.Puts.{Puts};
@@ -7,8 +7,10 @@ ghost use Rattle.fts_segment.specs.Puts.{Puts};
 use crate::decoded_lists::UnpackedLists;
 use crate::dictionary::Dictionary;
 use crate::moves::move_postings;
+use crate::names::Name;
 use crate::new_numbers::NewNumbers;
 use crate::position_lists::PositionListLog;
+use fts_pack::BLOCK;
 use std::alloc::AllocError;
 use std::marker::Model;
 
@@ -20,27 +22,28 @@ pub(crate) struct Part<'a> {
     numbers: NewNumbers,
     at: usize,
     /// The next term.
-    term: Option<&'a [u8]>,
+    term: Option<Name<'a>>,
     lists: UnpackedLists<'a>,
+    /// Room for a block of documents.
+    room: [u32; BLOCK],
 }
 
 impl<'a> Model for Part<'a> {
-    ghost use Rattle.std.specs.Prelude.{option_map};
     ghost use Rattle.fts_segment.specs.Parts.{PartValue, IsPartOf, part_from};
 
     ghost Value = { PartValue };
 
     ghost view = { λ p. part_from p.at p.dictionary.now p.numbers };
 
-    ghost invariant = { λ p. IsPartOf p.at p.dictionary.now p.numbers (option_map (λ t. t.now) p.term) p.lists };
+    ghost invariant = { λ p. IsPartOf p.at p.dictionary.now p.numbers p.term p.lists };
 }
 
 /// The term of this number, if there is one.
-fn term_at(dictionary: &Dictionary, at: usize) -> Option<&[u8]>
-    ensures { option_map (λ t. t.now) result ≡ slice_get (drop at dictionary.now.names) 0 }
+fn term_at(dictionary: &Dictionary, at: usize) -> Option<Name<'_>>
+    ensures { result ≡ slice_get (drop at dictionary.now.names) 0 }
 {
     if at < dictionary.names.len() {
-        Some(dictionary.names.get(at))
+        Some(dictionary.names.name(at))
     } else {
         None
     }
@@ -58,22 +61,26 @@ impl<'a> Part<'a> {
             at: 0,
             term: term_at(dictionary, 0),
             lists: dictionary.positions.lists.unpacked(),
+            room: [0; BLOCK],
         }
     }
 
     /// The next term, if one is left.
-    pub(crate) fn term(&self) -> Option<&'a [u8]>
-        ensures { option_map (λ t. t.now) result ≡ slice_get self.now.names 0 }
+    pub(crate) fn term(&self) -> Option<Name<'a>>
+        ensures { result ≡ slice_get self.now.names 0 }
     {
-        self.term
+        match &self.term {
+            Some(term) => Some(term.again()),
+            None => None,
+        }
     }
 
     /// Whether a term is the next one.
-    fn is_next(&self, term: &[u8]) -> bool
+    fn is_next(&self, term: &Name<'_>) -> bool
         ensures { result ≡ begins term.now self.now.names }
     {
-        match self.term {
-            Some(next) => next == term,
+        match &self.term {
+            Some(next) => next.is(term),
             None => false,
         }
     }
@@ -82,7 +89,7 @@ impl<'a> Part<'a> {
     /// their positions after those of a log.
     pub(crate) fn pass(
         &mut self,
-        term: &[u8],
+        term: &Name<'_>,
         docs: &mut Vec<u32>,
         log: &mut PositionListLog,
     ) -> Result<(), AllocError>
@@ -94,7 +101,15 @@ impl<'a> Part<'a> {
         if self.is_next(term) {
             let list = &self.dictionary.lists[self.at];
             let positions = self.dictionary.positions.get(self.at);
-            move_postings(list, positions, &self.numbers, &mut self.lists, docs, log)?;
+            move_postings(
+                list,
+                positions,
+                &self.numbers,
+                &mut self.lists,
+                &mut self.room,
+                docs,
+                log,
+            )?;
             self.at += 1;
             self.term = term_at(self.dictionary, self.at);
         }

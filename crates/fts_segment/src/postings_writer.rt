@@ -7,7 +7,7 @@ ghost use Rattle.fts_segment.specs.PositionLists.{IsPositionList};
 ghost use Rattle.fts_segment.specs.PositionLogs.{IsPositionLog, logged_term_position_lists};
 
 use crate::dictionary::Dictionary;
-use crate::names::Names;
+use crate::names::{Name, Names};
 use crate::term_groups::{Place, TermGroups};
 use crate::term_positions::{PositionLog, TermPositions};
 use fts_base::release;
@@ -98,7 +98,7 @@ impl PostingsWriter {
         let Ok(list) = fts_pack::List::build(alloc, room) else {
             return Err(AllocError);
         };
-        self.names.push(name)?;
+        self.names.push(&Name::new(name))?;
         self.lists.push(list)?;
         self.positions.push(room, places)
     }
@@ -107,7 +107,7 @@ impl PostingsWriter {
     pub(crate) fn end_term(
         &mut self,
         alloc: Global,
-        name: &[u8],
+        name: &Name<'_>,
         docs: &[u32],
     ) -> Result<(), AllocError>
         requires rise { IsStrictlyIncreasing docs.now }

@@ -1,5 +1,5 @@
 // Joins dictionaries: the terms of all in order, each with its postings, one dictionary after the other.
-ghost use Rattle.std.specs.Prelude.{◌≡◌, ◌++◌, ℕ, List, [], None, IfOk, OnOk, map, flat_map, option_map};
+ghost use Rattle.std.specs.Prelude.{◌≡◌, ◌++◌, ℕ, List, [], None, IfOk, OnOk, map, flat_map};
 ghost use Rattle.std.specs.List.{AllByRecursion};
 ghost use Rattle.std.specs.List.Sorted.{IsStrictlyIncreasing};
 ghost use Rattle.fts_segment.specs.Dictionaries.{unless_none};
@@ -11,6 +11,7 @@ ghost use Rattle.fts_segment.specs.Puts.{Puts};
 ghost use Rattle.fts_segment.specs.TermPositionLists.{term_position_lists};
 
 use crate::dictionary::Dictionary;
+use crate::names::Name;
 use crate::part::Part;
 use crate::position_lists::PositionListLog;
 use crate::postings_writer::PostingsWriter;
@@ -18,15 +19,14 @@ use fts_base::release;
 use std::alloc::{AllocError, Global};
 
 /// The first of two terms in order.
-fn first_of<'a>(least: Option<&'a [u8]>, term: Option<&'a [u8]>) -> Option<&'a [u8]>
-    ensures { option_map (λ t. t.now) result
-        ≡ lesser (option_map (λ t. t.now) least.entry) (option_map (λ t. t.now) term.entry) }
+fn first_of<'a>(least: Option<Name<'a>>, term: Option<Name<'a>>) -> Option<Name<'a>>
+    ensures { result ≡ lesser least.entry term.entry }
 {
     match (least, term) {
         (None, term) => term,
         (Some(least), None) => Some(least),
         (Some(least), Some(term)) => {
-            if least.cmp(term).is_gt() {
+            if least.compare(&term).is_gt() {
                 Some(term)
             } else {
                 Some(least)
@@ -36,8 +36,8 @@ fn first_of<'a>(least: Option<&'a [u8]>, term: Option<&'a [u8]>) -> Option<&'a [
 }
 
 /// The first of the next terms of parts.
-fn least<'a>(parts: &[Part<'a>]) -> Option<&'a [u8]>
-    ensures { option_map (λ t. t.now) result ≡ least_of None parts.now }
+fn least<'a>(parts: &[Part<'a>]) -> Option<Name<'a>>
+    ensures { result ≡ least_of None parts.now }
 {
     let mut least = None;
     for part in parts {
@@ -49,7 +49,7 @@ fn least<'a>(parts: &[Part<'a>]) -> Option<&'a [u8]>
 /// Passes a term in each part, and puts their postings after others.
 fn pass_all(
     parts: &mut [Part<'_>],
-    term: &[u8],
+    term: &Name<'_>,
     docs: &mut Vec<u32>,
     log: &mut PositionListLog,
 ) -> Result<(), AllocError>
@@ -71,7 +71,7 @@ fn join_term(
     alloc: Global,
     docs: &mut Vec<u32>,
     parts: &mut [Part<'_>],
-    term: &[u8],
+    term: &Name<'_>,
 ) -> Result<(), AllocError>
     requires rise { IsStrictlyIncreasing (documents (flat_map (given term.now) parts.old)) }
     requires is { IsPositionLog writer.old.positions }
@@ -104,7 +104,7 @@ pub(crate) fn join_parts(alloc: Global, parts: &mut [Part<'_>]) -> Result<Dictio
     let mut writer = PostingsWriter::new(alloc);
     let mut docs = Vec::new(alloc);
     while let Some(term) = least(parts) {
-        join_term(&mut writer, alloc, &mut docs, parts, term)?;
+        join_term(&mut writer, alloc, &mut docs, parts, &term)?;
     }
     release(docs);
     let dictionary = writer.finish(alloc)?;

@@ -4,15 +4,15 @@ use Rattle.fts_segment.proofs.lookup.place_of_name.Goals as goal
 
 pub loop-low-preserved-in-Less : goal.loop-low-preserved-in-Less
 loop-low-preserved-in-Less c =
-    Narrows-less _ c.requires c.loop-low.invariant (omega arith) (omega arith) (sym c.compare.ensures ∙ c.in-Less.is)
+    Narrows-less _ c.requires c.loop-low.invariant (omega arith) (omega arith) (sym (rw c.new-wanted.ensures at c.compare.ensures) ∙ c.in-Less.is)
 
 pub loop-low-preserved : goal.loop-low-preserved
 loop-low-preserved c =
-    Narrows-greater _ c.requires c.loop-low.invariant (omega arith) (omega arith) (sym c.compare.ensures ∙ c.in-Greater.is)
+    Narrows-greater _ c.requires c.loop-low.invariant (omega arith) (omega arith) (sym (rw c.new-wanted.ensures at c.compare.ensures) ∙ c.in-Greater.is)
 
 pub returns-in-Equal-clause-found : goal.returns-in-Equal-clause-found
 returns-in-Equal-clause-found c =
-    Narrows-found c.args.names.now c.args.name.now _ (omega (arith, c.loop-low.invariant.within)) (sym c.compare.ensures ∙ c.in-Equal.is)
+    Narrows-found c.args.names.now c.args.name.now _ (omega (arith, c.loop-low.invariant.within)) (sym (rw c.new-wanted.ensures at c.compare.ensures) ∙ c.in-Equal.is)
 
 pub returns-clause-absent : goal.returns-clause-absent
 returns-clause-absent c = Narrows-none c.loop-low.invariant c.loop-low-test.false

@@ -1,5 +1,4 @@
 use Rattle.std.proofs.Common.{◌≡◌, Some, None, List, flat_map, map, ap, refl, ◌∙◌, sym, subst, ◌<◌}
-use Rattle.std.specs.Prelude.{option_map}
 use Rattle.fts_segment.specs.Parts.{PartValue, given, passed, least_of}
 use Rattle.fts_segment.specs.PositionLogs.{logged_term_position_lists}
 use Rattle.fts_segment.proofs.PartLemmas.{left, fewer}
@@ -17,28 +16,28 @@ loop-term-init c = record {
 pub join_term-requires-clause-rise : goal.join_term-requires-clause-rise
 join_term-requires-clause-rise c =
     let rest = c.loop-term.parts in
-    let term = c.in-Some.term.now in
+    let term = c.in-Some.term in
     let w = c.loop-term.writer in
-    let least : least_of None rest ≡ Some term = sym c.least.ensures ∙ ap (option_map (λ t. t.now)) c.in-Some.is in
+    let least : least_of None rest ≡ Some term = sym c.least.ensures ∙ c.in-Some.is in
     postings-rise term (flat_map (given term) rest) c.args.parts.now rest w.names w.lists.items (logged_term_position_lists w.positions)
     c.loop-term.invariant.joining (least-from None rest term least).1 (met-of-least rest term least) refl c.requires.rise
 
 pub loop-term-smaller : goal.loop-term-smaller
 loop-term-smaller c =
     let rest = c.loop-term.parts in
-    let term = c.in-Some.term.now in
-    let least : least_of None rest ≡ Some term = sym c.least.ensures ∙ ap (option_map (λ t. t.now)) c.in-Some.is in
+    let term = c.in-Some.term in
+    let least : least_of None rest ≡ Some term = sym c.least.ensures ∙ c.in-Some.is in
     let fewer_left : left (map (passed term) rest) < left rest = fewer term rest (met-of-least rest term least) in
     subst (λ (ps : List PartValue). left ps < left rest) (sym c.in_ok-join_term.ensures.parts) fewer_left
 
 pub loop-term-preserved : goal.loop-term-preserved
 loop-term-preserved c =
     let rest = c.loop-term.parts in
-    let term = c.in-Some.term.now in
+    let term = c.in-Some.term in
     let names = c.loop-term.writer.names in
     let lists = c.loop-term.writer.lists.items in
     let positions = logged_term_position_lists c.loop-term.writer.positions in
-    let least : least_of None rest ≡ Some term = sym c.least.ensures ∙ ap (option_map (λ t. t.now)) c.in-Some.is in
+    let least : least_of None rest ≡ Some term = sym c.least.ensures ∙ c.in-Some.is in
     let from = (least-from None rest term least).1 in
     let met = met-of-least rest term least in
     let postings = flat_map (given term) rest in
@@ -54,4 +53,4 @@ returns c =
     let w = c.loop-term.writer in
     rw (c.in_ok-dictionary.ensures.names, c.in_ok-dictionary.ensures.lists, c.in_ok-dictionary.ensures.positions)
     (IsJoined-end c.args.parts.now c.loop-term.parts w.names w.lists.items (logged_term_position_lists w.positions) c.loop-term.invariant.joining
-    (sym c.least.ensures ∙ ap (option_map (λ t. t.now)) c.in_default.is))
+    (sym c.least.ensures ∙ c.in_default.is))
