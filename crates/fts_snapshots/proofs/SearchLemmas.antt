@@ -27,12 +27,11 @@ use Rattle.fts_snapshots.proofs.OrderLemmas.{permutation_in_order, filter-in_sta
 use Rattle.fts_model.proofs.Lists.{taken}
 
 -- one more of each
-pub zip-taken : {X Y : Type 0} (P : X → Y → Type 0) (xs : List X) (i : ℕ) (x : X) (before after : List Y) (y : Y) → i < length xs → x ≡ get_or xs i x →
-    AllZip P (take i xs) before → P x y →
-    after ≡ before ++ y ∷ [] → AllZip P (take (i + 1) xs) after
-zip-taken P xs i x before after y within is z p e =
-    subst (λ ys. AllZip P (take (i + 1) xs) ys) (sym e)
-    (subst (λ zs. AllZip P zs (before ++ y ∷ [])) (sym (taken xs i x within is)) (all_zipped_more P (take i xs) before x y z p))
+pub zip_more : {X Y : Type 0} (P : X → Y → Type 0) (xs more : List X) (x : X) (before after : List Y) (y : Y) → AllZip P xs before → P x y →
+    more ≡ xs ++ x ∷ [] →
+    after ≡ before ++ y ∷ [] → AllZip P more after
+zip_more P xs more x before after y z p f e =
+    subst (λ ys. AllZip P more ys) (sym e) (subst (λ zs. AllZip P zs (before ++ y ∷ [])) (sym f) (all_zipped_more P xs before x y z p))
 
 -- the live hits of each segment
 abbrev pub hits_by : List Field → QueryValue → List EntryValue → List (List (Stamped DocumentValue))
