@@ -1,5 +1,5 @@
 -- Commits that were prepared, and finished.
-use Rattle.std.proofs.Common.{◌≡◌, ◌<◌, ◌+◌, ◌++◌, ◌^◌, ◌⊎◌, inl, inr, ℕ, true, None, Some, Ok, Err, List, Result, IfOk, IsOkUnless, length, sym, ap, ◌∙◌, arith}
+use Rattle.std.proofs.Common.{◌≡◌, ◌<◌, ◌+◌, ◌++◌, ◌^◌, ◌⊎◌, inl, inr, ℕ, true, Some, Ok, Err, List, Result, IfOk, IsOkUnless, length, sym, ap, ◌∙◌, arith}
 use Rattle.std.proofs.lemmas.List.Elements.{recursion_from_All}
 use Rattle.fts_base.specs.declared.refusal.Refusal.{Refusal}
 use Rattle.fts_base.specs.declared.refusal.Refusal.TheVariants.{Memory}
@@ -10,7 +10,7 @@ use Rattle.fts_model.specs.declared.operation.Op.{Op}
 use Rattle.fts_model.specs.declared.operation.Stamped.{Stamped}
 use Rattle.fts_model.specs.Operations.{alive, adds}
 use Rattle.fts_snapshots.specs.Commits.{new_segments, spared_by}
-use Rattle.fts_snapshots.specs.Entries.{EntryValue, IsEntry, content, has_live}
+use Rattle.fts_snapshots.specs.Entries.{EntryValue, IsEntry, has_live}
 use Rattle.fts_snapshots.specs.PreparedCommits.{IsPrepared, PreparedValue, entries_kept, prepared}
 use Rattle.fts_snapshots.specs.Snapshots.{GivesCommit, IsSnapshot, SnapshotValue, after_commit, commit_fault, content_of}
 use Rattle.fts_snapshots.proofs.CommitLemmas.{content-committed}

@@ -1,5 +1,5 @@
 -- What the parts of a search tell together.
-use Rattle.std.proofs.Common.{◌≡◌, ◌<◌, ◌≤◌, ◌+◌, ◌-◌, ◌*◌, ◌^◌, ◌||◌, ℕ, true, false, cond, List, [], ◌∷◌, ◌++◌, length, map, min, sum_by, take, get_or, subst}
+use Rattle.std.proofs.Common.{◌≡◌, ◌<◌, ◌≤◌, ◌+◌, ◌-◌, ◌*◌, ◌^◌, ◌||◌, ℕ, true, false, cond, List, [], ◌∷◌, ◌++◌, length, map, min, sum_by, subst}
 use Rattle.std.proofs.Common.{refl, sym, ap, ◌∙◌, arith}
 use Rattle.std.specs.List.{AllZip, AllByRecursion, flat_map, list_any}
 use Rattle.std.specs.List.Sorted.{IsPermutation}
@@ -24,7 +24,6 @@ use Rattle.fts_snapshots.specs.Entries.{EntryValue, live_in, content}
 use Rattle.fts_snapshots.specs.Snapshots.{IsSnapshot, SnapshotValue, content_of}
 use Rattle.fts_snapshots.specs.searches.Searches.{AreOfParts, IsPartOf, OpensInAll, blocks_in, fewest_in, greatest_in, most_in, has_hit, least_in}
 use Rattle.fts_snapshots.proofs.OrderLemmas.{permutation_in_order, filter-in_stamp_order}
-use Rattle.fts_model.proofs.Lists.{taken}
 
 -- one more of each
 pub zip_more : {X Y : Type 0} (P : X → Y → Type 0) (xs more : List X) (x : X) (before after : List Y) (y : Y) → AllZip P xs before → P x y →

@@ -1,5 +1,5 @@
 -- Commits of batches without a delete, which leave the old segments as they are.
-use Rattle.std.proofs.Common.{◌≡◌, ◌<◌, ◌≤◌, ◌+◌, ◌^◌, ◌&&◌, ◌||◌, ℕ, Bool, true, false, cond, not, nat_lt, List, [], ◌∷◌, ◌++◌, length, map, filter, All}
+use Rattle.std.proofs.Common.{◌≡◌, ◌<◌, ◌≤◌, ◌+◌, ◌&&◌, ℕ, true, false, cond, not, nat_lt, List, [], ◌∷◌, ◌++◌, length, map, filter}
 use Rattle.std.proofs.Common.{refl, sym, ap, ◌∙◌, arith}
 use Rattle.std.specs.List.{AllByRecursion, list_any}
 use Rattle.std.proofs.lemmas.Bool.{or_from, or_parts}
@@ -12,7 +12,7 @@ use Rattle.fts_model.specs.declared.operation.Op.{Op}
 use Rattle.fts_model.specs.declared.operation.Op.TheVariants.{Add, Delete, DeleteAll}
 use Rattle.fts_model.specs.declared.operation.Stamped.{Stamped}
 use Rattle.fts_model.specs.Documents.{DocumentValue}
-use Rattle.fts_model.specs.Operations.{added, strikes, strikes_later, survives}
+use Rattle.fts_model.specs.Operations.{added, strikes, strikes_later}
 use Rattle.fts_snapshots.specs.Commits.{committed, deletes, fresh_from, has_delete, spared_by, struck, struck_by}
 use Rattle.fts_snapshots.specs.Cuts.{groups_of}
 use Rattle.fts_snapshots.specs.Entries.{EntryValue, IsEntry, has_live}
@@ -59,7 +59,7 @@ pub spared_and_committed : (cut : Cut) (schema : List Field) (batch : List (Stam
 spared_and_committed cut schema batch id es each live =
     let new = fresh_from schema batch id (groups_of cut (added batch)) in
     elim (has_delete batch) as (λ b. has_delete batch ≡ b →
-        cond b [] es ++ filter has_live (map (struck batch) (cond b es []) ++ new) ≡ filter has_live (map (struck batch) es ++ new)) [
+    cond b [] es ++ filter has_live (map (struck batch) (cond b es []) ++ new) ≡ filter has_live (map (struck batch) es ++ new)) [
       | true ↦ λ h. refl
       | false ↦ λ h.
           ap (λ fs. fs ++ filter has_live new) (sym (live_stay es live))

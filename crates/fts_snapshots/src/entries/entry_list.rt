@@ -72,11 +72,7 @@ impl EntryList {
     }
 
     /// These segments, and then more. Runs that aren't longer than what comes after them are joined with it.
-    pub(crate) fn with_more(
-        &self,
-        alloc: Global,
-        more: Vec<Entry>,
-    ) -> Result<EntryList, AllocError>
+    pub(crate) fn with_more(&self, alloc: Global, more: Vec<Entry>) -> Result<EntryList, AllocError>
         requires { length self.now + length more.items < 2 ^ 64 }
         ensures { IfOk result (λ list. list ≡ self.now ++ more.items) }
     {

@@ -1,6 +1,5 @@
 -- What is left of the proof of `parts_in_turn`.
-use Rattle.std.proofs.Common.{◌≡◌, ◌++◌, ◌∷◌, [], true, sym, ap, subst, ◌∙◌, List}
-use Rattle.std.specs.List.{AllZip}
+use Rattle.std.proofs.Common.{◌≡◌, ◌++◌, ◌∷◌, [], true, sym, ap, ◌∙◌}
 use Rattle.fts_model.specs.Queries.{query_fits, request_fits}
 use Rattle.fts_model.specs.QueryValues.{query_value}
 use Rattle.fts_snapshots.specs.Entries.{EntryValue}
