@@ -36,7 +36,7 @@ fn stamps(trial: &mut Trial, writer: &Writer) {
         return;
     };
     trial.open();
-    for entry in searcher.snapshot().entries() {
+    for entry in searcher.snapshot().entries().iter() {
         give_live(trial, entry);
     }
     trial.close();

@@ -43,8 +43,8 @@ pub mod segment;
 pub mod text;
 
 pub use fts_index::{
-    Batch, CommitSeen, Committed, Cut, Entry, Found, Lane, LaneEnd, MergeJob, MergedSegment,
-    Reader, Round, RoundLimits, Searcher, SegmentInfo, Snapshot, Writer,
+    Batch, CommitSeen, Committed, Cut, Entry, EntryIter, EntryList, Found, Lane, LaneEnd, MergeJob,
+    MergedSegment, Reader, Round, RoundLimits, Searcher, SegmentInfo, Snapshot, Writer,
 };
 pub use fts_model::{
     Answer, Document, Field, FieldValue, GroupValue, Hit, Kind, MOST_BUILT, MOST_MERGED, Number,

@@ -2,7 +2,7 @@
 ghost use Rattle.std.specs.Prelude.{◌≡◌, ◌+◌};
 ghost use Rattle.fts_engine_local.specs.Stats.{capped, stats_of};
 
-use fts_snapshots::Entry;
+use fts_snapshots::EntryList;
 
 /// How large an index is at a commit. What doesn't fit is the greatest number that does.
 #[derive(Clone, Copy, Debug, PartialEq, Eq)]
@@ -24,12 +24,12 @@ fn capped_sum(a: u64, b: u64) -> u64
 }
 
 /// How large segments are.
-pub(crate) fn stats_of(entries: &[Entry]) -> Stats
+pub(crate) fn stats_of(entries: &EntryList) -> Stats
     ensures { result ≡ stats_of entries.now }
 {
     let mut documents = 0;
     let mut live = 0;
-    for entry in entries {
+    for entry in entries.iter() {
         documents = capped_sum(documents, entry.segment().docs() as u64);
         live = capped_sum(live, entry.live_count() as u64);
     }

@@ -47,8 +47,8 @@ fn entries_of_jobs<R: Threads + Wait + Sync, G: Gate>(
     assemble(alloc, answers)
 }
 
-/// The snapshot after a batch, as `Snapshot::commit_alone` has it. The jobs, one for each segment that was there and
-/// then one for each new one, are run by up to this many threads, 1 to 64.
+/// The snapshot after a batch, as `Snapshot::commit_alone` has it. The jobs, one for each segment that the batch may
+/// strike and then one for each new one, are run by up to this many threads, 1 to 64.
 pub(crate) fn commit<R: Threads + Wait + Sync, G: Gate>(
     rt: &R,
     alloc: Global,
@@ -67,5 +67,5 @@ pub(crate) fn commit<R: Threads + Wait + Sync, G: Gate>(
     let commit = snapshot.prepare_commit(alloc, batch, cut)?;
     let jobs = commit.jobs(alloc)?;
     let entries = entries_of_jobs(rt, alloc, &jobs, workers, gate)?;
-    commit.finish(entries)
+    commit.finish(alloc, entries)
 }

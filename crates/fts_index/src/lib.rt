@@ -38,7 +38,9 @@ mod writer;
 
 pub use fts_model::Cut;
 pub use fts_rounds::{Batch, Lane, LaneEnd, Round, RoundLimits};
-pub use fts_snapshots::{CommitJob, Entry, MergeJob, MergedSegment, SegmentInfo, Snapshot};
+pub use fts_snapshots::{
+    CommitJob, Entry, EntryIter, EntryList, MergeJob, MergedSegment, SegmentInfo, Snapshot,
+};
 pub use publications::{CommitSeen, Publisher, Reader, Searcher};
 pub use searches::Found;
 pub use writer::{Committed, Writer};

@@ -14,7 +14,7 @@ pub use answer::Found;
 use fts_collect::Part;
 use fts_model::{Query, Refusal, Request};
 use fts_pool::{Gate, run_all};
-use fts_snapshots::Entry;
+use fts_snapshots::EntryList;
 use job::SearchJob;
 use std::alloc::{AllocError, Global};
 use std::sync::Wait;
@@ -23,7 +23,7 @@ use std::thread::Threads;
 /// The jobs of a search, one for each segment, in their order.
 fn search_jobs<'a>(
     alloc: Global,
-    entries: &'a [Entry],
+    entries: &'a EntryList,
     query: &'a Query,
     request: &'a Request,
 ) -> Result<Vec<SearchJob<'a>>, AllocError>
@@ -35,7 +35,7 @@ fn search_jobs<'a>(
         map asked_of jobs.items ≡ map (asks (query_value query.now) request.now) entries.now) }
 {
     let mut jobs = Vec::with_capacity(alloc, entries.len())?;
-    for entry in entries {
+    for entry in entries.iter() {
         jobs.push(SearchJob::new(alloc, entry, query, request))?;
     }
     Ok(jobs)
@@ -71,7 +71,7 @@ pub(crate) fn openings_of(parts: &[Part]) -> u64
 pub(crate) fn segment_parts<R: Threads + Wait + Sync, G: Gate>(
     rt: &R,
     alloc: Global,
-    entries: &[Entry],
+    entries: &EntryList,
     query: &Query,
     request: &Request,
     workers: usize,

@@ -1,5 +1,5 @@
 -- What commits and merges change of an index over segments.
-use Rattle.std.proofs.Common.{◌≡◌, ◌+◌, ◌<◌, ◌≤◌, ◌⊎◌, inl, inr, ℕ, true, false, cond, None, Some, Result, Ok, Err, OnOk, OnErr, nat_lt, List, [], ◌∷◌, ◌++◌}
+use Rattle.std.proofs.Common.{◌≡◌, ◌+◌, ◌<◌, ◌≤◌, ◌⊎◌, inl, inr, ℕ, true, false, cond, None, Ok, Err, nat_lt, List, [], ◌∷◌, ◌++◌}
 use Rattle.std.proofs.Common.{length, get_or, drop, map, filter, is_none, refl, sym, ap, subst, ◌∙◌, arith}
 use Rattle.std.proofs.lemmas.Bool.{false≢true}
 use Rattle.std.proofs.lemmas.Bool.Decides.{nat_tests}
@@ -7,7 +7,7 @@ use Rattle.std.proofs.lemmas.List.{at_drop_all, at_drop_more, length-append}
 use Rattle.std.proofs.lemmas.List.Sums.{length-filter, count_by-le-length}
 use Rattle.fts_base.specs.declared.refusal.Refusal.{Refusal}
 use Rattle.fts_base.specs.declared.refusal.Refusal.TheVariants.{Memory}
-use Rattle.fts_base.specs.Results.{Gives, ok_unless}
+use Rattle.fts_base.specs.Results.{ok_unless}
 use Rattle.fts_model.specs.declared.cut.Cut.{Cut}
 use Rattle.fts_model.specs.declared.operation.Op.{Op}
 use Rattle.fts_model.specs.declared.operation.Stamped.{Stamped}
@@ -20,7 +20,6 @@ use Rattle.fts_snapshots.specs.MergedSegments.{merged_of}
 use Rattle.fts_snapshots.specs.Merges.{entries_at, without}
 use Rattle.fts_snapshots.specs.Snapshots.{SnapshotValue, after_commit, content_of, merge_fault, segments_and_numbers}
 use Rattle.fts_snapshots.proofs.CountLemmas.{commit_counted, fewer_without, merge_counted, refused_by}
-use Rattle.fts_snapshots.proofs.LateBeginLemmas.{ids_named}
 use Rattle.fts_snapshots.proofs.SourceLemmas.{unless_ok}
 
 -- a commit of a batch

@@ -1,4 +1,5 @@
 -- The lemmas.
+pub mod EntryListLemmas
 pub mod OrderLemmas
 pub mod EntryLemmas
 pub mod CutLemmas
@@ -15,6 +16,7 @@ pub mod LookupLemmas
 pub mod LateBitLemmas
 pub mod LateSchemaLemmas
 pub mod LateBeginLemmas
+pub mod SparedLemmas
 pub mod StampLemmas
 pub mod CountLemmas
 pub mod PreparedLemmas

@@ -1,9 +1,9 @@
 -- How large segments are after a merge.
-use Rattle.std.proofs.Common.{◌≡◌, ◌+◌, ◌<◌, ◌≤◌, ◌==◌, ◌||◌, ◌≢◌, ℕ, zero, suc, Bool, true, false, cond, not, Option, None, Some, List, [], ◌∷◌, ◌++◌, length}
+use Rattle.std.proofs.Common.{◌≡◌, ◌+◌, ◌<◌, ◌≤◌, ◌==◌, ◌||◌, ◌≢◌, ℕ, Bool, true, false, cond, not, None, Some, List, [], ◌∷◌, ◌++◌, length}
 use Rattle.std.proofs.Common.{map, filter, nat_lt, slice_index, sum_by, count_by, All, refl, sym, ap, subst, ◌∙◌, arith}
 use Rattle.std.specs.List.{AllByRecursion, flat_map, list_any}
 use Rattle.std.proofs.lemmas.Bool.Decides.{nat_tests}
-use Rattle.std.proofs.lemmas.List.{length-map, length-append, map-append}
+use Rattle.std.proofs.lemmas.List.{length-map, map-append}
 use Rattle.std.proofs.lemmas.List.Elements.{recursion_from_All}
 use Rattle.std.proofs.lemmas.List.Sorted.{length_permutation}
 use Rattle.std.proofs.lemmas.List.Sums.{sum_by-cons, sum_by-append, count_by-le-length}
@@ -12,13 +12,12 @@ use Rattle.fts_base.specs.declared.refusal.Refusal.TheVariants.{TooLarge}
 use Rattle.std.specs.Prelude.{Result, Ok, Err, IfOk}
 use Rattle.fts_base.specs.Results.{Gives, first_of, ok_unless}
 use Rattle.fts_merge.specs.declared.origin.Origin.{Origin}
-use Rattle.fts_snapshots.specs.declared.entries.entry.SegmentInfo.{SegmentInfo}
 use Rattle.fts_snapshots.specs.Commits.{numbers_fault}
 use Rattle.fts_snapshots.specs.Entries.{EntryValue, IsEntry, has_live, live_in, live_count, content}
 use Rattle.fts_snapshots.specs.Infos.{info_of, infos_after_merge}
 use Rattle.fts_snapshots.specs.LateMerges.{after_merge, ended, is_live_at}
-use Rattle.fts_snapshots.specs.MergedSegments.{MergedSegmentValue, merged_of, origins_of}
-use Rattle.fts_snapshots.specs.Merges.{is_there, entry_at, entries_at, names_fault, size_fault, without}
+use Rattle.fts_snapshots.specs.MergedSegments.{merged_of, origins_of}
+use Rattle.fts_snapshots.specs.Merges.{entry_at, entries_at, names_fault, size_fault, without}
 use Rattle.fts_snapshots.specs.Snapshots.{SnapshotValue, IsSnapshot, merge_fault}
 use Rattle.fts_snapshots.proofs.LateBeginLemmas.{fits_begun, here_begun, ids_named, job_begun, length-live_in, length-merged, merged_by_job}
 use Rattle.fts_snapshots.proofs.CountLemmas.{but, without-more}

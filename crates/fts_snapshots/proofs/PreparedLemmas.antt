@@ -1,20 +1,23 @@
 -- Commits that were prepared, and finished.
-use Rattle.std.proofs.Common.{◌≡◌, ◌++◌, ◌⊎◌, inl, inr, None, Some, Ok, Err, List, Result, IfOk, IsOkUnless, sym, ap, ◌∙◌}
+use Rattle.std.proofs.Common.{◌≡◌, ◌<◌, ◌+◌, ◌++◌, ◌^◌, ◌⊎◌, inl, inr, ℕ, true, Some, Ok, Err, List, Result, IfOk, IsOkUnless, length, sym, ap, ◌∙◌, arith}
 use Rattle.std.proofs.lemmas.List.Elements.{recursion_from_All}
 use Rattle.fts_base.specs.declared.refusal.Refusal.{Refusal}
 use Rattle.fts_base.specs.declared.refusal.Refusal.TheVariants.{Memory}
 use Rattle.fts_base.specs.Results.{ok_unless}
 use Rattle.fts_model.specs.declared.cut.Cut.{Cut}
+use Rattle.fts_model.specs.declared.schema.Field.{Field}
 use Rattle.fts_model.specs.declared.operation.Op.{Op}
 use Rattle.fts_model.specs.declared.operation.Stamped.{Stamped}
 use Rattle.fts_model.specs.Operations.{alive, adds}
-use Rattle.fts_snapshots.specs.Entries.{EntryValue, content}
-use Rattle.fts_snapshots.specs.PreparedCommits.{IsPrepared, PreparedValue, prepared}
+use Rattle.fts_snapshots.specs.Commits.{new_segments, spared_by}
+use Rattle.fts_snapshots.specs.Entries.{EntryValue, IsEntry, has_live}
+use Rattle.fts_snapshots.specs.PreparedCommits.{IsPrepared, PreparedValue, entries_kept, prepared}
 use Rattle.fts_snapshots.specs.Snapshots.{GivesCommit, IsSnapshot, SnapshotValue, after_commit, commit_fault, content_of}
 use Rattle.fts_snapshots.proofs.CommitLemmas.{content-committed}
 use Rattle.fts_snapshots.proofs.CountLemmas.{refused_by}
-use Rattle.fts_snapshots.proofs.SnapshotLemmas.{snapshot_after_commit, rise_behind}
+use Rattle.fts_snapshots.proofs.SnapshotLemmas.{snapshot_after_commit, same_snapshot, snapshot_with, rise_behind}
 use Rattle.fts_snapshots.proofs.SourceLemmas.{unless_ok}
+use Rattle.fts_snapshots.proofs.SparedLemmas.{few_segments, spared_and_committed}
 
 -- the snapshot that a prepared commit leaves
 abbrev pub left : PreparedValue → SnapshotValue
@@ -29,6 +32,25 @@ content-left p i =
     content-committed p.cut s.schema p.batch s.next_id s.entries (recursion_from_All (λ (e : EntryValue). e.segment.schema ≡ s.schema) s.entries
     i.snapshot.schemas)
     (rise_behind (content_of s) p.batch i.snapshot.stamps i.behind)
+
+-- the segments that it leaves are those that the batch spares, and then those that its jobs left
+pub all_left : (p : PreparedValue) → IsPrepared p → spared_by p.batch p.snapshot.entries ++ entries_kept p ≡ (left p).entries
+all_left p i =
+    let s = p.snapshot in
+    spared_and_committed p.cut s.schema p.batch s.next_id s.entries (recursion_from_All IsEntry s.entries i.snapshot.each)
+    (recursion_from_All (λ (e : EntryValue). has_live e ≡ true) s.entries i.snapshot.live)
+
+pub few_left : (p : PreparedValue) → IsPrepared p → length (left p).entries < 2 ^ 64
+few_left p i = omega (arith, few_segments (left p) (left_is p i), i.room)
+
+-- the snapshot of them
+pub finished : (p : PreparedValue) → IsPrepared p → (schema : List Field) (before jobs all : List EntryValue) (next : ℕ) → schema ≡ p.snapshot.schema →
+    before ≡ p.snapshot.entries → jobs ≡ entries_kept p → all ≡ spared_by p.batch before ++ jobs → next ≡ p.snapshot.next_id + new_segments p.cut p.batch →
+    snapshot_with schema all next ≡ left p
+finished p i schema before jobs all next same old kept made number =
+    let s = p.snapshot in
+    same_snapshot schema s.schema all (left p).entries next (s.next_id + new_segments p.cut p.batch) same
+    (made ∙ ap (λ es. spared_by p.batch es ++ jobs) old ∙ ap (λ es. spared_by p.batch s.entries ++ es) kept ∙ all_left p i) number
 
 -- what is finished of a prepared commit is what the commit gives
 pub gives_commit : (cut : Cut) (batch : List (Stamped Op)) (s : SnapshotValue) (p : PreparedValue) (r : Result SnapshotValue Refusal) →

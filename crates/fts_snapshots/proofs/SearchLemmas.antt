@@ -1,5 +1,5 @@
 -- What the parts of a search tell together.
-use Rattle.std.proofs.Common.{◌≡◌, ◌<◌, ◌≤◌, ◌+◌, ◌-◌, ◌*◌, ◌^◌, ◌||◌, ℕ, true, false, cond, List, [], ◌∷◌, ◌++◌, length, map, min, sum_by, take, get_or, subst}
+use Rattle.std.proofs.Common.{◌≡◌, ◌<◌, ◌≤◌, ◌+◌, ◌-◌, ◌*◌, ◌^◌, ◌||◌, ℕ, true, false, cond, List, [], ◌∷◌, ◌++◌, length, map, min, sum_by, subst}
 use Rattle.std.proofs.Common.{refl, sym, ap, ◌∙◌, arith}
 use Rattle.std.specs.List.{AllZip, AllByRecursion, flat_map, list_any}
 use Rattle.std.specs.List.Sorted.{IsPermutation}
@@ -24,15 +24,13 @@ use Rattle.fts_snapshots.specs.Entries.{EntryValue, live_in, content}
 use Rattle.fts_snapshots.specs.Snapshots.{IsSnapshot, SnapshotValue, content_of}
 use Rattle.fts_snapshots.specs.searches.Searches.{AreOfParts, IsPartOf, OpensInAll, blocks_in, fewest_in, greatest_in, most_in, has_hit, least_in}
 use Rattle.fts_snapshots.proofs.OrderLemmas.{permutation_in_order, filter-in_stamp_order}
-use Rattle.fts_model.proofs.Lists.{taken}
 
 -- one more of each
-pub zip-taken : {X Y : Type 0} (P : X → Y → Type 0) (xs : List X) (i : ℕ) (x : X) (before after : List Y) (y : Y) → i < length xs → x ≡ get_or xs i x →
-    AllZip P (take i xs) before → P x y →
-    after ≡ before ++ y ∷ [] → AllZip P (take (i + 1) xs) after
-zip-taken P xs i x before after y within is z p e =
-    subst (λ ys. AllZip P (take (i + 1) xs) ys) (sym e)
-    (subst (λ zs. AllZip P zs (before ++ y ∷ [])) (sym (taken xs i x within is)) (all_zipped_more P (take i xs) before x y z p))
+pub zip_more : {X Y : Type 0} (P : X → Y → Type 0) (xs more : List X) (x : X) (before after : List Y) (y : Y) → AllZip P xs before → P x y →
+    more ≡ xs ++ x ∷ [] →
+    after ≡ before ++ y ∷ [] → AllZip P more after
+zip_more P xs more x before after y z p f e =
+    subst (λ ys. AllZip P more ys) (sym e) (subst (λ zs. AllZip P zs (before ++ y ∷ [])) (sym f) (all_zipped_more P xs before x y z p))
 
 -- the live hits of each segment
 abbrev pub hits_by : List Field → QueryValue → List EntryValue → List (List (Stamped DocumentValue))

@@ -1,8 +1,10 @@
 -- What a commit does to segments.
-use Rattle.std.specs.Prelude.{ℕ, ◌+◌, nat_lt, ◌^◌, Option, Some, None, List, []}
+use Rattle.std.specs.Prelude.{ℕ, ◌+◌, nat_lt, ◌^◌, Bool, true, false, Option, Some, None, List, []}
 use Rattle.std.specs.Prelude.{◌∷◌, ◌++◌, length, map, filter, if◌then◌else◌}
+use Rattle.std.specs.List.{list_any}
 use Rattle.fts_model.specs.declared.schema.Field.{Field}
 use Rattle.fts_model.specs.declared.operation.Op.{Op}
+use Rattle.fts_model.specs.declared.operation.Op.TheVariants.{Add, Delete, DeleteAll}
 use Rattle.fts_model.specs.declared.operation.Stamped.{Stamped}
 use Rattle.fts_base.specs.declared.refusal.Refusal.{Refusal}
 use Rattle.fts_base.specs.declared.refusal.Refusal.TheVariants.{StampsUsedUp, OtherSchema}
@@ -17,6 +19,24 @@ use Rattle.fts_snapshots.specs.Cuts.{groups_of}
 abbrev pub misfit : List Field → List (Stamped Op) → Option Refusal
 misfit schema [] = None
 misfit schema (op ∷ ops) = if op_fits schema op.value then misfit schema ops else Some (OtherSchema op.stamp)
+
+-- whether an operation deletes: all but an add do
+abbrev pub deletes : Op → Bool
+deletes (Add document) = false
+deletes (Delete term) = true
+deletes DeleteAll = true
+
+-- whether a batch has a delete
+abbrev pub has_delete : List (Stamped Op) → Bool
+has_delete batch = list_any (λ op. deletes op.value) batch
+
+-- the segments that a batch may strike: all if it has a delete, or else none
+abbrev pub struck_by : List (Stamped Op) → List EntryValue → List EntryValue
+struck_by batch entries = if has_delete batch then entries else []
+
+-- the segments that stay as they are: all the others
+abbrev pub spared_by : List (Stamped Op) → List EntryValue → List EntryValue
+spared_by batch entries = if has_delete batch then [] else entries
 
 -- a segment after operations
 abbrev pub struck : List (Stamped Op) → EntryValue → EntryValue

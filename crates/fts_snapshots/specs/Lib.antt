@@ -1,6 +1,7 @@
 -- The definitions that contracts cite.
 pub mod Order
 pub mod Entries
+pub mod EntryLists
 pub mod Infos
 pub mod Cuts
 pub mod Commits

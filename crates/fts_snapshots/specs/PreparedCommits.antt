@@ -4,7 +4,7 @@ use Rattle.fts_model.specs.declared.operation.Op.{Op}
 use Rattle.fts_model.specs.declared.operation.Stamped.{Stamped}
 use Rattle.fts_model.specs.declared.cut.Cut.{Cut}
 use Rattle.fts_snapshots.specs.Cuts.{IsCut}
-use Rattle.fts_snapshots.specs.Commits.{all_after, committed, misfit, new_segments}
+use Rattle.fts_snapshots.specs.Commits.{all_after, committed, misfit, new_segments, struck_by}
 use Rattle.fts_snapshots.specs.Entries.{EntryValue}
 use Rattle.fts_snapshots.specs.Snapshots.{IsBehind, IsSnapshot, SnapshotValue, content_of}
 
@@ -26,10 +26,12 @@ pub record IsPrepared (p : PreparedValue) : Type 0 where
   pub room : p.snapshot.next_id + new_segments p.cut p.batch ≤ 2 ^ 62
   pub snapshot : IsSnapshot p.snapshot
 
--- the segments that its jobs leave, one per job
+-- the segments that its jobs leave, one per job: of the old ones those that may be struck, and the new ones
 abbrev pub entries_left : PreparedValue → List EntryValue
-entries_left p = all_after p.cut p.snapshot.schema p.batch p.snapshot.next_id p.snapshot.entries
+entries_left p =
+    all_after p.cut p.snapshot.schema p.batch p.snapshot.next_id (struck_by p.batch p.snapshot.entries)
 
 -- of the segments that a commit's jobs leave, those that stay
 abbrev pub entries_kept : PreparedValue → List EntryValue
-entries_kept p = committed p.cut p.snapshot.schema p.batch p.snapshot.next_id p.snapshot.entries
+entries_kept p =
+    committed p.cut p.snapshot.schema p.batch p.snapshot.next_id (struck_by p.batch p.snapshot.entries)

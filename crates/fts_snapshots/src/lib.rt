@@ -2,7 +2,8 @@
 //!
 //! - A [`Snapshot`] is what is found at one time: segments, each an [`Entry`] with its number and its live bits. It
 //!   never changes: a commit or a merge makes another one, which shares all that stays, so a refusal leaves everything
-//!   as it was, and who holds a snapshot keeps it.
+//!   as it was, and who holds a snapshot keeps it. Its segments are an [`EntryList`], of which a commit that deletes
+//!   nothing copies a small part.
 //! - A commit cuts the adds of a batch into new segments as a [`Cut`] says. What it does to each segment is a job of
 //!   its own ([`CommitJob`]): [`Snapshot::commit_alone`] runs them one after the other, and those of a
 //!   [`PreparedCommit`] may be run in any threads.
@@ -33,7 +34,7 @@ mod snapshot;
 mod stamped;
 
 pub use commits::{CommitJob, PreparedCommit, push_live};
-pub use entries::{Entry, NUMBERS, SegmentInfo};
+pub use entries::{Entry, EntryIter, EntryList, NUMBERS, SegmentInfo};
 pub use fts_merge::MergePolicy;
 pub use fts_model::Cut;
 pub use merges::{MergeJob, MergedSegment};

@@ -102,14 +102,14 @@ pub fn merge_all<R, S: Mergeable<R>>(rt: &R, alloc: Global, index: &mut S) -> Re
     ensures refused { IfErr result (λ e. (e ≡ Refusal.Memory) ⊎ ((e ≡ Refusal.TooLarge)
         × (most_merged < length (content_of (S.left index.old))))) }
 {
-    let entries = index.last_commit().entries();
+    let entries = index.last_commit().entries().to_vec(alloc)?;
     if entries.is_empty() {
         return Ok(0);
     }
-    let Some(live) = live_in(entries) else {
+    let Some(live) = live_in(&entries) else {
         return Err(Refusal::TooLarge);
     };
-    let ids = numbers(alloc, entries)?;
+    let ids = numbers(alloc, &entries)?;
     index.merge_segments(rt, alloc, &ids)?;
     Ok(live as u64)
 }

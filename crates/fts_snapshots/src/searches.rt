@@ -13,7 +13,7 @@ ghost use Rattle.fts_model.specs.QueryValues.{query_value};
 ghost use Rattle.fts_snapshots.specs.Snapshots.{content_of};
 ghost use Rattle.fts_snapshots.specs.searches.Searches.{IsPartOf};
 
-use crate::{Entry, Snapshot};
+use crate::{Entry, EntryList, Snapshot};
 use fts_collect::{Part, collect};
 use fts_model::{Answer, Query, Refusal, Request};
 use std::alloc::Global;
@@ -36,7 +36,7 @@ pub fn search_segment(
 /// What each segment tells of its live hits, in the order of the segments.
 fn parts_in_turn(
     alloc: Global,
-    entries: &[Entry],
+    entries: &EntryList,
     query: &Query,
     request: &Request,
 ) -> Result<Vec<Part>, Refusal>
@@ -49,7 +49,7 @@ fn parts_in_turn(
     ensures memory { IsOkUnless result Refusal.Memory }
 {
     let mut parts = Vec::with_capacity(alloc, entries.len())?;
-    for entry in entries {
+    for entry in entries.iter() {
         let part = search_segment(alloc, entry, query, request)?;
         parts.push(part)?;
     }

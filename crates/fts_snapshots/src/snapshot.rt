@@ -14,7 +14,7 @@ ghost use Rattle.fts_snapshots.specs.LateMerges.{end_fault, after_end, after_mer
 ghost use Rattle.fts_snapshots.specs.Snapshots.{IsBehind, IsSnapshot, GivesCommit, commit_fault, merge_fault};
 
 use crate::commits::{PreparedCommit, entries_in_turn};
-use crate::entries::{Entry, SegmentInfo};
+use crate::entries::{EntryList, SegmentInfo};
 use crate::merges::{
     MergeJob, MergedSegment, candidates, candidates_by, end_entries, named_entries,
 };
@@ -28,7 +28,7 @@ use std::marker::Model;
 #[derive(Drop)]
 pub struct Snapshot {
     schema: Schema,
-    entries: Vec<Entry>,
+    entries: EntryList,
     next_id: u64,
 }
 
@@ -37,10 +37,10 @@ impl Model for Snapshot {
 
     ghost Value = { SnapshotValue };
 
-    ghost view = { λ s. record { schema = s.schema; entries = s.entries.items; next_id = s.next_id } };
+    ghost view = { λ s. record { schema = s.schema; entries = s.entries; next_id = s.next_id } };
 
     ghost invariant = { λ s.
-        IsSnapshot (record { schema = s.schema; entries = s.entries.items; next_id = s.next_id }) };
+        IsSnapshot (record { schema = s.schema; entries = s.entries; next_id = s.next_id }) };
 }
 
 impl Snapshot {
@@ -50,7 +50,7 @@ impl Snapshot {
     {
         Snapshot {
             schema,
-            entries: Vec::new(alloc),
+            entries: EntryList::new(alloc),
             next_id: 0,
         }
     }
@@ -64,7 +64,7 @@ impl Snapshot {
     }
 
     /// The segments, by rising numbers.
-    pub fn entries(&self) -> &[Entry]
+    pub fn entries(&self) -> &EntryList
         ensures entries { result.now ≡ self.now.entries }
         ensures snapshot { IsSnapshot self.now }
     {
@@ -72,9 +72,9 @@ impl Snapshot {
     }
 
     /// The snapshot of these segments.
-    pub(crate) fn of(schema: Schema, entries: Vec<Entry>, next_id: u64) -> Snapshot
-        requires { IsSnapshot (record { schema = schema; entries = entries.items; next_id = next_id }) }
-        ensures { result ≡ record { schema = schema; entries = entries.items; next_id = next_id } }
+    pub(crate) fn of(schema: Schema, entries: EntryList, next_id: u64) -> Snapshot
+        requires { IsSnapshot (record { schema = schema; entries = entries; next_id = next_id }) }
+        ensures { result ≡ record { schema = schema; entries = entries; next_id = next_id } }
     {
         Snapshot {
             schema,
@@ -128,7 +128,7 @@ impl Snapshot {
         let commit = self.prepare_commit(alloc, batch, cut)?;
         let jobs = commit.jobs(alloc)?;
         let entries = entries_in_turn(alloc, &jobs)?;
-        commit.finish(entries)
+        commit.finish(alloc, entries)
     }
 
     /// A merge that is begun, run and ended at once, with the refusals of these three.
@@ -155,7 +155,8 @@ impl Snapshot {
         ensures fits { IfOk result (λ job. Fits (merged_of job) self.now) }
         ensures snapshot { IsSnapshot self.now }
     {
-        let entries = named_entries(alloc, &self.entries, ids)?;
+        let all = self.entries.to_vec(alloc)?;
+        let entries = named_entries(alloc, &all, ids)?;
         Ok(MergeJob::new(entries))
     }
 
@@ -169,10 +170,12 @@ impl Snapshot {
             (ok_unless (end_fault self.now.next_id merged.now self.now.entries) (after_end merged.now self.now)) }
         ensures content { IfOk result (λ new. content new.entries ≡ content self.now.entries) }
     {
-        let entries = match end_entries(alloc, &self.entries, merged, self.next_id) {
+        let all = self.entries.to_vec(alloc)?;
+        let entries = match end_entries(alloc, &all, merged, self.next_id) {
             Ok(entries) => entries,
             Err(refusal) => return Err(refusal),
         };
+        let entries = EntryList::new(alloc).with_more(alloc, entries)?;
         let schema = self.schema.clone()?;
         Ok(Snapshot {
             schema,
@@ -194,7 +197,8 @@ impl Snapshot {
         ensures candidates { IfOk result (λ found. map (λ c. c.items) found.items ≡ candidate_ids self.now.entries) }
         ensures memory { IsOkUnless result Refusal.Memory }
     {
-        candidates(alloc, &self.entries)
+        let entries = self.entries.to_vec(alloc)?;
+        candidates(alloc, &entries)
     }
 
     /// The segments that are worth merging by a policy, by their numbers: each list is one merge.
@@ -205,16 +209,17 @@ impl Snapshot {
             map (λ c. c.items) found.items ≡ candidate_ids_by policy.now self.now.entries) }
         ensures memory { IsOkUnless result Refusal.Memory }
     {
-        candidates_by(alloc, policy, &self.entries)
+        let entries = self.entries.to_vec(alloc)?;
+        candidates_by(alloc, policy, &entries)
     }
 }
 
 /// How large segments are.
-fn infos(alloc: Global, entries: &[Entry]) -> Result<Vec<SegmentInfo>, AllocError>
+fn infos(alloc: Global, entries: &EntryList) -> Result<Vec<SegmentInfo>, AllocError>
     ensures { IfOk result (λ infos. infos.items ≡ map info_of entries.now) }
 {
     let mut infos = Vec::with_capacity(alloc, entries.len())?;
-    for entry in entries {
+    for entry in entries.iter() {
         infos.push(entry.info())?;
     }
     Ok(infos)

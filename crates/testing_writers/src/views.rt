@@ -34,7 +34,7 @@ fn list_live(list: &mut String, entry: &Entry) -> Result<(), AllocError> {
 
 /// Lists what a searcher finds, segment by segment.
 fn list_found(list: &mut String, searcher: &Searcher) -> Result<(), AllocError> {
-    for entry in searcher.snapshot().entries() {
+    for entry in searcher.snapshot().entries().iter() {
         list_live(list, entry)?;
     }
     Ok(())

@@ -4,11 +4,12 @@ ghost use Rattle.fts_model.specs.Operations.{survives};
 ghost use Rattle.fts_segment.specs.Segments.{AllFit};
 ghost use Rattle.fts_model.specs.Limits.{most_built};
 ghost use Rattle.fts_snapshots.specs.Commits.{struck, fresh, fresh_from};
+ghost use Rattle.fts_snapshots.specs.EntryLists.{entries_ahead};
 ghost use Rattle.fts_snapshots.specs.Jobs.{entry_of};
 
 use crate::commits::group::Group;
 use crate::commits::new_segment::NewSegment;
-use crate::entries::Entry;
+use crate::entries::{Entry, EntryIter};
 use fts_merge::strike;
 use fts_model::{Document, Op, Refusal, Schema, Stamped};
 use fts_pack::bits::Bits;
@@ -92,20 +93,20 @@ fn fresh(alloc: Global, ops: &[Stamped<Op>], new: &NewSegment<'_>) -> Result<Ent
     Ok(Entry::new(alloc, new.id, segment, live)?)
 }
 
-/// The jobs of a commit: one for each old segment, and then one for each group of adds, whose segments are numbered
-/// from `id` on.
+/// The jobs of a commit: one for each of these old segments, and then one for each group of adds, whose segments are
+/// numbered from `id` on.
 pub(crate) fn commit_jobs<'a>(
     alloc: Global,
     schema: &'a Schema,
     ops: &'a [Stamped<Op>],
-    entries: &'a [Entry],
+    entries: EntryIter<'a>,
     id: u64,
     groups: &'a [Group],
 ) -> Result<Vec<CommitJob<'a>>, AllocError>
     requires room { id + length groups.now ≤ 2 ^ 62 }
     requires fit { All (AllFit schema.now) groups.now }
     ensures { IfOk result (λ jobs. map entry_of jobs.items
-        ≡ map (struck ops.now) entries.now ++ fresh_from schema.now ops.now id groups.now) }
+        ≡ map (struck ops.now) (entries_ahead entries.entry) ++ fresh_from schema.now ops.now id groups.now) }
 {
     let mut jobs = Vec::new(alloc);
     for entry in entries {

@@ -8,7 +8,7 @@ ghost use Rattle.fts_snapshots.specs.Jobs.{entry_of};
 ghost use Rattle.fts_snapshots.specs.PreparedCommits.{entries_kept, entries_left, prepared};
 ghost use Rattle.fts_snapshots.specs.Snapshots.{IsBehind, after_commit, commit_fault, content_of};
 
-use crate::commits::commit::jobs_of_batch;
+use crate::commits::commit::{entries_after, jobs_of_batch};
 use crate::commits::group::{Group, groups};
 use crate::commits::jobs::CommitJob;
 use crate::entries::{Entry, are_used_up};
@@ -67,7 +67,8 @@ impl<'a> PreparedCommit<'a> {
         })
     }
 
-    /// The jobs: one for each segment that is there, and then one for each new one, in the order of their first adds.
+    /// The jobs: if the batch has a delete, one for each segment that is there; and then one for each new one, in the
+    /// order of their first adds.
     pub fn jobs(&self, alloc: Global) -> Result<Vec<CommitJob<'_>>, AllocError>
         ensures { IfOk result (λ jobs. map entry_of jobs.items ≡ entries_left self.now) }
     {
@@ -82,8 +83,9 @@ impl<'a> PreparedCommit<'a> {
         )
     }
 
-    /// The snapshot after the commit, of the segments that its jobs left, without those that have no live document.
-    pub fn finish(&self, entries: Vec<Entry>) -> Result<Snapshot, Refusal>
+    /// The snapshot after the commit, of the segments that its jobs left, without those that have no live document. If
+    /// the batch has no delete, they come after the segments that were there, which stay as they are.
+    pub fn finish(&self, alloc: Global, entries: Vec<Entry>) -> Result<Snapshot, Refusal>
         requires { entries.items ≡ entries_kept self.now }
         ensures snapshot { IfOk result (λ new.
             new ≡ after_commit self.now.cut self.now.batch self.now.snapshot) }
@@ -94,6 +96,7 @@ impl<'a> PreparedCommit<'a> {
         let snapshot = self.snapshot;
         let schema = snapshot.schema().clone()?;
         let next_id = snapshot.next_id() + self.groups.len() as u64;
+        let entries = entries_after(alloc, self.batch, snapshot.entries(), entries)?;
         Ok(Snapshot::of(schema, entries, next_id))
     }
 }

@@ -12,15 +12,15 @@ use Rattle.fts_snapshots.proofs.SourceLemmas.{unless_ok}
 use Rattle.fts_snapshots.proofs.snapshot.Snapshot.begin_merge.Goals as goal
 
 pub named_entries-requires : goal.named_entries-requires
-named_entries-requires c = subst IdsRise (sym c.deref.ensures.value) c.self.invariant.ids
+named_entries-requires c = subst IdsRise (sym (c.deref.ensures.value ∙ c.in_ok-all.ensures)) c.self.invariant.ids
 
 pub new-requires : goal.new-requires
 new-requires c =
     let inside = c.self.inside in
     let ids = c.args.ids.now in
-    let es = inside.entries.items in
+    let es = inside.entries in
     let s = snapshot_with inside.schema es inside.next_id in
-    let outcome = subst (λ (fs : List EntryValue). ok_unless (names_fault fs ids) (entries_at fs ids) ≡ Ok c.in_ok-entries.entries.items) c.deref.ensures.value
+    let outcome = subst (λ (fs : List EntryValue). ok_unless (names_fault fs ids) (entries_at fs ids) ≡ Ok c.in_ok-entries.entries.items) (c.deref.ensures.value ∙ c.in_ok-all.ensures)
     c.in_ok-entries.ensures in
     let both = unless_ok (names_fault es ids) (entries_at es ids) c.in_ok-entries.entries.items outcome in
     subst IsJob (sym both.1) (job_begun s ids c.self.invariant both.0)
@@ -28,8 +28,8 @@ new-requires c =
 pub returns-clause-job : goal.returns-clause-job
 returns-clause-job c =
     let ids = c.args.ids.now in
-    let es = c.self.inside.entries.items in
-    let outcome = subst (λ (fs : List EntryValue). ok_unless (names_fault fs ids) (entries_at fs ids) ≡ Ok c.in_ok-entries.entries.items) c.deref.ensures.value
+    let es = c.self.inside.entries in
+    let outcome = subst (λ (fs : List EntryValue). ok_unless (names_fault fs ids) (entries_at fs ids) ≡ Ok c.in_ok-entries.entries.items) (c.deref.ensures.value ∙ c.in_ok-all.ensures)
     c.in_ok-entries.ensures in
     subst (λ (s : SnapshotValue). ok_unless (names_fault s.entries ids) (entries_at s.entries ids) ≡ Ok c.new.result) c.self.view_is
     (outcome ∙ ap Ok (sym c.new.ensures))
@@ -38,9 +38,9 @@ pub returns-clause-fits : goal.returns-clause-fits
 returns-clause-fits c =
     let inside = c.self.inside in
     let ids = c.args.ids.now in
-    let es = inside.entries.items in
+    let es = inside.entries in
     let s = snapshot_with inside.schema es inside.next_id in
-    let outcome = subst (λ (fs : List EntryValue). ok_unless (names_fault fs ids) (entries_at fs ids) ≡ Ok c.in_ok-entries.entries.items) c.deref.ensures.value
+    let outcome = subst (λ (fs : List EntryValue). ok_unless (names_fault fs ids) (entries_at fs ids) ≡ Ok c.in_ok-entries.entries.items) (c.deref.ensures.value ∙ c.in_ok-all.ensures)
     c.in_ok-entries.ensures in
     let both = unless_ok (names_fault es ids) (entries_at es ids) c.in_ok-entries.entries.items outcome in
     subst (λ (job : List EntryValue). Fits (merged_of job) c.args.self.now) (sym (c.new.ensures ∙ both.1))

@@ -2,7 +2,7 @@
 use Rattle.std.proofs.Common.{map, filter, ap, ◌∙◌}
 use Rattle.fts_snapshots.specs.Entries.{has_live}
 use Rattle.fts_snapshots.specs.Jobs.{entry_of}
-use Rattle.fts_snapshots.proofs.PreparedLemmas.{gives_commit, not_prepared}
+use Rattle.fts_snapshots.proofs.PreparedLemmas.{gives_commit}
 use Rattle.fts_snapshots.proofs.snapshot.Snapshot.commit_alone.Goals as goal
 
 pub finish-requires : goal.finish-requires

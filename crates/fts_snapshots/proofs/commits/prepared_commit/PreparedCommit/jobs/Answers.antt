@@ -1,5 +1,5 @@
 -- What is left of the proof of `commits::prepared::PreparedCommit::jobs`.
-use Rattle.std.proofs.Common.{All, List, ap, subst, sym, ◌∙◌}
+use Rattle.std.proofs.Common.{All, List, subst, sym, ◌∙◌}
 use Rattle.fts_model.specs.declared.schema.Field.{Field}
 use Rattle.fts_segment.specs.Segments.{AllFit}
 use Rattle.fts_snapshots.proofs.FitLemmas.{groups_fit}
