@@ -208,10 +208,14 @@ class Store:
         if not operations:
             raise ValueError("a transaction has at least one operation")
         pending = Pending(operations, needs)
-        self._turns.do(pending)
+        self.do([pending])
         if pending.error:
             raise pending.error
         return Done(tuple(pending.ids), pending.commit)
+
+    def do(self, transactions: "Sequence[Pending]") -> None:
+        """Does transactions, each whole or not at all, and notes in each what came of it."""
+        self._turns.do(*transactions)
 
     def _lead(self, jobs: "list[Union[Pending, _Alone]]") -> int:
         try:
