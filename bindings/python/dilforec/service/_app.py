@@ -76,7 +76,7 @@ class Application:
         }
 
     def __call__(self, environ: WSGIEnvironment, start_response: StartResponse) -> "Iterable[bytes]":
-        begun: Optional[Begun] = environ.get(BEGUN)
+        begun: Optional[Begun] = environ.pop(BEGUN, None)
         if begun is None:
             begun = self.begin(environ)
             self.do([begun])
