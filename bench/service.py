@@ -122,7 +122,8 @@ def serve_fts(path: str, shares: bool) -> None:
     bound.bind(("127.0.0.1", 0))
     port = bound.getsockname()[1]
     store: Any = FtsStore(path, shares)
-    made = server(application(store, hosts=[f"127.0.0.1:{port}"]), bound, threads=16, clear_untrusted_proxy_headers=False)
+    served = application(store, hosts=[f"127.0.0.1:{port}"])
+    made = server(served, bound, threads=16, clear_untrusted_proxy_headers=False)
     print(f"at http://127.0.0.1:{port}/", flush=True)
     made.run()
 

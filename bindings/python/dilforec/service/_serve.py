@@ -51,7 +51,8 @@ def parser() -> argparse.ArgumentParser:
                        help="another name that clients may use for it, as behind a proxy; again for more")
     serve.add_argument("--token-file", metavar="FILE", help="a token of 16 letters or more, for what changes something")
     serve.add_argument("--token-reads", action="store_true", help="the token is needed for what reads too")
-    serve.add_argument("--threads", metavar="N", type=_at_least(1), default=16, help="requests at a time (16)")
+    serve.add_argument("--threads", metavar="N", type=_at_least(1), default=16,
+                       help="requests at a time beside small changes (16)")
     serve.add_argument("--connections", metavar="N", type=_at_least(1), default=4000, help="open connections (4000)")
     serve.add_argument("--idle", metavar="SECONDS", type=_at_least(1), default=60,
                        help="a connection that is silent so long is closed (60)")

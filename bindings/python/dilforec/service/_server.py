@@ -66,9 +66,10 @@ class _Channel(_HTTPChannel):  # type: ignore[misc]
             self._flush_exception(self._flush_some, do_close=False)
 
     def writable(self) -> bool:
+        if not super().writable():
+            return False
         # While the thread of a request sends, the server's loop would go round and round, and keep it from its turn.
-        is_sent = self.requests and self.total_outbufs_len < _SENT_WHOLE and not self.will_close
-        return not is_sent and bool(super().writable())
+        return not self.requests or self.total_outbufs_len >= _SENT_WHOLE or bool(self.will_close)
 
 
 class _Changes:
@@ -106,7 +107,7 @@ class _Changes:
             channels = [self._waiting.get()]
             while not self._waiting.empty():
                 channels.append(self._waiting.get())
-            self._answer([channel for channel in channels if channel])
+            self._answer([channel for channel in channels if channel is not None])
 
     def _answer(self, channels: "list[Any]") -> None:
         begun: "list[Begun]" = []
