@@ -77,10 +77,7 @@ class Application:
 
     def __call__(self, environ: WSGIEnvironment, start_response: StartResponse) -> "Iterable[bytes]":
         begun: Optional[Begun] = environ.pop(BEGUN, None)
-        if begun is None:
-            begun = self.begin(environ)
-            self.do([begun])
-        request, told = begun
+        request, told = begun or self.begin(environ)
         response = told if isinstance(told, Response) else self._tried(request, partial(self._done, told))
         if response.status >= 400:
             self._metrics.count("failures_total" if response.status >= 500 else "refusals_total")
@@ -248,15 +245,17 @@ class Application:
         return Change(Pending(operations, id), HTTPStatus.OK, time.perf_counter())
 
     def _done(self, change: Change) -> Response:
-        """What came of a change."""
-        self._metrics.took("transactions", change.began)
+        """What came of a change, which is done now if it wasn't."""
         transaction = change.transaction
+        if not transaction.is_done:
+            self._store.do([transaction])
+        self._metrics.took("transactions", change.began)
         error = transaction.error
         if isinstance(error, TransactionRefused):
             refusal = error.refusal
             raise bad(refusal.name, str(refusal), change.places[error.number - 1] if change.places else None)
-        if not transaction.commit:
-            raise error or RuntimeError("the transaction wasn't done")
+        if error:
+            raise error
         ids = ",".join(map(str, transaction.ids))
         return Response(change.status, f'{{"ids":[{ids}],"commit":{transaction.commit}}}\n'.encode())
 

@@ -58,14 +58,17 @@ class _Channel(_HTTPChannel):  # type: ignore[misc]
         return begun
 
     def task_class(self, channel: Any, request: Any) -> _Task:
+        """The request as it was begun, if it was."""
         task, self._begun = self._begun or _Task(self, request), None
         return task
 
     def send_whole(self) -> None:
+        """Sends what waits, as far as the client takes it now."""
         with self.outbuf_lock:
             self._flush_exception(self._flush_some, do_close=False)
 
     def writable(self) -> bool:
+        """Whether the server's loop has something to send."""
         if not super().writable():
             return False
         # While the thread of a request sends, the server's loop would go round and round, and keep it from its turn.

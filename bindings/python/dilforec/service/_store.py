@@ -223,7 +223,7 @@ class Store:
         except BaseException:
             # The thread was interrupted, and all of them count as done.
             for job in jobs:
-                if not (job.error or isinstance(job, Pending) and job.commit):
+                if not (job.is_done if isinstance(job, Pending) else job.error):
                     job.error = NotWritten("nothing was done: the thread whose turn it was was interrupted")
             raise
 
