@@ -29,7 +29,7 @@ import sys
 import tempfile
 import threading
 import time
-from collections.abc import Iterator
+from collections.abc import Iterator, Sequence
 from contextlib import contextmanager
 from typing import Any, Optional
 
@@ -40,8 +40,10 @@ if not os.environ.get("PYTHONPATH"):
 
 import corpus  # noqa: E402
 from dilforec import Field, Top  # noqa: E402
-from dilforec.service import Answer, Done, Hit, Store, Transaction, application  # noqa: E402
+from dilforec.service import Answer, Hit, Store, application  # noqa: E402
+from dilforec.service import _lines as lines  # noqa: E402
 from dilforec.service._turns import Turns  # noqa: E402
+from dilforec.service._writer import Pending  # noqa: E402
 
 FIELDS = [Field(**field) for field in corpus.SCHEMA["schema"]]
 CLIENTS = (1, 4, 16)
@@ -62,7 +64,7 @@ class FtsStore:
             CREATE VIRTUAL TABLE IF NOT EXISTS bodies USING fts5(body, content='');
         """)
         self.last = self.writer.execute("SELECT coalesce(max(id), 0) FROM documents").fetchone()[0]
-        self.turns: Turns[Any] = Turns(self.lead if shares else self.lead_one)
+        self.turns: Turns[Pending] = Turns(self.lead if shares else self.lead_one)
 
     def opened(self) -> sqlite3.Connection:
         connection = sqlite3.connect(self.path, check_same_thread=False, isolation_level=None)
@@ -70,29 +72,26 @@ class FtsStore:
         connection.execute("PRAGMA cache_size = -262144")
         return connection
 
-    def lead(self, jobs: list[Any]) -> int:
+    def lead(self, jobs: list[Pending]) -> int:
         self.writer.execute("BEGIN IMMEDIATE")
         for job in jobs:
-            for operation in job["operations"]:
+            for operation in job.operations:
                 self.last += 1
                 document = json.loads(operation.text)
                 self.writer.execute("INSERT INTO documents VALUES (?, ?, ?, ?)",
                                     (self.last, document["tag"], document["price"], operation.text.decode()))
                 self.writer.execute("INSERT INTO bodies (rowid, body) VALUES (?, ?)", (self.last, document["body"]))
-                job["ids"].append(self.last)
+                job.ids.append(self.last)
         self.writer.execute("COMMIT")
+        for job in jobs:
+            job.commit = self.last
         return len(jobs)
 
-    def lead_one(self, jobs: list[Any]) -> int:
+    def lead_one(self, jobs: list[Pending]) -> int:
         return self.lead(jobs[:1])
 
-    @contextmanager
-    def transaction(self) -> Iterator[Transaction]:
-        transaction = Transaction()
-        yield transaction
-        job: dict[str, Any] = {"operations": transaction._operations, "ids": []}
-        self.turns.do(job)
-        transaction._done = Done(tuple(job["ids"]), self.last)
+    def do(self, transactions: Sequence[Pending]) -> None:
+        self.turns.do(*transactions)
 
     @contextmanager
     def snapshot(self) -> Iterator[FtsStore]:
@@ -116,7 +115,7 @@ class FtsStore:
 
 def serve_fts(path: str, shares: bool) -> None:
     """Serves FTS5 as the command serves a store."""
-    import waitress
+    from dilforec.service._server import server
 
     logging.getLogger("waitress.queue").setLevel(logging.ERROR)
     bound = socket.socket()
@@ -124,21 +123,20 @@ def serve_fts(path: str, shares: bool) -> None:
     port = bound.getsockname()[1]
     store: Any = FtsStore(path, shares)
     served = application(store, hosts=[f"127.0.0.1:{port}"])
-    server = waitress.create_server(served, sockets=[bound], threads=16, asyncore_use_poll=True, ident=None)
+    made = server(served, bound, threads=16, clear_untrusted_proxy_headers=False)
     print(f"at http://127.0.0.1:{port}/", flush=True)
-    server.run()
+    made.run()
 
 
 def filled(folder: pathlib.Path, count: int) -> None:
     """A journal and a database with the same documents."""
     documents = [document._asdict() for document in corpus.documents(count)]
-    fts: Any = FtsStore(str(folder / "database"))
+    fts = FtsStore(str(folder / "database"))
     with Store(FIELDS, folder / "journal") as store:
         for start in range(0, count, 10_000):
-            for each in store, fts:
-                with each.transaction() as transaction:
-                    for document in documents[start : start + 10_000]:
-                        transaction.add(document)
+            operations = tuple(map(lines.add, documents[start : start + 10_000]))
+            store.do([Pending(operations)])
+            fts.do([Pending(operations)])
         store.compact()
         fts.writer.execute("INSERT INTO bodies (bodies) VALUES ('optimize')")
     (folder / "schema.json").write_text(json.dumps([vars(field) for field in FIELDS]))

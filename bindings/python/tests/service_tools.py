@@ -113,10 +113,10 @@ def need_waitress():
 class Server:
     """A service in a process of its own, at a port that is free."""
 
-    def __init__(self, *words):
+    def __init__(self, *words, program=("-m", "dilforec")):
         self.log = tempfile.TemporaryFile()
         self.process = subprocess.Popen(
-            [sys.executable, "-m", "dilforec", "serve", "--listen", "127.0.0.1:0", *map(str, words)],
+            [sys.executable, *program, "serve", "--listen", "127.0.0.1:0", *map(str, words)],
             stdout=subprocess.PIPE, stderr=self.log,
         )
         self.ready = self.process.stdout.readline().decode()

@@ -1,4 +1,5 @@
 """The service over HTTP, as its command serves it: answers, refusals, and clients that mean no good."""
+import concurrent.futures
 import contextlib
 import json
 import os
@@ -27,6 +28,16 @@ SCHEMA = [
 ]
 
 
+# The command over a disk whose syncs take half a second.
+SLOWLY = """
+import sys, time
+from dilforec.service import _disk, _serve
+sync = _disk._sync
+_disk._sync = lambda fd: (time.sleep(0.5), sync(fd))
+sys.exit(_serve.main(sys.argv[1:]))
+"""
+
+
 class Served(Stored):
     def setUp(self):
         need_waitress()
@@ -34,8 +45,8 @@ class Served(Stored):
         self.schema = self.folder / "schema.json"
         self.schema.write_text(json.dumps(SCHEMA))
 
-    def serve(self, *words, journal=None):
-        server = Server("--schema", self.schema, "--journal", journal or self.journal, *words)
+    def serve(self, *words, journal=None, **more):
+        server = Server("--schema", self.schema, "--journal", journal or self.journal, *words, **more)
         self.addCleanup(server.__exit__)
         return server
 
@@ -298,6 +309,41 @@ class Connections(Served):
         thread.join()
         with Store([dilforec.Field(**field) for field in SCHEMA], self.journal) as store:
             self.assertGreaterEqual(len(store), max(last))
+
+    def test_end_in_progress(self):
+        """What is on its way to the disk when it ends is answered."""
+        server = self.serve(program=("-c", SLOWLY))
+        sock, before = self.opened(server), self.journal.stat().st_size
+        sock.sendall(b"".join(self.request(server, "the last")))
+        while self.journal.stat().st_size == before:
+            time.sleep(0.001)
+        self.assertEqual(server.stop(signal.SIGTERM), 0)
+        self.assertEqual(self.answers(sock, 1), [1])
+
+    def test_together(self):
+        """Changes that wait at the same time share a sync, and each is answered by itself."""
+        server = self.serve(program=("-c", SLOWLY))
+        self.assertEqual(server.ask("POST", "/documents", [{"title": "a"}, {"title": "b"}])[0], 201)
+        asked = [
+            ("POST", "/documents", {"title": "c"}, 201, None), ("POST", "/documents", b"{", 400, "BadJson"),
+            ("POST", "/documents", {"year": "x"}, 400, "WrongKind"), ("PUT", "/documents/1", {"title": "d"}, 200, None),
+            ("PUT", "/documents/99", {}, 404, "NoSuchDocument"), ("DELETE", "/documents/2", None, 200, None),
+            ("POST", "/documents", [{}, {"none": 1}], 400, "UnknownField"),
+            ("PATCH", "/documents", None, 405, "MethodNotAllowed"),
+            ("POST", "/transaction", {"add": {"title": "c"}}, 201, None), ("POST", "/documents/", {}, 404, "NotFound"),
+            ("POST", "/documents", {"title": "long " * 20_000}, 201, None), ("POST", "/documents", [], 400, "Empty"),
+        ] * 2
+        with concurrent.futures.ThreadPoolExecutor(len(asked)) as pool:
+            answers = list(pool.map(lambda each: server.ask(*each[:3]), asked))
+        # The second DELETE finds nothing, whichever that is.
+        gone = [(status, told) for (method, *_), (status, told) in zip(asked, answers) if method == "DELETE"]
+        self.assertEqual(sorted(status for status, _ in gone), [200, 404])
+        for (method, path, _, status, error), (found, told) in zip(asked, answers):
+            if method != "DELETE":
+                self.assertEqual((found, told.get("error")), (status, error), (method, path, told))
+        self.assertLess(len({told["commit"] for _, told in answers if "commit" in told}), 6)
+        found = server.ask("GET", "/search?q=c")[1]
+        self.assertEqual((found["count"], sorted(hit["document"]["title"] for hit in found["hits"])), (4, ["c"] * 4))
 
 
 class Starts(Served):

@@ -1,5 +1,6 @@
 """The store without HTTP: what it answers, and what is left after faults of its disk and its memory."""
 import pathlib
+import random
 import re
 import subprocess
 import sys
@@ -320,9 +321,9 @@ class Threads(Stored):
         led, interrupted = [], []
 
         class Interrupted(_turns._Waiting):
-            def __init__(self, job):
-                super().__init__(job)
-                lock = self.woken
+            def __init__(self, jobs):
+                super().__init__(jobs)
+                (job,), lock = jobs, self.woken
 
                 def acquire(blocking=True):
                     if blocking and job % 3 == 1:
@@ -350,6 +351,26 @@ class Threads(Stored):
         self.assertEqual(len(led), len(set(led)))
         self.assertEqual(set(range(61)) - set(interrupted) - set(led), set())
         self.assertGreater(len(interrupted), 5)
+
+    def test_jobs_at_once(self):
+        """Threads that hand in several jobs at a time get all of them done, in their order, however many are taken."""
+        done, early = [], []
+
+        def lead(jobs):
+            time.sleep(0.0005)
+            taken = jobs[: random.randint(1, 5)]
+            done.extend(taken)
+            return len(taken)
+
+        def call(number):
+            jobs = [(number, place) for place in range(number % 7)]
+            turns.do(*jobs)
+            if [job for job in done if job[0] == number] != jobs:
+                early.append(number)
+
+        turns = _turns.Turns(lead)
+        run_all(call, 60)
+        self.assertEqual((early, len(done)), ([], sum(number % 7 for number in range(60))))
 
     def test_readers(self):
         """A reader in a loop never sees half a transaction, and commits never fall."""

@@ -3,21 +3,27 @@ from __future__ import annotations
 
 import logging
 import re
+import time
 from collections.abc import Callable, Iterable
+from functools import partial
 from http import HTTPStatus
-from typing import TYPE_CHECKING, Any
+from typing import TYPE_CHECKING, Any, NamedTuple, Optional, TypeVar, Union
 
 from dilforec.refusals import Refused, Syntax
+from dilforec.service import _lines as lines
 from dilforec.service._errors import Busy, NoSuchDocument, TransactionRefused, Unavailable
 from dilforec.service._guard import Guard
 from dilforec.service._http import HttpError, Request, Response, answer, bad, failure
 from dilforec.service._metrics import Metrics, resident_bytes
 from dilforec.service._page import PAGE, POLICY
-from dilforec.service._store import Done, Store, Transaction
+from dilforec.service._store import Store
+from dilforec.service._writer import Pending
 from dilforec.values import Top, as_json
 
 if TYPE_CHECKING:
     from _typeshed.wsgi import StartResponse, WSGIEnvironment
+
+T = TypeVar("T")
 
 log = logging.getLogger("dilforec.service")
 
@@ -29,14 +35,36 @@ _HEADERS = ("Cache-Control", "no-store"), ("X-Content-Type-Options", "nosniff"),
 
 _DOCUMENT = re.compile("/documents/(0|[1-9][0-9]{0,19})")
 
+# Where the environment of a request has what was begun of it.
+BEGUN = "dilforec.begun"
+
+
+class Change(NamedTuple):
+    """A change that a request asks for. If its operations are a body's, `places` are their places in it, from 1."""
+
+    transaction: Pending
+    status: HTTPStatus
+    began: float
+    places: "Optional[list[int]]" = None
+
+
+class Begun(NamedTuple):
+    """A request that was looked at: its answer, or the change that has to be done before it is answered."""
+
+    request: Request
+    told: Union[Response, Change]
+
 
 class Application:
-    """Answers requests from a store. Any WSGI server runs it that has one process; several threads may call it."""
+    """Answers requests from a store. Any WSGI server runs it that has one process; several threads may call it.
+
+    A server may have a request begun by itself, and the changes of several done at once, before it calls for answers.
+    """
 
     def __init__(self, store: Store, guard: Guard, body_limit: int) -> None:
         self._store, self._guard, self._body_limit = store, guard, body_limit
         self._metrics = Metrics()
-        self._calls: "dict[str, dict[str, Callable[[Request], Response]]]" = {
+        self._calls: "dict[str, dict[str, Callable[[Request], Union[Response, Change]]]]" = {
             "/": {"GET": self._page},
             "/documents": {"GET": self._list, "POST": self._add},
             "/documents/": {"GET": self._get, "PUT": self._replace, "DELETE": self._delete},
@@ -48,8 +76,9 @@ class Application:
         }
 
     def __call__(self, environ: WSGIEnvironment, start_response: StartResponse) -> "Iterable[bytes]":
-        request = Request(environ, self._body_limit)
-        response = self._response(request)
+        begun: Optional[Begun] = environ.pop(BEGUN, None)
+        request, told = begun or self.begin(environ)
+        response = told if isinstance(told, Response) else self._tried(request, partial(self._done, told))
         if response.status >= 400:
             self._metrics.count("failures_total" if response.status >= 500 else "refusals_total")
         log.debug("%s %s %d", request.method, request.path, response.status)
@@ -58,10 +87,27 @@ class Application:
         ])
         return [b"" if request.method == "HEAD" else response.body]
 
-    def _response(self, request: Request) -> Response:
+    def begin(self, environ: WSGIEnvironment) -> Begun:
+        """Reads a request, and does all of it but a change."""
+        request = Request(environ, self._body_limit)
+        return Begun(request, self._tried(request, partial(self._called, request)))
+
+    def is_change(self, method: str, path: str) -> bool:
+        """Whether a request is for a change of documents, if it is for anything."""
+        return method not in ("GET", "HEAD") and path.startswith(("/documents", "/transaction"))
+
+    def do(self, begun: "Iterable[Begun]") -> None:
+        """Does the changes that were begun."""
+        self._store.do([told.transaction for _, told in begun if isinstance(told, Change)])
+
+    def _called(self, request: Request) -> "Union[Response, Change]":
+        self._guard.host(request)
+        return self._call(request)(request)
+
+    def _tried(self, request: Request, call: "Callable[[], T]") -> "Union[T, Response]":
+        """What a call gives, or the answer that tells its error."""
         try:
-            self._guard.host(request)
-            return self._call(request)(request)
+            return call()
         except HttpError as error:
             return failure(error)
         except NoSuchDocument as error:
@@ -79,7 +125,7 @@ class Application:
             words = "the service failed; its log says how"
             return failure(HttpError(HTTPStatus.INTERNAL_SERVER_ERROR, "Failed", words))
 
-    def _call(self, request: Request) -> "Callable[[Request], Response]":
+    def _call(self, request: Request) -> "Callable[[Request], Union[Response, Change]]":
         """The call of a path and a method, if the request may do it."""
         calls = self._calls.get("/documents/" if _DOCUMENT.fullmatch(request.path) else request.path)
         if calls is None or request.path == "/documents/":
@@ -163,41 +209,55 @@ class Application:
 
     # What changes something
 
-    def _add(self, request: Request) -> Response:
-        return self._posted(request, lambda transaction, value: transaction.add(value))
+    def _add(self, request: Request) -> Change:
+        return self._posted(request, lines.add)
 
-    def _transaction(self, request: Request) -> Response:
-        return self._posted(request, lambda transaction, value: transaction.command(value))
+    def _transaction(self, request: Request) -> Change:
+        return self._posted(request, lines.command)
 
-    def _posted(self, request: Request, each: "Callable[[Transaction, Any], None]") -> Response:
-        """Does a transaction of the body's values. A refusal tells the line, or the place in a list."""
+    def _posted(self, request: Request, operation: "Callable[[Any], lines.Operation]") -> Change:
+        """A transaction of the body's values. A refusal tells the line, or the place in a list."""
         request.parameters()
+        began = time.perf_counter()
         places: "list[int]" = []
-        try:
-            with self._metrics.timed("transactions"), self._store.transaction() as transaction:
-                for place, value in request.values():
-                    places.append(place)
-                    _collected(transaction, value, each, place)
-                if not places:
-                    raise bad("Empty", "there is nothing in the body")
-        except TransactionRefused as error:
-            refusal = error.refusal
-            raise bad(refusal.name, str(refusal), places[error.number - 1]) from None
-        return _done(transaction.done, HTTPStatus.CREATED)
+        operations: "list[lines.Operation]" = []
+        for place, value in request.values():
+            places.append(place)
+            operations.append(_operation(operation, value, place))
+        if not places:
+            raise bad("Empty", "there is nothing in the body")
+        return Change(Pending(tuple(operations)), HTTPStatus.CREATED, began, places)
 
-    def _replace(self, request: Request) -> Response:
+    def _replace(self, request: Request) -> Change:
         request.parameters()
-        document = request.json()
+        document, id = request.json(), _id(request)
         try:
-            with self._metrics.timed("transactions"):
-                return _done(self._store.replace(_id(request), document))
+            return self._change_of(id, lines.delete("id", id), lines.add(document, id))
         except ValueError as error:
             raise bad("BadId", str(error)) from None
 
-    def _delete(self, request: Request) -> Response:
+    def _delete(self, request: Request) -> Change:
         request.parameters()
-        with self._metrics.timed("transactions"):
-            return _done(self._store.delete(_id(request)))
+        id = _id(request)
+        return self._change_of(id, lines.delete("id", id))
+
+    def _change_of(self, id: int, *operations: lines.Operation) -> Change:
+        return Change(Pending(operations, id), HTTPStatus.OK, time.perf_counter())
+
+    def _done(self, change: Change) -> Response:
+        """What came of a change, which is done now if it wasn't."""
+        transaction = change.transaction
+        if not transaction.is_done:
+            self._store.do([transaction])
+        self._metrics.took("transactions", change.began)
+        error = transaction.error
+        if isinstance(error, TransactionRefused):
+            refusal = error.refusal
+            raise bad(refusal.name, str(refusal), change.places[error.number - 1] if change.places else None)
+        if error:
+            raise error
+        ids = ",".join(map(str, transaction.ids))
+        return Response(change.status, f'{{"ids":[{ids}],"commit":{transaction.commit}}}\n'.encode())
 
     def _compact(self, request: Request) -> Response:
         request.parameters()
@@ -205,18 +265,13 @@ class Application:
         return answer(sizes._asdict())
 
 
-def _collected(transaction: Transaction, value: Any, each: "Callable[[Transaction, Any], None]", place: int) -> None:
+def _operation(operation: "Callable[[Any], lines.Operation]", value: Any, place: int) -> lines.Operation:
     try:
-        each(transaction, value)
+        return operation(value)
     except Refused as error:
         raise bad(error.name, str(error), place) from None
     except ValueError as error:
         raise bad("BadCommand", str(error), place) from None
-
-
-def _done(done: Done, status: HTTPStatus = HTTPStatus.OK) -> Response:
-    ids = ",".join(map(str, done.ids))
-    return Response(status, f'{{"ids":[{ids}],"commit":{done.commit}}}\n'.encode())
 
 
 def _id(request: Request) -> int:

@@ -30,10 +30,14 @@ class Metrics:
         try:
             yield
         finally:
-            seconds = time.perf_counter() - began
-            with self._lock:
-                self._counts[f"{name}_total"] = self._counts.get(f"{name}_total", 0) + 1
-                self._counts[f"{name}_seconds_total"] = self._counts.get(f"{name}_seconds_total", 0) + seconds
+            self.took(name, began)
+
+    def took(self, name: str, began: float) -> None:
+        """Counts one of a kind of calls, and its seconds since a time of `perf_counter`."""
+        seconds = time.perf_counter() - began
+        with self._lock:
+            self._counts[f"{name}_total"] = self._counts.get(f"{name}_total", 0) + 1
+            self._counts[f"{name}_seconds_total"] = self._counts.get(f"{name}_seconds_total", 0) + seconds
 
     def text(self, gauges: "dict[str, tuple[str, float]]") -> str:
         """Prometheus's text: the counts, and what is measured now, each with a sentence of help."""

@@ -2,7 +2,6 @@
 from __future__ import annotations
 
 import argparse
-import importlib
 import json
 import logging
 import os
@@ -14,7 +13,7 @@ import stat
 import sys
 import tempfile
 import time
-from collections.abc import Sequence
+from collections.abc import Callable, Sequence
 from contextlib import ExitStack, closing
 from types import FrameType
 from typing import Any, NoReturn, Optional
@@ -52,7 +51,8 @@ def parser() -> argparse.ArgumentParser:
                        help="another name that clients may use for it, as behind a proxy; again for more")
     serve.add_argument("--token-file", metavar="FILE", help="a token of 16 letters or more, for what changes something")
     serve.add_argument("--token-reads", action="store_true", help="the token is needed for what reads too")
-    serve.add_argument("--threads", metavar="N", type=_at_least(1), default=16, help="requests at a time (16)")
+    serve.add_argument("--threads", metavar="N", type=_at_least(1), default=16,
+                       help="requests at a time beside small changes (16)")
     serve.add_argument("--connections", metavar="N", type=_at_least(1), default=4000, help="open connections (4000)")
     serve.add_argument("--idle", metavar="SECONDS", type=_at_least(1), default=60,
                        help="a connection that is silent so long is closed (60)")
@@ -147,7 +147,7 @@ class _Progress:
 
 
 def _serve(given: argparse.Namespace) -> int:
-    waitress = _waitress()
+    make_server = _server()
     token = _token(given.token_file)
     if given.token_reads and token is None:
         raise Refusal("--token-reads needs --token-file")
@@ -161,9 +161,8 @@ def _serve(given: argparse.Namespace) -> int:
         path = given.journal or os.path.join(stack.enter_context(tempfile.TemporaryDirectory()), "example.journal")
         bound = stack.enter_context(closing(_bound(*given.listen)))
         store = stack.enter_context(_opened(given, path))
-        server = waitress.create_server(
-            _application(given, store, token, bound.getsockname()[1]), sockets=[bound], **_settings(given),
-        )
+        served = _application(given, store, token, bound.getsockname()[1])
+        server = make_server(served, bound, **_settings(given))
         host, port = bound.getsockname()[:2]
         host = f"[{host}]" if ":" in host else host
         print(f"{len(store):,} documents in {time.monotonic() - began:.1f} s, at http://{host}:{port}/", flush=True)
@@ -182,8 +181,9 @@ def _settings(given: argparse.Namespace) -> "dict[str, Any]":
     return {
         "threads": given.threads, "connection_limit": given.connections, "channel_timeout": given.idle,
         "cleanup_interval": max(1, given.idle // 2), "max_request_body_size": given.body + 1,
-        "max_request_header_size": 98_304, "asyncore_use_poll": True, "backlog": 1024,
-        "outbuf_high_watermark": 64 << 20, "ident": None, "clear_untrusted_proxy_headers": True,
+        "max_request_header_size": 98_304, "backlog": 1024, "outbuf_high_watermark": 64 << 20,
+        # Nothing reads them.
+        "clear_untrusted_proxy_headers": False,
     }
 
 
@@ -211,9 +211,10 @@ def _application(given: argparse.Namespace, store: Store, token: Optional[str], 
     return Application(store, Guard(hosts, token, given.token_reads, open_writes=not beyond), given.body)
 
 
-def _waitress() -> Any:
+def _server() -> "Callable[..., Any]":
     try:
-        return importlib.import_module("waitress")
+        from dilforec.service._server import server
+        return server
     except ImportError:
         raise Refusal(
             "waitress isn't there, which it needs to serve: install Debian's package python3-waitress, "

@@ -208,10 +208,14 @@ class Store:
         if not operations:
             raise ValueError("a transaction has at least one operation")
         pending = Pending(operations, needs)
-        self._turns.do(pending)
+        self.do([pending])
         if pending.error:
             raise pending.error
         return Done(tuple(pending.ids), pending.commit)
+
+    def do(self, transactions: "Sequence[Pending]") -> None:
+        """Does transactions, each whole or not at all, and notes in each what came of it."""
+        self._turns.do(*transactions)
 
     def _lead(self, jobs: "list[Union[Pending, _Alone]]") -> int:
         try:
@@ -219,7 +223,7 @@ class Store:
         except BaseException:
             # The thread was interrupted, and all of them count as done.
             for job in jobs:
-                if not (job.error or isinstance(job, Pending) and job.commit):
+                if not (job.is_done if isinstance(job, Pending) else job.error):
                     job.error = NotWritten("nothing was done: the thread whose turn it was was interrupted")
             raise
 

@@ -9,9 +9,9 @@ J = TypeVar("J")
 
 
 class _Waiting(Generic[J]):
-    def __init__(self, job: J) -> None:
-        self.job = job
-        self.done = False
+    def __init__(self, jobs: "list[J]") -> None:
+        # Those that aren't done.
+        self.jobs = jobs
         # The thread was interrupted, and waits no longer.
         self.left = False
         self.woken = threading.Lock()
@@ -31,9 +31,11 @@ class Turns(Generic[J]):
         self._waiting: "list[_Waiting[J]]" = []
         self._led = False
 
-    def do(self, job: J) -> None:
-        """Returns when the job is done, by this thread or another. After an interrupt of the wait it may yet be done."""
-        mine = _Waiting(job)
+    def do(self, *jobs: J) -> None:
+        """Returns when the jobs are done, by this thread or another. After an interrupt of the wait they may yet be."""
+        if not jobs:
+            return
+        mine = _Waiting(list(jobs))
         with self._mutex:
             self._waiting.append(mine)
             leads, self._led = not self._led, True
@@ -43,28 +45,30 @@ class Turns(Generic[J]):
             except BaseException:
                 self._leave(mine)
                 raise
-        while not mine.done:
+        while mine.jobs:
             self._take_turn(mine)
 
     def _take_turn(self, mine: "_Waiting[J]") -> None:
         with self._mutex:
-            waiting = list(self._waiting)
-        taken = len(waiting)
+            jobs = [job for each in self._waiting for job in each.jobs]
+        taken = len(jobs)
         try:
-            taken = self._lead([each.job for each in waiting])
+            taken = self._lead(jobs)
         finally:
             with self._mutex:
                 self._hand_on(mine, taken)
 
     def _hand_on(self, mine: "_Waiting[J]", taken: int) -> None:
         """Wakes those whose jobs are done, and, if this thread has no more to do, the next that leads."""
-        done, rest = self._waiting[:taken], self._waiting[taken:]
-        self._waiting = [each for each in rest if not each.left]
-        for each in done:
-            each.done = True
+        for each in self._waiting:
+            taken_here = min(taken, len(each.jobs))
+            del each.jobs[:taken_here]
+            taken -= taken_here
+        done = [each for each in self._waiting if not each.jobs]
+        self._waiting = [each for each in self._waiting if each.jobs and not each.left]
         self._led = bool(self._waiting)
         # The one that leads comes first, so that it needn't wait until the others have answered.
-        if self._waiting and (mine.done or mine.left):
+        if self._waiting and (mine.left or not mine.jobs):
             self._waiting[0].woken.release()
         for each in done:
             if each is not mine:
@@ -74,6 +78,6 @@ class Turns(Generic[J]):
         with self._mutex:
             mine.left = True
             was_woken = mine.woken.acquire(blocking=False)
-            if was_woken and not mine.done:
+            if was_woken and mine.jobs:
                 # It was to lead.
                 self._hand_on(mine, 0)

@@ -33,6 +33,11 @@ class Pending:
         self.commit = 0
         self.error: Optional[Exception] = None
 
+    @property
+    def is_done(self) -> bool:
+        """Whether it is committed, or has an error."""
+        return bool(self.commit or self.error)
+
     def number(self, last_id: int) -> int:
         """Gives numbers to the documents, above the last one, makes the lines, and returns the last number then."""
         lines: "list[bytes]" = []
