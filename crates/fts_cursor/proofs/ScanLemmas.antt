@@ -16,7 +16,7 @@ use Rattle.fts_cursor.specs.Scans.{has_value, keeps, kept_from, kept_in}
 use Rattle.fts_postings.specs.Windows.{passing}
 use Rattle.fts_cursor.specs.declared.rows.Kept.{Kept}
 use Rattle.fts_cursor.specs.declared.rows.Kept.TheVariants.{Every}
-use Rattle.fts_postings.proofs.RemainingLemmas.{Rises-front, at_least-append, at_least_all, at_least_place}
+use Rattle.fts_postings.proofs.RemainingLemmas.{Rises-front, Rises-get_or, at_least-append, at_least_all, at_least_place}
 use Rattle.fts_postings.proofs.SetLemmas.{filter-at_least}
 use Rattle.fts_postings.proofs.PostingLemmas.{all_below}
 use Rattle.fts_postings.proofs.PassingLemmas.{range-append, passing-append, Rises-drop, Rises-passing}
@@ -95,15 +95,6 @@ length-left p from docs at len size stands =
           omega (arith, length-drop at whole, length-stretch p from docs, size, none)
     ]
 
--- past the end nothing is left
-pub none_kept : (p : ℕ → Bool) (from docs at : ℕ) → 0 < length (drop at (passing p from (docs - from))) → from < docs
-none_kept p from docs at some = elim (cases_lt from docs) [
-  | inl inside ↦ inside
-  | inr past ↦
-      let none : docs - from ≡ 0 = omega (arith, past) in
-      absurd (omega (arith, some, length-drop at (passing p from (docs - from)), ap (λ n. length (passing p from n)) none))
-]
-
 low_range : (target a n : ℕ) → a + n ≤ target → at_least target (range_with_len a n) ≡ []
 low_range target a zero low = refl
 low_range target a (suc n) low =
@@ -161,6 +152,20 @@ pub same_all : (p : ℕ → Bool) (a m b n : ℕ) → at_least 0 (passing p a m)
 same_all p a m b n is = sym (at_least_all 0 a (passing p a m) (Rises-passing p a m) (omega arith)) ∙ is ∙ at_least_all 0 b (passing p b n) (Rises-passing p b n)
     (omega arith)
 
+-- each is greater than the one before it
+rises_by_one : (next : ℕ) (xs : List ℕ) (k : ℕ) → Rises next xs → suc k < length xs → get_or xs k 0 < get_or xs (suc k) 0
+rises_by_one next [] k up inside = absurd (omega (arith, inside))
+rises_by_one next (x ∷ xs) zero up inside = Rises-get_or (suc x) xs 0 up.1 (omega (arith, inside))
+rises_by_one next (x ∷ xs) (suc k) up inside = rises_by_one (suc x) xs k up.1 (omega (arith, inside))
+
+-- what is past the last of the front
+past_front : (next : ℕ) (xs : List ℕ) (k : ℕ) → Rises next xs → 0 < k → k ≤ length xs → at_least (get_or xs (k - 1) 0 + 1) xs ≡ drop k xs
+past_front next xs k up some within =
+    at_least_place (get_or xs (k - 1) 0 + 1) next xs k up within (λ _. omega arith) (λ more.
+    let e : suc (k - 1) ≡ k = omega (arith, some) in
+    let rises : get_or xs (k - 1) 0 < get_or xs (suc (k - 1)) 0 = rises_by_one next xs (k - 1) up (omega (arith, some, more)) in
+    omega (arith, rises, ap (λ i. get_or xs i 0) e))
+
 -- where the documents of the stretch lie at the front of an array
 module _ (p : ℕ → Bool) (from docs at len : ℕ) (numbers here rest : List ℕ) (all : passing p from (docs - from) ≡ here ++ rest) (size : len ≡ length here)
     (is : take len numbers ≡ here) where
@@ -189,10 +194,16 @@ module _ (p : ℕ → Bool) (from docs at len : ℕ) (numbers here rest : List �
   pub scan_left : at < len → drop at here ++ rest ≡ drop at (passing p from (docs - from))
   scan_left inside = sym (ap (drop at) all ∙ drop-append-le at here rest (omega (arith, size, inside)))
 
-  pub scan_behind : (count : ℕ) → at < len → at + count ≡ len → rest ≡ drop count (drop at here ++ rest)
-  scan_behind count inside end =
-      sym (drop-append-le count (drop at here) rest (omega (arith, length-drop at here, size, end)) ∙ ap (λ xs. xs ++ rest)
-      (drop_all count (drop at here) (omega (arith, length-drop at here, size, end))))
+  -- what is left after this many of the stretch
+  pub scan_past : (count : ℕ) → 0 < count → at + count ≤ len →
+      at_least (get_or numbers (at + count - 1) 0 + 1) (drop at (passing p from (docs - from))) ≡ drop count (drop at (passing p from (docs - from)))
+  scan_past count some inside =
+      let left = drop at (passing p from (docs - from)) in
+      let up = Rises-drop at from (passing p from (docs - from)) (Rises-passing p from (docs - from)) in
+      let e : at + (count - 1) ≡ at + count - 1 = omega (arith, some) in
+      let last : get_or left (count - 1) 0 ≡ get_or numbers (at + count - 1) 0 = read (count - 1) (omega (arith, some, inside)) ∙ ap (λ k. get_or numbers k 0) e in
+      ap (λ n. at_least (n + 1) left) (sym last)
+      ∙ past_front up.0 left count up.1 some (omega (arith, inside, long, length-drop at (passing p from (docs - from))))
 
   -- what is left of the stretch is below the target
   pub scan_below : (target : ℕ) → at < len → get_or numbers (len - 1) 0 < target → at_least target (drop at (passing p from (docs - from)))

@@ -194,25 +194,10 @@ impl<'a> ScanCursor<'a> {
         if self.at >= self.len {
             return 0;
         }
-        self.total = None;
         let count = (self.len - self.at).min(128 - filled);
         copy_part(&self.numbers, self.at, count, out, filled);
-        if self.at + count < self.len {
-            self.at += count;
-        } else {
-            let next = self.from + 128;
-            let (from, len) = find(
-                &self.kept,
-                self.docs,
-                next,
-                0,
-                &mut self.numbers,
-                &mut self.row,
-            );
-            self.from = from;
-            self.at = 0;
-            self.len = len;
-        }
+        let last = self.numbers[self.at + count - 1];
+        self.pass(last);
         count
     }
 }
