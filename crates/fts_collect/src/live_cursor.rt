@@ -4,7 +4,7 @@ ghost use Rattle.fts_cursor.specs.Hits.{is_live};
 ghost use Rattle.fts_cursor.specs.Standing.{Walked};
 ghost use Rattle.fts_postings.specs.Sets.{FirstPasses};
 
-use fts_cursor::{Cursor, DocSet};
+use fts_cursor::{Cursor, DocSet, keep_live};
 use fts_pack::bits::Bits;
 use std::marker::Model;
 
@@ -126,23 +126,6 @@ fn take_live(cursor: &mut Cursor, live: &Bits, out: &mut [u32; 128]) -> usize
     let taken = cursor.fill(out);
     let kept = keep_live(live, taken, out);
     settle(cursor, live);
-    kept
-}
-
-/// Keeps those of the first documents whose bit is set, and gives how many they are. Each is written and its bit is
-/// added to the place of the next, so no branch depends on it.
-fn keep_live(live: &Bits, count: usize, docs: &mut [u32; 128]) -> usize
-    requires { count ≤ 128 }
-    ensures kept { take result docs.new ≡ filter (is_live live.now) (take count docs.old) }
-    ensures few { result ≤ count }
-    ensures size { result ≡ length (filter (is_live live.now) (take count docs.old)) }
-{
-    let mut kept = 0;
-    for index in 0..count {
-        let doc = docs[index];
-        docs[kept] = doc;
-        kept += usize::from(live.contains(doc as usize));
-    }
     kept
 }
 

@@ -160,8 +160,9 @@ fn fill_live(tree: &mut Tree, live: &Bits, out: &mut [u32; 128]) -> usize
     128
 }
 
-/// Keeps those of the first documents whose bit is set, and gives how many they are.
-fn keep_live(live: &Bits, count: usize, docs: &mut [u32; 128]) -> usize
+/// Keeps those of the first documents whose bit is set, at the front, and gives how many they are. Each is written and
+/// its bit is added to the place of the next, so no branch depends on it.
+pub fn keep_live(live: &Bits, count: usize, docs: &mut [u32; 128]) -> usize
     requires { count ≤ 128 }
     ensures kept { take result docs.new ≡ filter (is_live live.now) (take count docs.old) }
     ensures few { result ≤ count }
