@@ -17,6 +17,7 @@ pub mod NumberLemmas
 pub mod BetweenLemmas
 pub mod SumsLemmas
 pub mod CountLemmas
+pub mod OrderedLemmas
 pub mod PositionListsLemmas
 pub mod PackedLemmas
 pub mod UnpackedLemmas
