@@ -1,29 +1,19 @@
 -- How many numbers of a column are between two, by the lists of its numbers.
 use Rattle.std.proofs.Common.{◌≡◌, ◌+◌, ◌-◌, ◌<◌, ◌≤◌, ℕ, zero, suc, Bool, true, false, cond, ◌&&◌, nat_le, List, [], ◌∷◌, Option, Some, None, length, get_or}
-use Rattle.std.proofs.Common.{map, min, take, refl, sym, ap, subst, ◌∙◌, arith, Contains, option_map, inl, inr}
+use Rattle.std.proofs.Common.{min, take, refl, sym, ap, ◌∙◌, arith, inl, inr}
 use Rattle.std.specs.Prelude.{filter, slice_get}
 use Rattle.std.proofs.lemmas.List.{get_or-map, take_all}
-use Rattle.std.proofs.lemmas.Option.{slice_get_within, slice_get-get_or, get_or_from_slice_get}
-use Rattle.std.proofs.lemmas.Bool.{cases_Bool, cases_lt, false≢true, le-leb, lt-leb}
+use Rattle.std.proofs.lemmas.Bool.{cases_Bool, cases_lt, le-leb, lt-leb}
 use Rattle.std.proofs.lemmas.List.Kept.{AllPairs-from_increasing}
 use Rattle.std.proofs.lemmas.List.Sums.{length-filter, count_by-le-length}
-use Rattle.fts_model.specs.declared.schema.Kind.TheVariants as kinds
-use Rattle.fts_model.specs.declared.value.FieldValue.{FieldValue}
-use Rattle.fts_model.specs.declared.value.FieldValue.TheVariants as values
 use Rattle.fts_pack.specs.column.Column.{is_within}
-use Rattle.fts_segment.specs.declared.dictionary.Dictionary.{Dictionary}
-use Rattle.fts_segment.specs.Between.{count_between}
-use Rattle.fts_segment.specs.FieldIndexes.{AreTerms}
-use Rattle.fts_segment.specs.Keywords.{before, keyword_of, ordinals_of, texts_of}
+use Rattle.fts_segment.specs.Between.{IsCut, count_between}
 use Rattle.fts_segment.specs.Numbers.{IsNumberIndex, is_number}
-use Rattle.fts_segment.specs.Occurrences.{holds}
 use Rattle.fts_segment.specs.Segments.{numbers_where}
 use Rattle.fts_segment.specs.Sums.{total}
-use Rattle.fts_segment.proofs.BetweenLemmas.{AreKeyed-keywords, AreKeyed-numbers, its_number, numbers_count, ordinal_text, text_held}
-use Rattle.fts_segment.proofs.FieldLemmas.{text_found, is_number-is}
+use Rattle.fts_segment.proofs.BetweenLemmas.{AreKeyed-numbers, its_number, numbers_count}
+use Rattle.fts_segment.proofs.FieldLemmas.{is_number-is}
 use Rattle.fts_segment.proofs.HoldingLemmas.{numbers_where-cons}
-use Rattle.fts_segment.proofs.KeywordIndexLemmas.{number_of_text, text_among}
-use Rattle.fts_segment.proofs.OrdinalLemmas.{holds_text, lists_count}
 use Rattle.fts_segment.proofs.SumsLemmas.{total-next}
 
 -- one, where it is true
@@ -48,12 +38,6 @@ count-split p q r (x ∷ xs) split =
 count-none : {X : Type 0} (p : X → Bool) (xs : List X) → ((k : ℕ) (x : X) → slice_get xs k ≡ Some x → one (p x) ≡ 0) → length (filter p xs) ≡ 0
 count-none p [] none = refl
 count-none p (x ∷ xs) none = omega (arith, count-cons p x xs, none 0 x refl, count-none p xs (λ k y at. none (suc k) y at))
-
-count-mapped : {X Y : Type 0} (p : X → Bool) (q : Y → Bool) (f : X → Y) (xs : List X) →
-    ((k : ℕ) (x : X) → slice_get xs k ≡ Some x → one (p x) ≡ one (q (f x))) → length (filter p xs) ≡ length (filter q (map f xs))
-count-mapped p q f [] same = refl
-count-mapped p q f (x ∷ xs) same =
-    omega (arith, count-cons p x xs, count-cons q (f x) (map f xs), same 0 x refl, count-mapped p q f xs (λ k y at. same (suc k) y at))
 
 numbers_where-count : {X : Type 0} (p : X → Bool) (n : ℕ) (xs : List X) → length (numbers_where p n xs) ≡ length (filter p xs)
 numbers_where-count p n [] = refl
@@ -238,51 +222,13 @@ AreCounted-numbers column numbers lists index =
       rises = λ i j less inside. AllPairs-from_increasing numbers index.rises i j 0 less (omega (arith, inside, count));
     }
 
--- as many documents have the text of an ordinal as have the ordinal
-text-count : (vs : List (Option FieldValue)) (dictionary : Dictionary) → AreTerms kinds.Keyword vs dictionary → dictionary.names ≡ texts_of kinds.Keyword vs →
-    (k : ℕ) → k < length dictionary.lists.items →
-    length (get_or dictionary.lists.items k []) ≡ length (filter (is_number k) (ordinals_of kinds.Keyword vs))
-text-count vs dictionary terms texts_are k less =
-    let names = dictionary.names in
-    let texts = texts_of kinds.Keyword vs in
-    let text = get_or names k [] in
-    let ordinal : Option FieldValue → Option ℕ = λ v. option_map (before texts) (keyword_of kinds.Keyword v) in
-    let has : Option FieldValue → Bool = holds kinds.Keyword (values.Text text) in
-    let within : k < length names = omega (arith, less, lists_count vs dictionary terms) in
-    let named : slice_get names k ≡ Some text = slice_get-get_or names k [] within in
-    let place_of : (t : List ℕ) (i : ℕ) → slice_get names i ≡ Some t → before texts t ≡ i = λ t i at. ap (λ ts. before ts t) (sym texts_are)
-    ∙ sym (number_of_text names i t terms.dictionary_is.ascends at) in
-    let each : (doc : ℕ) (v : Option FieldValue) → slice_get vs doc ≡ Some v → one (has v) ≡ one (is_number k (ordinal v)) =
-    λ doc v at. elim (cases_Bool (has v)) [
-      | inl known ↦ ap one (known ∙ sym (ap (λ w. is_number k (ordinal w)) (holds_text text v known) ∙ ap (λ n. is_number k (Some n)) (place_of text k named)
-          ∙ its_number k))
-      | inr unknown ↦ elim (cases_Bool (is_number k (ordinal v))) [
-        | inl same ↦
-            let t = ordinal_text texts v k (is_number-is k (ordinal v) same) in
-            let here : slice_get vs doc ≡ Some (Some (values.Text t.0)) = at ∙ ap Some t.1 in
-            let there : Contains vs (Some (values.Text t.0)) = (
-              doc,
-              slice_get_within vs doc (Some (values.Text t.0)) here,
-              get_or_from_slice_get vs doc (Some (values.Text t.0)) (Some (values.Text t.0))
-                  here,
-            ) in
-            let among : Contains names t.0 = subst (λ ts. Contains ts t.0) (sym texts_are) (text_among vs t.0 there) in
-            let found : slice_get names among.0 ≡ Some t.0 = slice_get-get_or names among.0 t.0 among.1 ∙ ap Some among.2 in
-            let at_k : among.0 ≡ k = sym (place_of t.0 among.0 found) ∙ t.2 in
-            let is : Some t.0 ≡ Some text = sym found ∙ ap (slice_get names) at_k ∙ named in
-            let text_is : t.0 ≡ text = cc in
-            absurd (false≢true (sym unknown ∙ ap has t.1 ∙ ap (λ s. has (Some (values.Text s))) text_is ∙ text_held text))
-        | inr other ↦ ap one (unknown ∙ sym other)
-      ]
-    ] in
-    ap length (text_found text k terms named).0 ∙ numbers_where-count has 0 vs ∙ count-mapped has (is_number k) ordinal vs each
-
--- the lists of a dictionary of keywords are counted by their ordinals
-pub AreCounted-keywords : (vs : List (Option FieldValue)) (dictionary : Dictionary) → AreTerms kinds.Keyword vs dictionary →
-    dictionary.names ≡ texts_of kinds.Keyword vs →
-    AreCounted (ordinals_of kinds.Keyword vs) dictionary.lists.items (λ k. k)
-AreCounted-keywords vs dictionary terms texts_are = record {
-  size = text-count vs dictionary terms texts_are;
-  whole = λ doc x at. let found = (AreKeyed-keywords vs dictionary terms texts_are).whole doc x at in (found.0, found.1, found.2);
-  rises = λ i j less inside. less;
-}
+-- the lists of a number index between two places have as many documents as have a number there
+pub count_numbers : (column : List (Option ℕ)) (numbers : List ℕ) (lists : List (List ℕ)) (low high start from end : ℕ) → IsNumberIndex column numbers lists →
+    IsCut numbers low from → IsCut numbers (high + 1) end → start ≡ min from end →
+    total (take end lists) - total (take start lists) ≡ count_between low high column
+count_numbers column numbers lists low high start from end index lower upper is =
+    let count = numbers_count column numbers lists index in
+    total-between column lists (λ k. get_or numbers k 0) (AreCounted-numbers column numbers lists index) low high start from end
+    (omega (arith, lower.within, count)) lower.before (λ k more less. lower.behind k more (omega (arith, less, count)))
+    (omega (arith, upper.within, count)) (λ k less. omega (arith, upper.before k less))
+    (λ k more less. omega (arith, upper.behind k more (omega (arith, less, count)))) is

@@ -11,6 +11,9 @@ use Rattle.fts_model.specs.declared.value.FieldValue.{FieldValue}
 use Rattle.fts_model.specs.declared.value.FieldValue.TheVariants as values
 use Rattle.fts_model.specs.declared.operation.Stamped.{Stamped}
 use Rattle.fts_model.specs.Documents.{DocumentValue, value_in_field}
+use Rattle.fts_segment.specs.declared.dictionary.Dictionary.{Dictionary}
+use Rattle.fts_segment.specs.FieldIndexes.{AreTerms}
+use Rattle.fts_segment.specs.TermPositionLists.{term_position_lists}
 use Rattle.fts_segment.specs.Keywords.{keyword_of, texts_in, texts_of, in_order, before}
 use Rattle.fts_segment.specs.Occurrences.{OccurrenceValue, occurrences, occurrence_at, docs_of, is_term, values_in}
 use Rattle.fts_segment.specs.Dictionaries.{IsDictionaryOf, occurs}
@@ -61,6 +64,10 @@ names_are_texts vs names lists positions index =
     same_texts names (in_order (texts vs)) (climbs_by_place names index.ascends) (in_order-climbs (texts vs))
     (λ q h. in_order-has (texts vs) q (occurring 0 vs q (subst (λ k. occurs (occurrences kinds.Keyword 0 vs) k ≡ true) h.2 (index.occur h.0 q h.1))))
     (λ q h. index.whole q (occurs_there 0 vs q (in_order-only (texts vs) q h)))
+
+pub terms_are_texts : (vs : List (Option FieldValue)) (dictionary : Dictionary) → AreTerms kinds.Keyword vs dictionary →
+    dictionary.names ≡ texts_of kinds.Keyword vs
+terms_are_texts vs dictionary terms = names_are_texts vs dictionary.names dictionary.lists.items (term_position_lists dictionary.positions) terms.dictionary_is
 
 -- the text of a value is among the texts
 pub text_among : (vs : List (Option FieldValue)) (t : List ℕ) → Contains vs (Some (values.Text t)) → Contains (texts_of kinds.Keyword vs) t

@@ -18,6 +18,7 @@ pub mod NumberLemmas
 pub mod BetweenLemmas
 pub mod SumsLemmas
 pub mod CountLemmas
+pub mod OrderedLemmas
 pub mod PositionListsLemmas
 pub mod PackedLemmas
 pub mod UnpackedLemmas

@@ -11,14 +11,14 @@ use Rattle.fts_model.specs.declared.operation.Stamped.{Stamped}
 use Rattle.fts_model.specs.Documents.{DocumentValue, value_in_field}
 use Rattle.fts_pack.specs.Documents.{block_at, blocks_of, last_of}
 use Rattle.fts_pack.specs.SourceLaws.{length-block_at, get_or-blocks_of}
-use Rattle.fts_segment.specs.declared.keyword_index.KeywordIndex.{KeywordIndex}
 use Rattle.fts_segment.specs.declared.dictionary.Dictionary.{Dictionary}
-use Rattle.fts_segment.specs.FieldIndexes.{AreTerms, AreKeywords, HasKeywordAt}
+use Rattle.fts_segment.specs.FieldIndexes.{AreTerms, HasKeywordAt}
 use Rattle.fts_segment.specs.Keywords.{texts_of}
 use Rattle.fts_segment.specs.Occurrences.{docs_with, holds, occurrences, values_in}
 use Rattle.fts_segment.specs.Segments.{numbers_where}
 use Rattle.fts_segment.proofs.FieldLemmas.{text_found}
 use Rattle.fts_segment.proofs.HoldingLemmas.{numbers_where-holds}
+use Rattle.fts_segment.proofs.KeywordIndexLemmas.{terms_are_texts}
 
 -- the last document of the first block of a list, if it has one, stands in the list
 pub last_of_first : (documents : List ℕ) → 0 < length documents → Contains documents (last_of (get_or (blocks_of documents) 0 []))
@@ -45,27 +45,27 @@ holds_text text (Some (values.Number n)) h = cc
 holds_text text (Some (values.Texts ts)) h = cc
 
 -- a document that was picked from the list of an ordinal has its text, and none is picked where there is no such text
-pub keyword_there : (vs : List (Option FieldValue)) (index : KeywordIndex) (ordinal : ℕ) (lists : List (List ℕ)) (list d : List ℕ) (o : Option ℕ) →
-    AreKeywords kinds.Keyword vs index →
-    lists ≡ index.dictionary.lists.items → ordinal < length lists → list ≡ get_or lists ordinal d → MatchOption o (list ≡ []) (Contains list) →
+pub keyword_there : (vs : List (Option FieldValue)) (dictionary : Dictionary) (ordinal : ℕ) (lists : List (List ℕ)) (list d : List ℕ) (o : Option ℕ) →
+    AreTerms kinds.Keyword vs dictionary →
+    lists ≡ dictionary.lists.items → ordinal < length lists → list ≡ get_or lists ordinal d → MatchOption o (list ≡ []) (Contains list) →
     MatchOption o (slice_get (texts_of kinds.Keyword vs) ordinal ≡ None) (λ doc. HasKeywordAt vs ordinal doc)
-keyword_there vs index ordinal lists list d None are same inside found none =
-    let within : ordinal < length index.dictionary.names = omega (arith, inside, ap length same, lists_count vs index.dictionary are.terms) in
-    let is = text_found (get_or index.dictionary.names ordinal []) ordinal are.terms (slice_get-get_or index.dictionary.names ordinal [] within) in
+keyword_there vs dictionary ordinal lists list d None are same inside found none =
+    let within : ordinal < length dictionary.names = omega (arith, inside, ap length same, lists_count vs dictionary are) in
+    let is = text_found (get_or dictionary.names ordinal []) ordinal are (slice_get-get_or dictionary.names ordinal [] within) in
     absurd (is.1 (ap (λ ls. get_or ls ordinal []) (sym same) ∙ get_or_default lists ordinal [] d inside ∙ sym found ∙ none))
-keyword_there vs index ordinal lists list d (Some doc) are same inside found at =
-    let names = index.dictionary.names in
-    let within : ordinal < length names = omega (arith, inside, ap length same, lists_count vs index.dictionary are.terms) in
+keyword_there vs dictionary ordinal lists list d (Some doc) are same inside found at =
+    let names = dictionary.names in
+    let within : ordinal < length names = omega (arith, inside, ap length same, lists_count vs dictionary are) in
     let text = get_or names ordinal [] in
     let named : slice_get names ordinal ≡ Some text = slice_get-get_or names ordinal [] within in
-    let is = text_found text ordinal are.terms named in
+    let is = text_found text ordinal are named in
     let member : Contains (numbers_where (holds kinds.Keyword (values.Text text)) 0 vs) doc =
     subst (λ ds. Contains ds doc) (found ∙ get_or_default lists ordinal d [] inside ∙ ap (λ ls. get_or ls ordinal []) same ∙ is.0) at in
     let held = numbers_where-holds (holds kinds.Keyword (values.Text text)) 0 vs doc member in
     let number : doc ≡ held.0 = omega (arith, held.1) in
     record {
       text = text;
-      is = ap (λ ts. slice_get ts ordinal) (sym are.texts) ∙ named;
+      is = ap (λ ts. slice_get ts ordinal) (sym (terms_are_texts vs dictionary are)) ∙ named;
       has = ap (slice_get vs) number ∙ held.3 ∙ ap Some (holds_text text held.2 held.4);
     }
 

@@ -1,6 +1,5 @@
 -- How many numbers there are in the first of some lists.
 use Rattle.std.proofs.Common.{◌≡◌, ◌+◌, ◌<◌, ◌≤◌, ℕ, zero, suc, List, [], ◌∷◌, ◌++◌, length, get_or, take, refl, ap, ◌∙◌, arith}
-use Rattle.std.proofs.lemmas.List.{get_or_default}
 use Rattle.fts_segment.specs.Sums.{sums_from, total}
 
 -- one list more
@@ -50,6 +49,5 @@ pub sums-inside : (lists : List (List ℕ)) (sums : List ℕ) (k : ℕ) → sums
 sums-inside lists sums k is le = omega (arith, le, ap length is, sums-count 0 lists)
 
 -- what is read there
-pub sums-read : (lists : List (List ℕ)) (sums : List ℕ) (k n : ℕ) → sums ≡ sums_from 0 lists → k ≤ length lists → n ≡ get_or sums k n → n ≡ total (take k lists)
-sums-read lists sums k n is le read =
-    omega (arith, read, get_or_default sums k n 0 (sums-inside lists sums k is le), ap (λ (ns : List ℕ). get_or ns k 0) is, sums-at 0 lists k le)
+pub sums-read : (lists : List (List ℕ)) (sums : List ℕ) (k : ℕ) → sums ≡ sums_from 0 lists → k ≤ length lists → get_or sums k 0 ≡ total (take k lists)
+sums-read lists sums k is le = omega (arith, ap (λ (ns : List ℕ). get_or ns k 0) is, sums-at 0 lists k le)

@@ -31,7 +31,6 @@ pub record AreTerms (kind : Kind) (vs : List (Option FieldValue)) (dictionary : 
 pub record AreKeywords (kind : Kind) (vs : List (Option FieldValue)) (index : KeywordIndex) : Type 0 where
   pub kind_is : kind ≡ kinds.Keyword
   pub terms : AreTerms kind vs index.dictionary
-  pub texts : index.dictionary.names ≡ texts_of kind vs
   pub ordinals : index.ordinals ≡ ordinals_of kind vs
   pub sums : index.sums.items ≡ sums_from 0 index.dictionary.lists.items
 

@@ -14,6 +14,7 @@ pub mod Between
 pub mod Sums
 pub mod NumberLogs
 pub mod FieldIndexes
+pub mod Ordered
 pub mod Stored
 pub mod PositionLists
 pub mod PositionListLogs

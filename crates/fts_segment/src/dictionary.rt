@@ -1,4 +1,10 @@
 // The dictionary: the terms that occur, in order, each with the list of its documents and its positions in them.
+ghost use Rattle.std.specs.Prelude.{◌≡◌, [], Contains, List, MatchOption, None, Option};
+ghost use Rattle.fts_model.specs.declared.schema.Kind.TheVariants as kinds;
+ghost use Rattle.fts_model.specs.declared.value.FieldValue.{FieldValue};
+ghost use Rattle.fts_segment.specs.FieldIndexes.{AreTerms, HasKeywordAt};
+ghost use Rattle.fts_segment.specs.Keywords.{texts_of};
+
 use crate::lookup::find_name;
 use crate::names::Names;
 use crate::occurrences::logged;
@@ -6,13 +12,13 @@ use crate::segment::ListId;
 use crate::term_positions::TermPositions;
 use fts_base::release;
 use fts_model::{Document, Kind, Stamped};
-use fts_pack::List;
+use fts_pack::Blocks;
 use std::alloc::{AllocError, Global};
 
 /// The terms that occur, the documents of each, and its positions in them.
 pub(crate) struct Dictionary {
     pub(crate) names: Names,
-    pub(crate) lists: Vec<List>,
+    pub(crate) lists: Vec<fts_pack::List>,
     pub(crate) positions: TermPositions,
 }
 
@@ -68,4 +74,23 @@ impl Dictionary {
             positions: Some(self.positions.get(number)),
         })
     }
+
+    /// A document that has the text of an ordinal in a keyword field.
+    pub(crate) fn document_with(&self, ordinal: usize) -> Option<u32>
+        ensures { (vs : List (Option FieldValue)) → AreTerms kinds.Keyword vs self.now
+            → MatchOption result (slice_get (texts_of kinds.Keyword vs) ordinal ≡ None)
+            (λ doc. HasKeywordAt vs ordinal doc) }
+    {
+        some_document(self.lists.get(ordinal)?)
+    }
+}
+
+/// A document of a list. No block is opened.
+fn some_document(list: &fts_pack::List) -> Option<u32>
+    ensures { MatchOption result (list.now ≡ []) (Contains list.now) }
+{
+    if list.is_empty() {
+        return None;
+    }
+    Some(list.source().last(0))
 }

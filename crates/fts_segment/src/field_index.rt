@@ -1,17 +1,13 @@
 // What is looked up in a field: the terms of its texts, its keywords or its numbers.
 ghost use Rattle.std.specs.Prelude.{◌≡◌, ◌≢◌, [], List, Option, None, ◌<◌, ◌≤◌, ◌^◌, length, IfOk, IfNone, IfSome};
-ghost use Rattle.std.specs.Prelude.{MatchOption};
-ghost use Rattle.std.specs.Prelude.{All, Some, true, false, slice_get};
+ghost use Rattle.std.specs.Prelude.{All, Some, true, false};
 ghost use Rattle.fts_model.specs.declared.value.FieldValue.{FieldValue};
-ghost use Rattle.fts_segment.specs.Between.{AreBetween, count_between};
-ghost use Rattle.fts_segment.specs.FieldIndexes.{IsFieldIndex, AreTerms, HasKeywordAt};
+ghost use Rattle.fts_segment.specs.FieldIndexes.{IsFieldIndex, AreTerms};
 ghost use Rattle.fts_segment.specs.ListIds.{documents_in, positions_in};
 ghost use Rattle.fts_segment.specs.Occurrences.{holds, values_in};
 ghost use Rattle.fts_segment.specs.Segments.{numbers_where};
 ghost use Rattle.fts_segment.specs.Positions.{value_position_lists};
-ghost use Rattle.fts_segment.specs.Numbers.{numbers_of};
-ghost use Rattle.fts_model.specs.declared.schema.Kind.TheVariants as kinds;
-ghost use Rattle.fts_segment.specs.Keywords.{before, ordinals_of, texts_of, up_to};
+ghost use Rattle.fts_segment.specs.Ordered.{IsOrdered, column_of};
 ghost use Rattle.fts_model.specs.Limits.{most_merged};
 ghost use Rattle.fts_model.specs.Operations.{kind_at};
 ghost use Rattle.fts_model.specs.Schemas.{holds_numbers, is_ordered};
@@ -20,12 +16,11 @@ ghost use Rattle.fts_segment.specs.Sources.{contents, live_count};
 use crate::dictionary::Dictionary;
 use crate::joint_terms::joined_terms;
 use crate::keyword_index::KeywordIndex;
-use crate::lookup::equal_range;
 use crate::number_index::{NumberIndex, number_in};
+use crate::ordered::Ordered;
 use crate::segment::ListId;
 use crate::source::Source;
 use fts_model::{Document, FieldValue, Kind, Stamped};
-use fts_pack::column::Column;
 use std::alloc::{AllocError, Global};
 
 /// What is looked up in a field.
@@ -107,80 +102,27 @@ impl FieldIndex {
         }
     }
 
-    /// The numbers of the documents in a number field, or their ordinals in a keyword field.
-    pub(crate) fn column(&self, kind: Kind) -> &Column
+    /// The numbers of a number field in order, or the ordinals of a keyword field.
+    pub(crate) fn ordered(&self, kind: Kind) -> Ordered<'_>
         requires ordered { is_ordered kind ≡ true }
-        requires is { (vs : List (Option FieldValue)) × IsFieldIndex kind vs self.now }
-        ensures numbers { (vs : List (Option FieldValue)) → IsFieldIndex kind vs self.now
-            → holds_numbers kind ≡ true → result.now ≡ numbers_of kind vs }
-        ensures ordinals { (vs : List (Option FieldValue)) → IsFieldIndex kind vs self.now
-            → holds_numbers kind ≡ false → result.now ≡ ordinals_of kind vs }
-    {
-        match self {
-            FieldIndex::Keywords(index) => &index.ordinals,
-            FieldIndex::Numbers(index) => &index.column,
-            FieldIndex::Terms(_) => unreachable!(),
-        }
-    }
-
-    /// The lists of the numbers of a field between two, or of the ordinals of its texts.
-    pub(crate) fn lists_between(&self, kind: Kind, low: u64, high: u64) -> &[fts_pack::List]
-        requires ordered { is_ordered kind ≡ true }
-        requires is { (vs : List (Option FieldValue)) × IsFieldIndex kind vs self.now }
-        ensures numbers { (vs : List (Option FieldValue)) → IsFieldIndex kind vs self.now
-            → holds_numbers kind ≡ true → AreBetween (numbers_of kind vs) low high result.now }
-        ensures ordinals { (vs : List (Option FieldValue)) → IsFieldIndex kind vs self.now
-            → holds_numbers kind ≡ false → AreBetween (ordinals_of kind vs) low high result.now }
-    {
-        match self {
-            FieldIndex::Keywords(index) => index.lists_between(low, high),
-            FieldIndex::Numbers(index) => index.lists_between(low, high),
-            FieldIndex::Terms(_) => unreachable!(),
-        }
-    }
-
-    /// How many documents have a number of a field between two, or the ordinal of a text.
-    pub(crate) fn documents_between(&self, kind: Kind, low: u64, high: u64) -> usize
-        requires ordered { is_ordered kind ≡ true }
-        requires is { (vs : List (Option FieldValue)) × IsFieldIndex kind vs self.now }
-        ensures numbers { (vs : List (Option FieldValue)) → IsFieldIndex kind vs self.now
-            → holds_numbers kind ≡ true → result ≡ count_between low high (numbers_of kind vs) }
-        ensures ordinals { (vs : List (Option FieldValue)) → IsFieldIndex kind vs self.now
-            → holds_numbers kind ≡ false → result ≡ count_between low high (ordinals_of kind vs) }
-    {
-        match self {
-            FieldIndex::Keywords(index) => index.documents_between(low, high),
-            FieldIndex::Numbers(index) => index.documents_between(low, high),
-            FieldIndex::Terms(_) => unreachable!(),
-        }
-    }
-
-    /// How many texts of a keyword field are before a text, and how many aren't after it.
-    pub(crate) fn equal_range(&self, kind: Kind, text: &str) -> (usize, usize)
-        requires keyword { kind ≡ kinds.Keyword }
-        requires is { (vs : List (Option FieldValue)) × IsFieldIndex kind vs self.now }
-        ensures before { (vs : List (Option FieldValue)) → IsFieldIndex kind vs self.now
-            → result.0 ≡ before (texts_of kind vs) text.now }
-        ensures up_to { (vs : List (Option FieldValue)) → IsFieldIndex kind vs self.now
-            → result.1 ≡ up_to (texts_of kind vs) text.now }
-    {
-        match self {
-            FieldIndex::Keywords(index) => equal_range(&index.dictionary.names, text.as_bytes()),
-            FieldIndex::Terms(_) | FieldIndex::Numbers(_) => unreachable!(),
-        }
-    }
-
-    /// A document that has the text of an ordinal in a keyword field.
-    pub(crate) fn document_with(&self, kind: Kind, ordinal: usize) -> Option<u32>
-        requires keyword { kind ≡ kinds.Keyword }
         requires is { (vs : List (Option FieldValue)) × IsFieldIndex kind vs self.now }
         ensures { (vs : List (Option FieldValue)) → IsFieldIndex kind vs self.now
-            → MatchOption result (slice_get (texts_of kind vs) ordinal ≡ None)
-            (λ doc. HasKeywordAt vs ordinal doc) }
+            → IsOrdered (column_of kind vs) result }
     {
         match self {
-            FieldIndex::Keywords(index) => index.document_with(ordinal),
-            FieldIndex::Terms(_) | FieldIndex::Numbers(_) => unreachable!(),
+            FieldIndex::Keywords(index) => Ordered {
+                column: &index.ordinals,
+                numbers: None,
+                lists: &index.dictionary.lists,
+                sums: &index.sums,
+            },
+            FieldIndex::Numbers(index) => Ordered {
+                column: &index.column,
+                numbers: Some(index.numbers.as_slice()),
+                lists: &index.lists,
+                sums: &index.sums,
+            },
+            FieldIndex::Terms(_) => unreachable!(),
         }
     }
 

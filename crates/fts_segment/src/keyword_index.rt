@@ -1,12 +1,12 @@
 // The texts of a keyword field: a dictionary, and for each document the ordinal of its text.
-ghost use Rattle.std.specs.Prelude.{◌≡◌, ◌<◌, ◌≤◌, ◌^◌, [], All, Contains, IfOk, List, MatchOption, None, Option};
-ghost use Rattle.std.specs.Prelude.{length, slice_get};
+ghost use Rattle.std.specs.Prelude.{◌≡◌, ◌<◌, ◌^◌, All, IfOk, List, Option};
+ghost use Rattle.std.specs.Prelude.{length};
 ghost use Rattle.fts_model.specs.declared.value.FieldValue.{FieldValue};
 ghost use Rattle.fts_model.specs.declared.schema.Kind.TheVariants as kinds;
-ghost use Rattle.fts_segment.specs.FieldIndexes.{AreKeywords, AreTerms, HasKeywordAt};
-ghost use Rattle.fts_segment.specs.Keywords.{ordinals_of, texts_of, with_ordinal};
+ghost use Rattle.fts_segment.specs.FieldIndexes.{AreKeywords, AreTerms};
+ghost use Rattle.fts_segment.specs.Keywords.{with_ordinal};
 ghost use Rattle.fts_segment.specs.Occurrences.{values_in};
-ghost use Rattle.fts_segment.specs.Between.{AreBetween, AreKeyed, NumberColumn, count_between};
+ghost use Rattle.fts_segment.specs.Between.{AreKeyed, NumberColumn};
 
 use crate::dictionary::Dictionary;
 use crate::sums::sums_of;
@@ -75,48 +75,6 @@ impl KeywordIndex {
             sums,
         })
     }
-
-    /// A document that has the text of an ordinal.
-    pub(crate) fn document_with(&self, ordinal: usize) -> Option<u32>
-        ensures { (vs : List (Option FieldValue)) → AreKeywords kinds.Keyword vs self.now
-            → MatchOption result (slice_get (texts_of kinds.Keyword vs) ordinal ≡ None)
-            (λ doc. HasKeywordAt vs ordinal doc) }
-    {
-        some_document(self.dictionary.lists.get(ordinal)?)
-    }
-
-    /// The lists of the texts with ordinals between two, these included.
-    pub(crate) fn lists_between(&self, low: u64, high: u64) -> &[fts_pack::List]
-        ensures { (vs : List (Option FieldValue)) → AreKeywords kinds.Keyword vs self.now
-            → AreBetween (ordinals_of kinds.Keyword vs) low high result.now }
-    {
-        let lists: &[fts_pack::List] = &self.dictionary.lists;
-        let end = high.saturating_add(1).min(lists.len() as u64) as usize;
-        let start = low.min(end as u64) as usize;
-        &lists[start..end]
-    }
-
-    /// How many documents have a text with an ordinal between two, these included.
-    pub(crate) fn documents_between(&self, low: u64, high: u64) -> usize
-        requires { (vs : List (Option FieldValue)) × AreKeywords kinds.Keyword vs self.now }
-        ensures { (vs : List (Option FieldValue)) → AreKeywords kinds.Keyword vs self.now
-            → result ≡ count_between low high (ordinals_of kinds.Keyword vs) }
-    {
-        let lists: &[fts_pack::List] = &self.dictionary.lists;
-        let end = high.saturating_add(1).min(lists.len() as u64) as usize;
-        let start = low.min(end as u64) as usize;
-        (self.sums[end] - self.sums[start]) as usize
-    }
-}
-
-/// A document of a list. No block is opened.
-fn some_document(list: &fts_pack::List) -> Option<u32>
-    ensures { MatchOption result (list.now ≡ []) (Contains list.now) }
-{
-    if list.is_empty() {
-        return None;
-    }
-    Some(list.source().last(0))
 }
 
 /// Gives documents an ordinal.

@@ -33,6 +33,7 @@ mod names;
 mod new_numbers;
 mod number_index;
 mod occurrences;
+mod ordered;
 mod part;
 mod position_lists;
 mod position_reader;

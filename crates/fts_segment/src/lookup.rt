@@ -1,5 +1,5 @@
 // Looks a name up among sorted names, and a number among rising numbers, by halving.
-ghost use Rattle.std.specs.Prelude.{◌≡◌, ◌<◌, ◌≤◌, ◌+◌, ◌^◌, length, slice_get, slice_index, MatchOption, IfOk};
+ghost use Rattle.std.specs.Prelude.{◌≡◌, ◌<◌, ◌+◌, ◌^◌, slice_get, MatchOption, IfOk};
 ghost use Rattle.std.specs.Prelude.{IfErr, Some, ℕ};
 ghost use Rattle.fts_segment.specs.Keywords.{before, up_to};
 ghost use Rattle.std.specs.List.Sorted.{IsStrictlyIncreasing};
@@ -82,9 +82,7 @@ pub(crate) fn place_of_number(numbers: &[u64], number: u64) -> usize
 /// How many numbers aren't above a number.
 pub(crate) fn place_behind(numbers: &[u64], number: u64) -> usize
     requires { IsStrictlyIncreasing numbers.now }
-    ensures within { result ≤ length numbers.now }
-    ensures before { (k : ℕ) → k < result → slice_index numbers.now k ≤ number }
-    ensures behind { (k : ℕ) → result ≤ k → k < length numbers.now → number < slice_index numbers.now k }
+    ensures { IsCut numbers.now (number + 1) result }
 {
     match number.checked_add(1) {
         Some(above) => place_of_number(numbers, above),

@@ -9,10 +9,9 @@ ghost use Rattle.fts_segment.specs.Segments.{number_of, numbers_where};
 ghost use Rattle.fts_segment.specs.Numbers.{Fits64, numbers_of, present, is_number, IsNumberIndex};
 ghost use Rattle.fts_segment.specs.ListIds.{documents_in, positions_in};
 ghost use Rattle.fts_segment.specs.NumberLogs.{NumberLog};
-ghost use Rattle.fts_segment.specs.Between.{AreBetween, NumberColumn, count_between};
 ghost use Rattle.fts_segment.specs.Sums.{sums_from};
 
-use crate::lookup::{find_number, place_behind, place_of_number};
+use crate::lookup::find_number;
 use crate::postings_writer::set_docs;
 use crate::segment::ListId;
 use crate::sums::sums_of;
@@ -103,30 +102,6 @@ impl NumberIndex {
             list: &self.lists[index],
             positions: None,
         })
-    }
-
-    /// The lists of the numbers between two, these included.
-    pub(crate) fn lists_between(&self, low: u64, high: u64) -> &[List]
-        requires { (column : NumberColumn) × IsNumberIndex column self.now.numbers.items self.now.lists.items }
-        ensures { (column : NumberColumn) → IsNumberIndex column self.now.numbers.items self.now.lists.items
-            → AreBetween column low high result.now }
-    {
-        let end = place_behind(&self.numbers, high);
-        let start = place_of_number(&self.numbers, low).min(end);
-        &self.lists[start..end]
-    }
-
-    /// How many documents have a number between two, these included.
-    pub(crate) fn documents_between(&self, low: u64, high: u64) -> usize
-        requires { (column : NumberColumn) × IsNumberIndex column self.now.numbers.items self.now.lists.items
-            × (self.now.sums.items ≡ sums_from 0 self.now.lists.items) }
-        ensures { (column : NumberColumn) → IsNumberIndex column self.now.numbers.items self.now.lists.items
-            → self.now.sums.items ≡ sums_from 0 self.now.lists.items
-            → result ≡ count_between low high column }
-    {
-        let end = place_behind(&self.numbers, high);
-        let start = place_of_number(&self.numbers, low).min(end);
-        (self.sums[end] - self.sums[start]) as usize
     }
 }
 

@@ -11,12 +11,15 @@ ghost use Rattle.fts_segment.specs.FieldIndexes.{AreTerms, NumbersFit};
 ghost use Rattle.fts_segment.specs.Occurrences.{values_in};
 ghost use Rattle.fts_segment.specs.Segments.{postings, positions, column, keywords, ordinals};
 ghost use Rattle.fts_segment.specs.Between.{AreBetween, count_between};
+ghost use Rattle.fts_segment.specs.Ordered.{IsOrdered, column_in};
 ghost use Rattle.fts_segment.specs.Keywords.{before, text_in_value, up_to};
 ghost use Rattle.fts_model.specs.declared.schema.Kind.TheVariants as kinds;
 ghost use Rattle.fts_segment.specs.ListIds.{documents_in, positions_in};
 
 use crate::dictionary::Dictionary;
 use crate::field_index::FieldIndex;
+use crate::lookup::equal_range;
+use crate::ordered::Ordered;
 use crate::position_reader::PositionReader;
 use crate::term_positions::TermPositionLists;
 use fts_base::release;
@@ -156,8 +159,7 @@ impl Segment {
         ensures fit { (kind : Kind) → kind_at self.now.schema field ≡ Some kind
             → NumbersFit kind field self.now.documents }
     {
-        let stored: &Stored = &self.stored;
-        stored.indexes[field].column(stored.schema.kind(field))
+        self.ordered(field).column
     }
 
     /// The lists of the documents with a number between two, these included, in the column of a number or keyword
@@ -170,8 +172,7 @@ impl Segment {
         ensures ordinals { is_number_field self.now.schema field ≡ false
             → AreBetween (ordinals self.now field) low high result.now }
     {
-        let stored: &Stored = &self.stored;
-        stored.indexes[field].lists_between(stored.schema.kind(field), low, high)
+        self.ordered(field).lists_between(low, high)
     }
 
     /// How many documents have a number between two, these included, in the column of a number or keyword field: as
@@ -183,8 +184,18 @@ impl Segment {
         ensures ordinals { is_number_field self.now.schema field ≡ false
             → result ≡ count_between low high (ordinals self.now field) }
     {
+        self.ordered(field).documents_between(low, high)
+    }
+
+    /// The numbers of a number field in order, or the ordinals of a keyword field.
+    fn ordered(&self, field: usize) -> Ordered<'_>
+        requires { is_ordered_field self.now.schema field ≡ true }
+        ensures is { IsOrdered (column_in self.now field) result }
+        ensures fit { (kind : Kind) → kind_at self.now.schema field ≡ Some kind
+            → NumbersFit kind field self.now.documents }
+    {
         let stored: &Stored = &self.stored;
-        stored.indexes[field].documents_between(stored.schema.kind(field), low, high)
+        stored.indexes[field].ordered(stored.schema.kind(field))
     }
 
     /// The terms of the documents in a text or keyword field.
@@ -203,9 +214,7 @@ impl Segment {
         requires { kind_at self.now.schema field ≡ Some kinds.Keyword }
         ensures { option_copied result ≡ slice_get (keywords self.now field) ordinal }
     {
-        let stored: &Stored = &self.stored;
-        let kind = stored.schema.kind(field);
-        let doc = stored.indexes[field].document_with(kind, ordinal as usize)?;
+        let doc = self.dictionary(field).document_with(ordinal as usize)?;
         text_of(self.document(doc as usize).value(field)?)
     }
 
@@ -216,8 +225,7 @@ impl Segment {
         ensures before { result.0 ≡ before (keywords self.now field) text.now }
         ensures up_to { result.1 ≡ up_to (keywords self.now field) text.now }
     {
-        let stored: &Stored = &self.stored;
-        let (before, up_to) = stored.indexes[field].equal_range(stored.schema.kind(field), text);
+        let (before, up_to) = equal_range(&self.dictionary(field).names, text.as_bytes());
         (before as u64, up_to as u64)
     }
 }

@@ -1,13 +1,9 @@
 -- What isn't above a number is below the next.
-use Rattle.std.proofs.Common.{arith}
+use Rattle.std.proofs.Common.{◌≡◌, ◌+◌, ℕ, subst, arith}
+use Rattle.fts_segment.specs.Between.{IsCut}
 use Rattle.fts_segment.proofs.lookup.place_behind.Goals as goal
 
 pub returns-in-Some : goal.returns-in-Some
 returns-in-Some c =
-    let cut = c.place_of_number.ensures in
-    record {
-      within = cut.within;
-      before = λ k less. omega (arith, cut.before k less, c.in-Some.ensures);
-      behind = λ k more inside. omega
-          (arith, cut.behind k more inside, c.in-Some.ensures);
-    }
+    let next : c.in-Some.above ≡ c.args.number + 1 = omega (arith, c.in-Some.ensures) in
+    subst (λ (above : ℕ). IsCut c.args.numbers.now above c.place_of_number.result) next c.place_of_number.ensures

@@ -3,7 +3,7 @@ use Rattle.std.proofs.Common.{◌≡◌, ◌==◌, ◌<◌, false, [], Contains,
 use Rattle.std.proofs.lemmas.Bool.{eqb-false}
 use Rattle.fts_pack.specs.Documents.{blocks_of, last_of}
 use Rattle.fts_segment.proofs.OrdinalLemmas.{last_of_first}
-use Rattle.fts_segment.proofs.keyword_index.some_document.Goals as goal
+use Rattle.fts_segment.proofs.dictionary.some_document.Goals as goal
 
 pub returns : goal.returns
 returns c =
