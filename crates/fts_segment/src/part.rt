@@ -10,9 +10,12 @@ use crate::moves::move_postings;
 use crate::names::Name;
 use crate::new_numbers::NewNumbers;
 use crate::position_lists::PositionListLog;
-use fts_pack::BLOCK;
+use fts_pack::{BLOCK, List};
 use std::alloc::AllocError;
 use std::marker::Model;
+
+/// How many lists are looked at ahead.
+const AHEAD: usize = 32;
 
 /// What is left of a dictionary, with new numbers of its documents. Contracts see the terms that are left with their
 /// postings, and the numbers.
@@ -26,6 +29,8 @@ pub(crate) struct Part<'a> {
     lists: UnpackedLists<'a>,
     /// Room for a block of documents.
     room: [u32; BLOCK],
+    /// How many documents are in the lists that were looked at ahead.
+    ahead: usize,
 }
 
 impl<'a> Model for Part<'a> {
@@ -49,6 +54,15 @@ fn term_at(dictionary: &Dictionary, at: usize) -> Option<Name<'_>>
     }
 }
 
+/// How many documents lists have, modulo 2^64.
+fn documents_in(lists: &[List]) -> usize {
+    let mut documents = 0usize;
+    for list in lists {
+        documents = documents.wrapping_add(list.len());
+    }
+    documents
+}
+
 impl<'a> Part<'a> {
     /// A whole dictionary.
     pub(crate) fn new(dictionary: &'a Dictionary, numbers: NewNumbers) -> Part<'a>
@@ -62,6 +76,7 @@ impl<'a> Part<'a> {
             term: term_at(dictionary, 0),
             lists: dictionary.positions.lists.unpacked(),
             room: [0; BLOCK],
+            ahead: 0,
         }
     }
 
@@ -82,6 +97,18 @@ impl<'a> Part<'a> {
         match &self.term {
             Some(next) => next.is(term),
             None => false,
+        }
+    }
+
+    /// Looks at the lists of terms to come, so that they are fetched from memory side by side.
+    fn look_ahead(&mut self)
+        ensures { self.new ≡ self.old }
+    {
+        if self.at % AHEAD == 0 {
+            let count = self.dictionary.lists.len();
+            let start = self.at.min(count);
+            let end = start.saturating_add(2 * AHEAD).min(count);
+            self.ahead = documents_in(&self.dictionary.lists[start..end]);
         }
     }
 
@@ -112,6 +139,7 @@ impl<'a> Part<'a> {
             )?;
             self.at += 1;
             self.term = term_at(self.dictionary, self.at);
+            self.look_ahead();
         }
         Ok(())
     }
