@@ -19,7 +19,7 @@ pub(crate) struct Unpacked<'a> {
     ghost are: { (i : ℕ) → i < count → slice_index block i ≡ slice_index numbers.now (start + i) },
 }
 
-/// Puts numbers after others. Mostly it is one, for which no copy of memory is called.
+/// Puts numbers after others. Most often it is one, which is pushed at less cost than a slice is copied.
 #[inline(always)]
 fn push_all(out: &mut Vec<u32>, numbers: &[u32]) -> Result<(), AllocError>
     ensures { OnOk result (out.new.items ≡ out.old.items ++ numbers.now) }

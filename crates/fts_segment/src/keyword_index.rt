@@ -3,11 +3,11 @@ ghost use Rattle.std.specs.Prelude.{◌≡◌, ◌<◌, ◌≤◌, ◌^◌, [], 
 ghost use Rattle.std.specs.Prelude.{Some, length, slice_get};
 ghost use Rattle.fts_model.specs.declared.value.FieldValue.{FieldValue};
 ghost use Rattle.fts_model.specs.declared.schema.Kind.TheVariants as kinds;
+ghost use Rattle.fts_model.specs.Limits.{most_merged};
+ghost use Rattle.fts_model.specs.Operations.{kind_at};
 ghost use Rattle.fts_segment.specs.FieldIndexes.{AreKeywords, AreTerms, HasKeywordAt};
 ghost use Rattle.fts_segment.specs.Keywords.{ordinals_of, texts_of, with_ordinal};
 ghost use Rattle.fts_segment.specs.Occurrences.{values_in};
-ghost use Rattle.fts_model.specs.Limits.{most_merged};
-ghost use Rattle.fts_model.specs.Operations.{kind_at};
 ghost use Rattle.fts_segment.specs.Sources.{contents, live_count};
 ghost use Rattle.fts_segment.specs.Between.{AreBetween, AreKeyed, NumberColumn, count_between};
 
@@ -165,7 +165,7 @@ fn set_ordinals_of(
     }
 }
 
-/// The ordinals of documents, of which each is in the list of its own ordinal. No text is looked at.
+/// The ordinals of documents, each of which is in the list of its own ordinal, if it has one. No text is looked at.
 fn ordinals_by(
     alloc: Global,
     lists: &[fts_pack::List],
