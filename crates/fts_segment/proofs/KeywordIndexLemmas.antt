@@ -2,20 +2,17 @@
 use Rattle.std.proofs.lemmas.Bool.{lt-ltb}
 use Rattle.std.proofs.lemmas.Option.{slice_get_within, get_or_from_slice_get}
 use Rattle.std.proofs.lemmas.Slice.Eq.{bytes_eq-Decides}
-use Rattle.std.proofs.Common.{◌≡◌, ◌<◌, ◌+◌, ℕ, zero, suc, Bool, true, false, List, [], ◌∷◌, Option, Some, None, length, map, Contains, IfSome, get_or, refl}
+use Rattle.std.proofs.Common.{◌≡◌, ◌+◌, ℕ, zero, suc, Bool, true, false, List, [], ◌∷◌, Option, Some, None, length, map, Contains, refl}
 use Rattle.std.proofs.Common.{sym, ap, subst, ◌∙◌, ⊎_elim, arith}
-use Rattle.std.proofs.lemmas.List.{get_or-map, length-map}
 use Rattle.std.specs.Prelude.{slice_get, nat_lt}
 use Rattle.fts_model.specs.declared.schema.Kind.TheVariants as kinds
 use Rattle.fts_model.specs.declared.value.FieldValue.{FieldValue}
 use Rattle.fts_model.specs.declared.value.FieldValue.TheVariants as values
-use Rattle.fts_model.specs.declared.operation.Stamped.{Stamped}
-use Rattle.fts_model.specs.Documents.{DocumentValue, value_in_field}
 use Rattle.fts_segment.specs.declared.dictionary.Dictionary.{Dictionary}
 use Rattle.fts_segment.specs.FieldIndexes.{AreTerms}
 use Rattle.fts_segment.specs.TermPositionLists.{term_position_lists}
 use Rattle.fts_segment.specs.Keywords.{keyword_of, texts_in, texts_of, in_order, before}
-use Rattle.fts_segment.specs.Occurrences.{OccurrenceValue, occurrences, occurrence_at, docs_of, is_term, values_in}
+use Rattle.fts_segment.specs.Occurrences.{OccurrenceValue, occurrences, occurrence_at, docs_of, is_term}
 use Rattle.fts_segment.specs.Dictionaries.{IsDictionaryOf, occurs}
 use Rattle.fts_segment.specs.Sorted.{Ascends}
 use Rattle.fts_segment.proofs.HoldingLemmas.{docs_of-cons}

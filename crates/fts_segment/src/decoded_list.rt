@@ -19,6 +19,18 @@ pub(crate) struct Unpacked<'a> {
     ghost are: { (i : ℕ) → i < count → slice_index block i ≡ slice_index numbers.now (start + i) },
 }
 
+/// Puts numbers after others. Most often it is one, which is pushed at less cost than a slice is copied.
+#[inline(always)]
+fn push_all(out: &mut Vec<u32>, numbers: &[u32]) -> Result<(), AllocError>
+    ensures { OnOk result (out.new.items ≡ out.old.items ++ numbers.now) }
+{
+    match numbers {
+        [number] => out.push(*number)?,
+        _ => out.extend_from_slice(numbers)?,
+    }
+    Ok(())
+}
+
 impl<'a> Unpacked<'a> {
     /// No block was looked at yet.
     pub(crate) fn new(numbers: &'a Numbers) -> Unpacked<'a>
@@ -77,7 +89,7 @@ impl<'a> Unpacked<'a> {
         self.enter(start);
         let from = start - self.start;
         let count = (end - start).min(self.count - from);
-        out.extend_from_slice(&self.block[from..from + count])?;
+        push_all(out, &self.block[from..from + count])?;
         Ok(start + count)
     }
 

@@ -78,8 +78,7 @@ impl FieldIndex {
                 Ok(FieldIndex::Terms(dictionary))
             }
             Kind::Keyword => {
-                let dictionary = joined_terms(alloc, sources, field, kind)?;
-                let index = KeywordIndex::of(alloc, documents.len(), dictionary)?;
+                let index = KeywordIndex::joined(alloc, sources, documents, field)?;
                 Ok(FieldIndex::Keywords(index))
             }
             Kind::U64 | Kind::I64 => {

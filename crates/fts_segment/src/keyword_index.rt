@@ -1,14 +1,18 @@
 // The texts of a keyword field: a dictionary, and for each document the ordinal of its text.
-ghost use Rattle.std.specs.Prelude.{◌≡◌, ◌<◌, ◌^◌, All, IfOk, List, Option};
-ghost use Rattle.std.specs.Prelude.{length};
+ghost use Rattle.std.specs.Prelude.{◌≡◌, ◌<◌, ◌≤◌, ◌^◌, All, IfOk, List, Option, Some, length};
 ghost use Rattle.fts_model.specs.declared.value.FieldValue.{FieldValue};
 ghost use Rattle.fts_model.specs.declared.schema.Kind.TheVariants as kinds;
+ghost use Rattle.fts_model.specs.Limits.{most_merged};
+ghost use Rattle.fts_model.specs.Operations.{kind_at};
 ghost use Rattle.fts_segment.specs.FieldIndexes.{AreKeywords, AreTerms};
 ghost use Rattle.fts_segment.specs.Keywords.{with_ordinal};
 ghost use Rattle.fts_segment.specs.Occurrences.{values_in};
+ghost use Rattle.fts_segment.specs.Sources.{contents, live_count};
 ghost use Rattle.fts_segment.specs.Between.{AreKeyed, NumberColumn};
 
 use crate::dictionary::Dictionary;
+use crate::joint_terms::joined_terms;
+use crate::source::Source;
 use crate::sums::sums_of;
 use fts_base::release;
 use fts_model::{Document, Kind, Stamped};
@@ -52,12 +56,26 @@ impl KeywordIndex {
         Ok(index)
     }
 
-    /// The same of this many documents whose dictionary is known.
-    pub(crate) fn of(
+    /// The texts of the live documents of sources in a keyword field.
+    pub(crate) fn joined(
         alloc: Global,
-        docs: usize,
-        dictionary: Dictionary,
+        sources: &[Source<'_>],
+        documents: &[Stamped<Document>],
+        field: usize,
     ) -> Result<KeywordIndex, AllocError>
+        requires documents { documents.now ≡ contents sources.now }
+        requires few { live_count sources.now ≤ most_merged }
+        requires fit { length documents.now < 2 ^ 32 }
+        requires kinds { All (λ source. kind_at source.segment.schema field ≡ Some kinds.Keyword) sources.now }
+        ensures { IfOk result (AreKeywords kinds.Keyword (values_in field documents.now)) }
+    {
+        let dictionary = joined_terms(alloc, sources, field, Kind::Keyword)?;
+        let index = KeywordIndex::of(alloc, documents.len(), dictionary)?;
+        Ok(index)
+    }
+
+    /// The texts of this many documents of which the dictionary is known.
+    fn of(alloc: Global, docs: usize, dictionary: Dictionary) -> Result<KeywordIndex, AllocError>
         requires few { docs < 2 ^ 32 }
         requires terms { (vs : List (Option FieldValue)) × (length vs ≡ docs) × AreTerms kinds.Keyword vs dictionary }
         ensures { (vs : List (Option FieldValue)) → length vs ≡ docs → AreTerms kinds.Keyword vs dictionary
@@ -104,7 +122,7 @@ fn set_ordinals_of(
     }
 }
 
-/// The ordinals of documents, of which each is in the list of its own ordinal. No text is looked at.
+/// The ordinals of documents, each of which is in the list of its own ordinal, if it has one. No text is looked at.
 fn ordinals_by(
     alloc: Global,
     lists: &[fts_pack::List],

@@ -91,8 +91,8 @@ fn move_some(
 }
 
 /// Puts the postings of a term after others, by the new numbers of their documents: these after `docs`, and their
-/// positions after those of a log. `room` is for a block of documents. Where no document is dead, positions are moved as
-/// a whole.
+/// positions after those of a log. `room` is for a block of documents. Where no document is dead, positions are moved
+/// as a whole.
 pub(crate) fn move_postings(
     list: &List,
     positions: TermPositionLists<'_>,

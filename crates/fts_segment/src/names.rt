@@ -80,13 +80,6 @@ impl<'a> Name<'a> {
         Name { bytes, head }
     }
 
-    /// Its bytes.
-    pub(crate) fn bytes(&self) -> &'a [u8]
-        ensures { result.now ≡ self.now }
-    {
-        self.bytes
-    }
-
     /// The same name.
     pub(crate) fn again(&self) -> Name<'a>
         ensures { result ≡ self.now }
@@ -97,7 +90,7 @@ impl<'a> Name<'a> {
         }
     }
 
-    /// The order of this name and another. Only where the heads are equal the bytes are compared.
+    /// The order of this name and another. Only if the heads are equal the bytes are compared.
     pub(crate) fn compare(&self, other: &Name<'_>) -> Ordering
         ensures { result ≡ slice_cmp nat_cmp self.now other.now }
     {
@@ -107,7 +100,7 @@ impl<'a> Name<'a> {
         }
     }
 
-    /// Whether it is another name.
+    /// Whether another name is the same. Only if the heads are equal the bytes are compared.
     pub(crate) fn is(&self, other: &Name<'_>) -> bool
         ensures { result ≡ bytes_eq self.now other.now }
     {
@@ -163,7 +156,7 @@ impl Names {
         }
     }
 
-    /// The order of the name of this number and of another. Only where the heads are equal the bytes are looked up.
+    /// The order of the name of this number and of another. Only if the heads are equal the bytes are looked up.
     pub(crate) fn compare(&self, number: usize, name: &Name<'_>) -> Ordering
         requires { number < length self.now }
         ensures { result ≡ slice_cmp nat_cmp (slice_index_or self.now number []) name.now }

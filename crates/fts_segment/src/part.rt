@@ -14,7 +14,7 @@ use fts_pack::{BLOCK, List};
 use std::alloc::AllocError;
 use std::marker::Model;
 
-/// How many lists are looked at ahead.
+/// How many lists are fetched at once.
 const AHEAD: usize = 32;
 
 /// What is left of a dictionary, with new numbers of its documents. Contracts see the terms that are left with their
@@ -29,8 +29,8 @@ pub(crate) struct Part<'a> {
     lists: UnpackedLists<'a>,
     /// Room for a block of documents.
     room: [u32; BLOCK],
-    /// How many documents are in the lists that were looked at ahead.
-    ahead: usize,
+    /// How many documents the lists have that were fetched last. Nothing needs it but that they are read.
+    fetched: usize,
 }
 
 impl<'a> Model for Part<'a> {
@@ -76,7 +76,7 @@ impl<'a> Part<'a> {
             term: term_at(dictionary, 0),
             lists: dictionary.positions.lists.unpacked(),
             room: [0; BLOCK],
-            ahead: 0,
+            fetched: 0,
         }
     }
 
@@ -100,15 +100,16 @@ impl<'a> Part<'a> {
         }
     }
 
-    /// Looks at the lists of terms to come, so that they are fetched from memory side by side.
-    fn look_ahead(&mut self)
+    /// Reads a stretch of the lists to come, so that they are fetched from memory side by side. Parts are too many arrays
+    /// for the processor to fetch ahead by itself, and a join would wait for each list when its term comes.
+    fn fetch(&mut self)
         ensures { self.new ≡ self.old }
     {
         if self.at % AHEAD == 0 {
             let count = self.dictionary.lists.len();
             let start = self.at.min(count);
             let end = start.saturating_add(2 * AHEAD).min(count);
-            self.ahead = documents_in(&self.dictionary.lists[start..end]);
+            self.fetched = documents_in(&self.dictionary.lists[start..end]);
         }
     }
 
@@ -139,7 +140,7 @@ impl<'a> Part<'a> {
             )?;
             self.at += 1;
             self.term = term_at(self.dictionary, self.at);
-            self.look_ahead();
+            self.fetch();
         }
         Ok(())
     }

@@ -1,4 +1,4 @@
-use Rattle.std.proofs.Common.{◌≡◌, ◌<◌, ◌++◌, ◌+◌, ◌≤◌, ℕ, [], All, List, Option, Some, None, rules, length, get_or, map, replicate, take, drop, sym, subst, ap, ◌∙◌, arith}
+use Rattle.std.proofs.Common.{◌≡◌, ◌<◌, ◌++◌, ℕ, [], All, List, None, rules, length, get_or, map, replicate, take, drop, sym, subst, ap, ◌∙◌, arith}
 use Rattle.std.proofs.Math.Seq.{take-append_seam}
 use Rattle.std.proofs.lemmas.List.{get_or_default, length-map}
 use Rattle.fts_segment.specs.Keywords.{with_ordinal}

@@ -12,7 +12,8 @@ loop-low-preserved c =
 
 pub returns-in-Equal-clause-found : goal.returns-in-Equal-clause-found
 returns-in-Equal-clause-found c =
-    Narrows-found c.args.names.now c.args.name.now _ (omega (arith, c.loop-low.invariant.within)) (sym (rw c.new-wanted.ensures at c.compare.ensures) ∙ c.in-Equal.is)
+    Narrows-found c.args.names.now c.args.name.now _ (omega (arith, c.loop-low.invariant.within))
+    (sym (rw c.new-wanted.ensures at c.compare.ensures) ∙ c.in-Equal.is)
 
 pub returns-clause-absent : goal.returns-clause-absent
 returns-clause-absent c = Narrows-none c.loop-low.invariant c.loop-low-test.false

@@ -1,4 +1,4 @@
-use Rattle.std.proofs.Common.{◌≡◌, Some, None, List, flat_map, map, ap, refl, ◌∙◌, sym, subst, ◌<◌}
+use Rattle.std.proofs.Common.{◌≡◌, Some, None, List, flat_map, map, refl, ◌∙◌, sym, subst, ◌<◌}
 use Rattle.fts_segment.specs.Parts.{PartValue, given, passed, least_of}
 use Rattle.fts_segment.specs.PositionLogs.{logged_term_position_lists}
 use Rattle.fts_segment.proofs.PartLemmas.{left, fewer}

@@ -1,4 +1,4 @@
-use Rattle.std.proofs.Common.{◌≡◌, ◌∙◌, ap₂, subst}
+use Rattle.std.proofs.Common.{◌∙◌, ap₂, subst}
 use Rattle.std.specs.Ordering.{nat_cmp}
 use Rattle.fts_segment.specs.Heads.{IsHead}
 use Rattle.fts_segment.proofs.HeadLemmas.{order_of_heads}

@@ -1,4 +1,4 @@
-use Rattle.std.proofs.Common.{[], get_or, ◌≡◌, ◌∙◌, ap, sym, subst}
+use Rattle.std.proofs.Common.{[], ◌∙◌, ap, sym, subst}
 use Rattle.fts_segment.specs.Heads.{head, AreBytes, AreHeads}
 use Rattle.fts_segment.proofs.HeadLemmas.{head_at}
 use Rattle.fts_segment.proofs.names.Names.name.Goals as goal

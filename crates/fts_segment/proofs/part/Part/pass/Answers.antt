@@ -54,7 +54,8 @@ pub returns-in_ok-move_postings-clause-part : goal.returns-in_ok-move_postings-c
 returns-in_ok-move_postings-clause-part c =
     let a = (goal.at.returns-in_ok-move_postings-clause-part c).After-get-positions in
     let p = c.self.inside in
-    c.look_ahead.ensures ∙ sym (passed-here c.args.term.now p.at p.dictionary.now p.numbers c.self.invariant.whole (next_of a)) ∙ ap (passed c.args.term.now) c.self.view_is
+    c.fetch.ensures
+    ∙ sym (passed-here c.args.term.now p.at p.dictionary.now p.numbers c.self.invariant.whole (next_of a)) ∙ ap (passed c.args.term.now) c.self.view_is
 
 pub returns-in_ok-move_postings-clause-puts : goal.returns-in_ok-move_postings-clause-puts
 returns-in_ok-move_postings-clause-puts c =
