@@ -176,9 +176,9 @@ impl Writer {
     }
 
     /// Commits a batch: its adds are cut into new segments, and the documents that it strikes are struck. The work is
-    /// done by up to this many threads, 1 to 64, the calling one among them: one job for each segment that was there,
-    /// in their order, and then one for each new segment, in the order of their first adds. The gate is called around
-    /// each.
+    /// done by up to this many threads, 1 to 64, the calling one among them: if the batch has a delete, one job for each
+    /// segment that was there, in their order; and then one for each new segment, in the order of their first adds. The
+    /// gate is called around each.
     ///
     /// `StaleBatch` where no round is open, or the batch isn't of the open one; then `OtherSchema` with the stamp of
     /// the first operation that doesn't fit the schema; then `StampsUsedUp` where a segment's number would reach 2^62.

@@ -1,4 +1,4 @@
-// A commit cuts the adds of a batch into new segments, and is a job for each segment, old or new.
+// A commit cuts the adds of a batch into new segments, and is a job for each, and for each old one if there is a delete.
 
 mod commit;
 mod cut;
