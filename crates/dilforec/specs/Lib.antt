@@ -21,6 +21,7 @@ pub use Rattle.fts_rounds.specs.Shuffles
 pub use Rattle.fts_snapshots.specs.Commits
 pub use Rattle.fts_snapshots.specs.Cuts
 pub use Rattle.fts_snapshots.specs.Entries
+pub use Rattle.fts_snapshots.specs.EntryLists
 pub use Rattle.fts_snapshots.specs.Infos
 pub use Rattle.fts_snapshots.specs.Jobs
 pub use Rattle.fts_snapshots.specs.LateMerges
