@@ -162,15 +162,15 @@ def usual() -> str:
 
 
 def where(part: Part) -> str:
-    return "{machine}; kit {kit}".format(**kept(part))
+    return "on {machine}; kit {kit}".format(**kept(part))
 
 
 def section(part: Part) -> str:
     """A part's heading, conditions, tables and picture."""
     told = kept(part)
-    program = f", program {told['program']}" if told["program"] else ""
+    program = f", program {told['program'].split()[0]}" if told["program"] else ""
     conditions = f"`--only {part.name}`: commit {told['commit']}{program}, {told['date']}, {told['seconds']} s, load {told['load'][0]:.1f}"
-    conditions += "." if where(part) == usual() else f"; on {where(part)}."
+    conditions += "".join(f"; {each}" for each in where(part).split("; ") if each not in usual().split("; ")) + "."
     note = [told["note"]] if told.get("note") else []
     picture = [f"![{part.title}]({part.picture})"] if part.picture else []
     return "\n\n".join([f"## {part.title}", conditions, *note, part.shown(told["raw"]), *picture])
@@ -179,7 +179,7 @@ def section(part: Part) -> str:
 def introduction() -> str:
     return f"""# What was measured
 
-`python3 bench/report.py` writes this page, and measures it anew, with `--only` a part of it. Unless a part says otherwise, it was measured on
+`python3 bench/report.py` writes this page, and measures it anew, with `--only` a part of it. Unless a part says otherwise, it was measured
 {usual()}. Each part says at which commit, when and in how many seconds, how the SHA-256 of the program begins, and the load (processes that ran
 or waited to run in the minute before). Above a load of zero other work was on the processors: then a ratio of two columns says more than
 either. A dash means that a program has nothing for the search.
