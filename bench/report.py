@@ -181,8 +181,8 @@ def introduction() -> str:
 
 `python3 bench/report.py` writes this page, and measures it anew, with `--only` a part of it. Unless a part says otherwise, it was measured
 {usual()}. Each part says at which commit, when and in how many seconds, how the SHA-256 of the program begins, and the load (processes that ran
-or waited to run in the minute before). Above a load of zero other work was on the processors: then a ratio of two columns says more than
-either. A dash means that a program has nothing for the search.
+or waited to run in the minute before). Under a load, a ratio of two columns says more than either. A dash means that a program has nothing
+for the search.
 
 ## The documents
 
