@@ -151,7 +151,7 @@ int32_t dilforec_searcher_close(dilforec_searcher_t *searcher);
 
 /* From now on, commits merge no segment of more than `limit` live documents, and none by itself; what is left waits for
  * merges that are begun. DILFOREC_NO_LIMIT, as at first: commits merge whatever is due. DILFOREC_OK, DILFOREC_NOTHING
- * without a schema, DILFOREC_USED_UP or DILFOREC_CLOSED. */
+ * without a schema, or DILFOREC_CLOSED. */
 int32_t dilforec_limit_merges(dilforec_t *index, uint32_t limit);
 
 /* A merge that was begun. */
@@ -160,8 +160,8 @@ typedef struct {
 } dilforec_merge_t;
 
 /* Begins the merge that is due next: segments of about one size, or one of which over a third is deleted. The index
- * forgets the one that was begun before. DILFOREC_OK, DILFOREC_NOTHING if none is due, DILFOREC_MEMORY,
- * DILFOREC_USED_UP or DILFOREC_CLOSED. */
+ * forgets the one that was begun before. DILFOREC_OK, DILFOREC_NOTHING if none is due, DILFOREC_MEMORY or
+ * DILFOREC_CLOSED. */
 int32_t dilforec_merge_begin(dilforec_t *index, dilforec_merge_t *slot);
 
 /* Makes one segment of those of a merge: the long part, which any thread may do while the index is used, or is closed.
@@ -171,7 +171,7 @@ int32_t dilforec_merge_run(dilforec_merge_t *merge);
 /* Puts what the merge made that was begun last in the place of what it joined, without what was deleted meanwhile. It
  * copies no document. DILFOREC_OK; DILFOREC_NOTHING if there is none, or it wasn't run; DILFOREC_GONE if what it
  * joined was merged meanwhile, by a commit or a script's `merge`, or all of it was deleted, and then it is given up;
- * DILFOREC_MEMORY, and then it may be ended again; DILFOREC_USED_UP or DILFOREC_CLOSED. */
+ * DILFOREC_MEMORY, and then it may be ended again; or DILFOREC_CLOSED. */
 int32_t dilforec_merge_end(dilforec_t *index);
 
 /* Closes a merge, run or not, ended or not; what it made stays to be ended. DILFOREC_OK, or DILFOREC_CLOSED if it was

@@ -1,29 +1,23 @@
 -- What calls leave that merge an index beside its commits. No reply shows what they do.
 use Rattle.std.specs.Prelude.{◌≡◌, ◌≢◌, ◌⊎◌, ◌↔◌, ℤ, Option, Some, None, MatchOption}
 use Rattle.fts_engine.specs.Indexes.{Index}
-use Rattle.fts_c.specs.declared.codes.TheConstants.{OK, MEMORY, USED_UP, CLOSED, NOTHING, GONE}
+use Rattle.fts_c.specs.declared.codes.TheConstants.{OK, MEMORY, CLOSED, NOTHING, GONE}
 use Rattle.fts_c.specs.declared.state.State.{State}
-
--- work on how an index is kept wasn't done, since there is none, or since there were 2^61 calls
-abbrev pub IsUnkept : Option Index → ℤ → Type 0
-IsUnkept None code = code ≡ NOTHING
-IsUnkept (Some index) code = code ≡ USED_UP
 
 -- the limit of what commits merge was set, unless there is no index
 pub record LimitsMerges (old new : State) (code : ℤ) : Type 0 where
   pub same : new ≡ old
-  pub code_is : (code ≡ OK) ⊎ (code ≡ NOTHING) ⊎ (code ≡ USED_UP)
+  pub code_is : (code ≡ OK) ⊎ (code ≡ NOTHING)
   pub nothing : (code ≡ NOTHING) ↔ (old.session.index ≡ None)
 
 -- the codes of a merge that wasn't begun
-abbrev pub NotBegun : Option Index → ℤ → Type 0
-NotBegun None code = (code ≡ NOTHING) ⊎ (code ≡ MEMORY)
-NotBegun (Some index) code = (code ≡ NOTHING) ⊎ (code ≡ MEMORY) ⊎ (code ≡ USED_UP)
+abbrev pub NotBegun : ℤ → Type 0
+NotBegun code = (code ≡ NOTHING) ⊎ (code ≡ MEMORY)
 
 -- A merge of an index was begun in a place, which holds it now. At another code the place is as it was.
 pub record Begins {P : Type 0} (index : Option Index) (held : Option State) (old new : P) (code : ℤ) : Type 0 where
   pub ok : code ≡ OK → (index ≢ None) × MatchOption held ⊥ (λ s. s.merge ≢ None)
-  pub code_is : code ≢ OK → NotBegun index code
+  pub code_is : code ≢ OK → NotBegun code
   pub same : code ≢ OK → new ≡ old
 
 -- A merge of an open place was begun in another, and the first is as it was. If it is closed, so it stays.
@@ -42,5 +36,5 @@ pub record RunsMerge (old new : State) (code : ℤ) : Type 0 where
 -- joined is gone
 pub record EndsMerge (old new : State) (code : ℤ) : Type 0 where
   pub same : new ≡ old
-  pub code_is : (code ≡ OK) ⊎ (code ≡ NOTHING) ⊎ (code ≡ MEMORY) ⊎ (code ≡ GONE) ⊎ (code ≡ USED_UP)
+  pub code_is : (code ≡ OK) ⊎ (code ≡ NOTHING) ⊎ (code ≡ MEMORY) ⊎ (code ≡ GONE)
   pub no_index : old.session.index ≡ None → code ≡ NOTHING

@@ -382,8 +382,8 @@ pub extern "C" fn dilforec_syntax_at(alloc: Global, query: &[u8], at: &mut usize
 }
 
 /// From now on, commits merge no segment of more live documents than a limit, and none by itself; without one, they
-/// merge whatever is due. What is left waits for merges that are begun. 0, 3 if there were 2^61 calls, 4 if the place is
-/// closed, or 5 if there is no schema yet.
+/// merge whatever is due. What is left waits for merges that are begun. 0, 4 if the place is closed, or 5 if there is no
+/// schema yet.
 #[unsafe(no_mangle)]
 pub extern "C" fn dilforec_limit_merges(slot: &mut Slot, alloc: Global, limit: u32) -> i32
     ensures { IfOpen slot.old.state slot.new.state result
@@ -402,7 +402,7 @@ pub extern "C" fn dilforec_limit_merges(slot: &mut Slot, alloc: Global, limit: u
 }
 
 /// Begins a merge of what is due next, in a place of its own, and forgets the one that was begun before: 0, 1 if memory
-/// was refused, 3 if there were 2^61 calls, 4 if the index is closed, or 5 if nothing is due.
+/// was refused, 4 if the index is closed, or 5 if nothing is due.
 #[unsafe(no_mangle)]
 pub extern "C" fn dilforec_merge_begin(index: &mut Slot, slot: &mut Slot, alloc: Global) -> i32
     ensures { BeginsMerge index.old.state index.new.state slot.new.state slot.old slot.new result }
@@ -443,8 +443,8 @@ pub extern "C" fn dilforec_merge_run(merge: &mut Slot, alloc: Global) -> i32
 }
 
 /// Ends the merge of an index that was begun last: what it made takes the place of what it joined, with what was deleted
-/// meanwhile. 0, 1 if memory was refused, so that it may be ended again, 3 if there were 2^61 calls, 4 if the index is
-/// closed, 5 if there is none or it wasn't run, or 6 if what it joined was merged meanwhile: then it is given up.
+/// meanwhile. 0, 1 if memory was refused, so that it may be ended again, 4 if the index is closed, 5 if there is none or
+/// it wasn't run, or 6 if what it joined was merged meanwhile: then it is given up.
 #[unsafe(no_mangle)]
 pub extern "C" fn dilforec_merge_end(index: &mut Slot, alloc: Global) -> i32
     ensures { IfOpen index.old.state index.new.state result

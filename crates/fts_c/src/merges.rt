@@ -1,5 +1,5 @@
 // How an index is merged, as work that a session hands on to its engine.
-ghost use Rattle.std.specs.Prelude.{◌≡◌, ◌+◌, ◌^◌, ◌<◌, ◌≤◌};
+ghost use Rattle.std.specs.Prelude.{◌≡◌, ◌+◌, ◌^◌, ◌≤◌};
 ghost use Rattle.fts_engine_local.specs.EndedMerges.{Begins, EndsMerge};
 
 use fts_engine_local::{BegunMerge, LocalEngine};
@@ -16,9 +16,9 @@ impl Upkeep<LocalEngine> for Limiting {
     type Done = ();
 
     fn done(self, engine: &mut LocalEngine)
-        requires { engine.old.calls < 2 ^ 61 }
         ensures index { engine.new.index ≡ engine.old.index }
         ensures changes { engine.new.calls ≤ engine.old.calls + 1 }
+        ensures counted { 2 ^ 61 ≤ engine.old.calls → engine.new.calls ≡ engine.old.calls }
         ensures limited { engine.new ≡ record engine.old { limit = self.limit } }
     {
         engine.limit_merges(self.limit);
@@ -33,9 +33,9 @@ impl Upkeep<LocalEngine> for Beginning {
     type Done = Result<Option<BegunMerge>, Refusal>;
 
     fn done(self, engine: &mut LocalEngine) -> Result<Option<BegunMerge>, Refusal>
-        requires { engine.old.calls < 2 ^ 61 }
         ensures index { engine.new.index ≡ engine.old.index }
         ensures changes { engine.new.calls ≤ engine.old.calls + 1 }
+        ensures counted { 2 ^ 61 ≤ engine.old.calls → engine.new.calls ≡ engine.old.calls }
         ensures begun { Begins engine.old engine.new result }
     {
         engine.begin_merge()
@@ -50,9 +50,9 @@ impl Upkeep<LocalEngine> for Ending {
     type Done = Result<bool, Refusal>;
 
     fn done(self, engine: &mut LocalEngine) -> Result<bool, Refusal>
-        requires { engine.old.calls < 2 ^ 61 }
         ensures index { engine.new.index ≡ engine.old.index }
         ensures changes { engine.new.calls ≤ engine.old.calls + 1 }
+        ensures counted { 2 ^ 61 ≤ engine.old.calls → engine.new.calls ≡ engine.old.calls }
         ensures ended { EndsMerge engine.old engine.new result }
     {
         engine.end_merge()

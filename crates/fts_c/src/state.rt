@@ -4,7 +4,7 @@ ghost use Rattle.fts_c.specs.Blocks.{ExecutesLines, ExecutesNext};
 ghost use Rattle.fts_c.specs.Calls.{Answers, Executes, Searches};
 ghost use Rattle.fts_c.specs.CutSearches.{SearchesFields};
 ghost use Rattle.fts_c.specs.Codes.{IsFault, IsTried};
-ghost use Rattle.fts_c.specs.Merges.{EndsMerge, IsUnkept, LimitsMerges, NotBegun, RunsMerge};
+ghost use Rattle.fts_c.specs.Merges.{EndsMerge, LimitsMerges, NotBegun, RunsMerge};
 ghost use Rattle.fts_c.specs.Pairs.{AreTried, IsFaultOfTwo, Replaces};
 ghost use Rattle.fts_c.specs.StatsOf.{AreStatsOf};
 
@@ -181,18 +181,13 @@ impl State {
         }
     }
 
-    /// Has work done on how the index is kept, or tells the code of why not.
+    /// Has work done on how the index is kept, if there is one.
     fn keep_up<W: Upkeep<LocalEngine> + Drop>(&mut self, work: W) -> Result<W::Done, i32>
         ensures same { self.new ≡ self.old }
-        ensures code { MatchResult result (λ _. self.old.session.index ≢ None) (IsUnkept self.old.session.index) }
+        ensures done { MatchResult result (λ _. self.old.session.index ≢ None)
+            (λ code. (self.old.session.index ≡ None) × (code ≡ NOTHING)) }
     {
-        if self.session.index().is_none() {
-            return Err(NOTHING);
-        }
-        match self.session.keep_up(work) {
-            Some(done) => Ok(done),
-            None => Err(USED_UP),
-        }
+        self.session.keep_up(work).ok_or(NOTHING)
     }
 
     /// Limits what commits merge.
@@ -215,7 +210,7 @@ impl State {
         ensures same { self.new ≡ self.old }
         ensures begun { MatchResult result
             (λ begun. (self.old.session.index ≢ None) × (begun.value.merge ≢ None))
-            (NotBegun self.old.session.index) }
+            NotBegun }
     {
         let begun = State {
             session,

@@ -1,5 +1,5 @@
 -- What the beginning of a merge and its end leave of an engine of one thread.
-use Rattle.std.specs.Prelude.{◌≡◌, ◌≢◌, ◌+◌, ◌⊎◌, true, false, Bool, Option, Some, None, List, Result, Ok, Err}
+use Rattle.std.specs.Prelude.{◌≡◌, ◌≢◌, ◌+◌, ◌^◌, ◌≤◌, ◌⊎◌, true, false, Bool, Option, Some, None, List, Result, Ok, Err}
 use Rattle.fts_base.specs.declared.refusal.Refusal.{Refusal}
 use Rattle.fts_base.specs.declared.refusal.Refusal.TheVariants.{Memory}
 use Rattle.fts_snapshots.specs.Entries.{EntryValue}
@@ -37,10 +37,11 @@ Ends old new (Err refusal) =
     ((refusal ≡ Memory) × (new.snapshot ≡ old.snapshot) × (new.begun ≡ old.begun))
     ⊎ HasFailed old.begun old new refusal
 
--- A merge was ended, if one was begun and run; what the index stands for is the same.
+-- A merge was ended, if one was begun and run; what the index stands for is the same. Calls are counted up to 2^61.
 pub record EndsMerge (old new : LocalValue) (result : Result Bool Refusal) : Type 0 where
   pub index : new.index ≡ old.index
-  pub calls : new.calls ≡ old.calls + 1
+  pub calls : new.calls ≤ old.calls + 1
+  pub counted : 2 ^ 61 ≤ old.calls → new.calls ≡ old.calls
   pub limit : new.limit ≡ old.limit
   pub merge : new.merge ≡ old.merge
   pub is_merged : new.is_merged ≡ old.is_merged

@@ -16,6 +16,9 @@ use std::sync::Arc;
 /// For how many operations room is kept once those before were committed or given up.
 const MOST_KEPT: usize = 1_024;
 
+/// After this many calls no merge is ended.
+const MOST_CALLS: u64 = 1 << 61;
+
 /// Lets operations go, and the room of many.
 fn let_go(ops: &mut Vec<Stamped<Op>>)
     ensures { ops.new.items ≡ [] }
@@ -147,11 +150,13 @@ impl LocalEngine {
     /// Ends the merge that was begun last, if there is one and it was run, and tells whether: the segment takes the
     /// place of its sources, with the live bits that these have by then. Nothing is found differently by it.
     ///
-    /// `SourceGone` if a source is gone, by which the merge is given up.
+    /// `SourceGone` if a source is gone, by which the merge is given up; `Memory` also after 2^61 calls.
     pub fn end_merge(&mut self) -> Result<bool, Refusal>
-        requires { self.old.calls < 2 ^ 61 }
         ensures { EndsMerge self.old self.new result }
     {
+        if self.calls >= MOST_CALLS {
+            return Err(Refusal::Memory);
+        }
         self.calls += 1;
         let Some(place) = &self.begun else {
             return Ok(false);

@@ -1,7 +1,6 @@
 -- What is left of the proof of `syntax_of`.
-use Rattle.std.proofs.Common.{◌≡◌, ℕ, List, Option, Some, None, inl, inr, refl, sym, subst}
+use Rattle.std.proofs.Common.{ℕ, List, Option, Some, None, inl, inr, refl, subst}
 use Rattle.fts_query.specs.Outcomes.{TellsSyntax}
-use Rattle.fts_c.specs.Syntaxes.{IsSyntaxAt}
 use Rattle.fts_c.proofs.syntax_of.Goals as goal
 
 pub returns-in-Some : goal.returns-in-Some

@@ -1,5 +1,5 @@
 // A script line by line: what it has come to, and its replies.
-ghost use Rattle.std.specs.Prelude.{◌≡◌, ◌+◌, ◌^◌, ◌<◌, ◌≤◌, false, length, IfOk, OnOk, OnErr, option_map};
+ghost use Rattle.std.specs.Prelude.{◌≡◌, ◌+◌, ◌^◌, ◌<◌, ◌≤◌, false, length, IfOk, OnOk, OnErr, is_none, option_map};
 ghost use Rattle.std.specs.Prelude.{string_bytes};
 ghost use Rattle.fts_script.specs.session.Text.{is_blank};
 ghost use Rattle.fts_script.specs.session.Finds.{at_commit, reply_to_search};
@@ -200,15 +200,14 @@ impl<E: Engine> Session<E> {
         })
     }
 
-    /// Has work done on how the index is kept, if there is one and fewer than 2^61 calls were tried. The script goes on
-    /// as if it hadn't been.
+    /// Has work done on how the index is kept, if there is one. The script goes on as if it hadn't been.
     pub fn keep_up<W: Upkeep<E> + Drop>(&mut self, work: W) -> Option<W::Done>
-        ensures { self.new ≡ self.old }
+        ensures same { self.new ≡ self.old }
+        ensures done { is_none result ≡ is_none self.old.index }
     {
-        if self.tries >= MOST_LINES {
-            return None;
+        if self.tries < MOST_LINES {
+            self.tries += 1;
         }
-        self.tries += 1;
         match &mut self.index {
             Some(engine) => Some(work.done(engine)),
             None => None,

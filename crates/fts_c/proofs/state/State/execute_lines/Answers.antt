@@ -1,4 +1,4 @@
-use Rattle.std.proofs.Common.{◌≡◌, ◌≢◌, ◌+◌, ℤ, length, ap, ◌∙◌, sym, subst, arith, rules, to_z, of_z, w32}
+use Rattle.std.proofs.Common.{◌≡◌, ℤ, ap, ◌∙◌, sym, subst, arith, rules, to_z, of_z, w32}
 use Rattle.fts_c.specs.Blocks.{ExecutesLines}
 use Rattle.fts_c.proofs.BlockLemmas.{reached_end, reached_next, reached_stop}
 use Rattle.fts_c.proofs.state.State.execute_lines.Goals as goal

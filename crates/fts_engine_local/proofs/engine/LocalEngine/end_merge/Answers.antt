@@ -33,6 +33,7 @@ returns-else-is_memory c =
     let now = c.args.self.now in
     let refusal = c.in-Err.refusal in
     let view = c.self.view_is in
+    let calls : e.calls ≡ now.calls = ap (λ (v : LocalValue). v.calls) view in
     let job = (arc_value {X = Place} c.in-Some.place).made in
     let last : c.deref-2.result.now ≡ arc_value e.commit = grind (arith, c.deref-2.ensures) in
     let placed : c.deref.result.now ≡ arc_value c.in-Some.place = grind (arith, c.deref.ensures) in
@@ -40,7 +41,8 @@ returns-else-is_memory c =
     sym (ap (λ (v : LocalValue). v.begun) view) ∙ ap (option_map (λ place. (arc_value {X = Place} place).made)) c.in-Some.is in
     record {
       index = ap (λ (v : LocalValue). v.index) view;
-      calls = ap (λ (v : LocalValue). v.calls + 1) view;
+      calls = grind (arith, calls);
+      counted = λ full. grind (arith, calls, full, c.if-self-ge-MOST_CALLS);
       limit = ap (λ (v : LocalValue). v.limit) view;
       merge = ap (λ (v : LocalValue). v.merge) view;
       is_merged = ap (λ (v : LocalValue). v.is_merged) view;
