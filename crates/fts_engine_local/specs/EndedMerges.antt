@@ -1,5 +1,5 @@
 -- What the beginning of a merge and its end leave of an engine of one thread.
-use Rattle.std.specs.Prelude.{◌≡◌, ◌≢◌, ◌+◌, ◌^◌, ◌≤◌, ◌⊎◌, true, false, Bool, Option, Some, None, List, Result, Ok, Err}
+use Rattle.std.specs.Prelude.{◌≡◌, ◌≢◌, ◌+◌, ◌^◌, ◌<◌, ◌≤◌, ◌⊎◌, true, false, Bool, Option, Some, None, List, Result, Ok, Err}
 use Rattle.fts_base.specs.declared.refusal.Refusal.{Refusal}
 use Rattle.fts_base.specs.declared.refusal.Refusal.TheVariants.{Memory}
 use Rattle.fts_snapshots.specs.Entries.{EntryValue}
@@ -41,7 +41,8 @@ Ends old new (Err refusal) =
 pub record EndsMerge (old new : LocalValue) (result : Result Bool Refusal) : Type 0 where
   pub index : new.index ≡ old.index
   pub calls : new.calls ≤ old.calls + 1
-  pub counted : 2 ^ 61 ≤ old.calls → new.calls ≡ old.calls
+  pub counted : old.calls < 2 ^ 61 → new.calls ≡ old.calls + 1
+  pub full : 2 ^ 61 ≤ old.calls → new.calls ≡ old.calls
   pub limit : new.limit ≡ old.limit
   pub merge : new.merge ≡ old.merge
   pub is_merged : new.is_merged ≡ old.is_merged

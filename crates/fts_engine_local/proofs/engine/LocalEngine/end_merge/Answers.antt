@@ -42,7 +42,8 @@ returns-else-is_memory c =
     record {
       index = ap (λ (v : LocalValue). v.index) view;
       calls = grind (arith, calls);
-      counted = λ full. grind (arith, calls, full, c.if-self-ge-MOST_CALLS);
+      counted = λ few. grind (arith, calls);
+      full = λ many. grind (arith, calls, many, c.if-self-ge-MOST_CALLS);
       limit = ap (λ (v : LocalValue). v.limit) view;
       merge = ap (λ (v : LocalValue). v.merge) view;
       is_merged = ap (λ (v : LocalValue). v.is_merged) view;
