@@ -80,6 +80,16 @@ impl<'a> Part<'a> {
         }
     }
 
+    /// How many terms the dictionary has, and how many positions. Nothing needs them but that there is room for both.
+    pub(crate) fn size(&self) -> (usize, usize) {
+        let Dictionary {
+            names,
+            positions,
+            ..
+        } = self.dictionary;
+        (names.len(), positions.lists.positions())
+    }
+
     /// The next term, if one is left.
     pub(crate) fn term(&self) -> Option<Name<'a>>
         ensures { result ≡ slice_get self.now.names 0 }

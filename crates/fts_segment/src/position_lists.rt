@@ -67,6 +67,11 @@ impl PositionLists {
         })
     }
 
+    /// How many positions there are.
+    pub(crate) fn positions(&self) -> usize {
+        self.gaps.len()
+    }
+
     /// The lists, as they are moved to a log.
     pub(crate) fn unpacked(&self) -> UnpackedLists<'_>
         ensures { lists_in result ≡ self.now }
@@ -198,17 +203,6 @@ impl PositionListLog {
     ghost use Rattle.std.specs.Prelude.{◌≡◌, ◌++◌, ◌∷◌, [], IfOk, OnOk, length};
     ghost use Rattle.fts_segment.specs.PositionLists.{IsPositionList};
     ghost use Rattle.fts_segment.specs.PositionListLogs.{IsPositionListLog, logged_position_lists};
-
-    /// No lists.
-    pub(crate) fn new(alloc: Global) -> PositionListLog
-        ensures is { IsPositionListLog result }
-        ensures none { logged_position_lists result ≡ [] }
-    {
-        PositionListLog {
-            counts: Vec::new(alloc),
-            gaps: Vec::new(alloc),
-        }
-    }
 
     /// No lists, with room for this many positions.
     pub(crate) fn with_capacity(

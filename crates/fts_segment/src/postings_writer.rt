@@ -44,22 +44,8 @@ impl PostingsWriter {
     ghost use Rattle.fts_segment.specs.PositionLogs.{HasTerm, IsPositionLog, logged_term_position_lists};
     ghost use Rattle.fts_segment.specs.TermPositionLists.{term_position_lists};
 
-    /// No term.
-    pub(crate) fn new(alloc: Global) -> PostingsWriter
-        ensures names { result.names ≡ [] }
-        ensures lists { result.lists.items ≡ [] }
-        ensures positions { logged_term_position_lists result.positions ≡ [] }
-        ensures is { IsPositionLog result.positions }
-    {
-        PostingsWriter {
-            names: Names::new(alloc),
-            lists: Vec::new(alloc),
-            positions: PositionLog::new(alloc),
-        }
-    }
-
     /// No term, with room for this many terms and this many positions in all.
-    fn with_capacity(
+    pub(crate) fn with_capacity(
         alloc: Global,
         terms: usize,
         positions: usize,

@@ -94,6 +94,23 @@ fn join_term(
     Ok(())
 }
 
+/// A writer with room for the terms and positions of all parts, so that it seldom grows.
+fn writer_for(alloc: Global, parts: &[Part<'_>]) -> Result<PostingsWriter, AllocError>
+    ensures names { IfOk result (λ writer. writer.names ≡ []) }
+    ensures lists { IfOk result (λ writer. writer.lists.items ≡ []) }
+    ensures positions { IfOk result (λ writer. logged_term_position_lists writer.positions ≡ []) }
+    ensures is { IfOk result (λ writer. IsPositionLog writer.positions) }
+{
+    let mut terms = 0usize;
+    let mut positions = 0usize;
+    for part in parts {
+        let (of_terms, of_positions) = part.size();
+        terms = terms.saturating_add(of_terms);
+        positions = positions.saturating_add(of_positions);
+    }
+    PostingsWriter::with_capacity(alloc, terms, positions)
+}
+
 /// The dictionary of parts: the terms that have a posting left, in order, each with those that the parts have for it.
 pub(crate) fn join_parts(alloc: Global, parts: &mut [Part<'_>]) -> Result<Dictionary, AllocError>
     requires sound { AllByRecursion IsSound parts.old }
@@ -101,7 +118,7 @@ pub(crate) fn join_parts(alloc: Global, parts: &mut [Part<'_>]) -> Result<Dictio
     ensures { IfOk result (λ dictionary. IsJoined parts.old
         dictionary.names dictionary.lists.items (term_position_lists dictionary.positions)) }
 {
-    let mut writer = PostingsWriter::new(alloc);
+    let mut writer = writer_for(alloc, parts)?;
     let mut docs = Vec::new(alloc);
     while let Some(term) = least(parts) {
         join_term(&mut writer, alloc, &mut docs, parts, &term)?;

@@ -97,17 +97,6 @@ impl PositionLog {
     ghost use Rattle.fts_segment.specs.PositionListLogs.{IsPositionListLog, logged_position_lists};
     ghost use Rattle.fts_segment.specs.PositionLogs.{HasTerm, IsPositionLog, logged_term_position_lists};
 
-    /// Of no term.
-    pub(crate) fn new(alloc: Global) -> PositionLog
-        ensures is { IsPositionLog result }
-        ensures none { logged_term_position_lists result ≡ [] }
-    {
-        PositionLog {
-            lists: PositionListLog::new(alloc),
-            ends: Vec::new(alloc),
-        }
-    }
-
     /// Of no term, with room for this many terms and this many positions in all.
     pub(crate) fn with_capacity(
         alloc: Global,

@@ -7,10 +7,10 @@ use Rattle.fts_segment.proofs.term_join.join_parts.Goals as goal
 
 pub loop-term-init : goal.loop-term-init
 loop-term-init c = record {
-  joining = IsJoining-start c.args.parts.now c.new-writer.result.names c.new-writer.result.lists.items
-      (logged_term_position_lists c.new-writer.result.positions)
-      c.requires.sound c.new-writer.ensures.names c.new-writer.ensures.lists c.new-writer.ensures.positions;
-  is = c.new-writer.ensures.is;
+  joining = IsJoining-start c.args.parts.now c.in_ok-writer.writer.names c.in_ok-writer.writer.lists.items
+      (logged_term_position_lists c.in_ok-writer.writer.positions)
+      c.requires.sound c.in_ok-writer.ensures.names c.in_ok-writer.ensures.lists c.in_ok-writer.ensures.positions;
+  is = c.in_ok-writer.ensures.is;
 }
 
 pub join_term-requires-clause-rise : goal.join_term-requires-clause-rise
