@@ -49,6 +49,13 @@ SCHEMA = {"schema": [*corpus.SCHEMA["schema"], {"name": "key", "kind": "keyword"
 class Update(NamedTuple):
     key: str
     document: corpus.Document
+    # The document with its key, as the package takes it.
+    fields: dict[str, Any]
+
+
+def update_of(number: int, document: corpus.Document) -> Update:
+    key = f"k{number}"
+    return Update(key, document, {**document._asdict(), "key": key})
 
 
 class Updated(Protocol):
@@ -73,10 +80,10 @@ class Embedded:
         self.index.execute(json.dumps(SCHEMA))
 
     def add(self, update: Update) -> None:
-        self.index.add({**update.document._asdict(), "key": update.key})
+        self.index.add(update.fields)
 
     def update(self, update: Update) -> None:
-        self.index.replace("key", update.key, {**update.document._asdict(), "key": update.key})
+        self.index.replace("key", update.key, update.fields)
 
     def commit(self) -> None:
         self.index.commit()
@@ -141,13 +148,13 @@ PROGRAMS: dict[str, Callable[[], Updated]] = {"Dilforec": Embedded, BESIDE: Besi
 
 
 def added(count: int) -> Iterator[Update]:
-    return (Update(f"k{place}", document) for place, document in enumerate(corpus.documents(count)))
+    return (update_of(place, document) for place, document in enumerate(corpus.documents(count)))
 
 
 def updates(count: int, of: int) -> Iterator[Update]:
     """So many updates of keys by chance."""
     chance = random.Random(3)
-    return (Update(f"k{chance.randrange(of)}", document) for document in corpus.documents(count, seed=4))
+    return (update_of(chance.randrange(of), document) for document in corpus.documents(count, seed=4))
 
 
 def batches(given: Iterable[Update], each: int) -> Iterator[list[Update]]:
@@ -332,7 +339,7 @@ def modelled(policy: Policy, count: int, given: int, each: int = 10) -> list[flo
 
 
 def policies(count: int = 100_000, given: int = 100_000) -> str:
-    numbers = itertools.product((30, 100, 300, 10_000), (4, 6, 8), (20, 33, 50, 100))
+    numbers = itertools.product((30, 100, 300, 10_000), (4, 7, 10), (20, 33, 50, 100))
     tried = [Policy(floor, members, 1_000_000, dead) for floor, members, dead in numbers]
     rows = [[*map(str, (policy.floor, policy.members, policy.dead)), *map(number, modelled(policy, count, given))] for policy in tried]
     return table(["floor", "members", "dead, %", "moved", "999 of 1,000", "the most", "segments", "kept of 100"], rows)

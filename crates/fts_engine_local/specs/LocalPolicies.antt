@@ -4,5 +4,5 @@ use Rattle.fts_merge.specs.declared.policy.MergePolicy.{MergePolicy}
 
 -- the policy; and what of it commits do under a limit: they merge no segment of more live documents, and none by itself
 abbrev pub local_policy : Option ℕ → MergePolicy
-local_policy None = record { floor = 100; members = 6; most = 1000000; dead = 33 }
-local_policy (Some limit) = record { floor = 100; members = 6; most = min limit 1000000; dead = 100 }
+local_policy None = record { floor = 30; members = 7; most = 1000000; dead = 33 }
+local_policy (Some limit) = record { floor = 30; members = 7; most = min limit 1000000; dead = 100 }

@@ -37,10 +37,10 @@ pub fn merge_after<R, S: Mergeable<R>>(
 /// When the segments of an engine of one thread are merged.
 ///
 /// A commit waits for the merges after it, so these are graded finely: the floor is near the size of small commits,
-/// since each merge of a level copies all that is below it. Six members are few enough to leave few segments to search,
-/// and no segment has over a third of its documents dead for long, so that updates of the same documents over and over
-/// keep some 120 of 100. By a model (`bench/updates.py policies`) commits of ten updates of 100,000 documents move 60
-/// documents each and leave 14 segments, where the levels of the stated policy move 960 and leave 8.
+/// since each merge of a level copies all that is below it. Seven members are few enough to leave few segments to
+/// search, and no segment has over a third of its documents dead for long, so that updates of the same documents over
+/// and over keep some 120 of 100. By a model (`bench/updates.py policies`) commits of ten updates of 100,000 documents
+/// move 52 documents each and leave 17 segments, where the levels of the stated policy move 960 and leave 8.
 ///
 /// Under a limit, this is what commits merge: no segment of more live documents, and none by itself. The rest waits for
 /// a merge that is begun, which goes by the policy without a limit.
@@ -51,14 +51,14 @@ pub(crate) fn policy(limit: Option<u32>) -> MergePolicy
 {
     match limit {
         Some(most) => MergePolicy {
-            floor: 100,
-            members: 6,
+            floor: 30,
+            members: 7,
             most: most.min(1_000_000),
             dead: 100,
         },
         None => MergePolicy {
-            floor: 100,
-            members: 6,
+            floor: 30,
+            members: 7,
             most: 1_000_000,
             dead: 33,
         },
