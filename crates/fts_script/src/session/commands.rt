@@ -12,19 +12,21 @@ ghost use Rattle.fts_model.specs.Queries.{query_fits, request_fits, request_of};
 ghost use Rattle.fts_model.specs.QueryValues.{query_value};
 ghost use Rattle.fts_query.specs.Outcomes.{refusal_without_byte};
 ghost use Rattle.fts_query.specs.Answers.{answer};
+ghost use Rattle.fts_script.specs.command.AnswerData.{answer_data};
 ghost use Rattle.fts_script.specs.command.Commands.{longest, Add, Delete, Commit, Rollback, Merge, json_in};
 ghost use Rattle.fts_script.specs.command.CommandViews.{command_value, search_value};
+ghost use Rattle.fts_script.specs.command.Cuts.{cut_answer};
 ghost use Rattle.fts_engine.specs.Indexes.{Index, indexes};
-ghost use Rattle.fts_engine.specs.Steps.{submit};
+ghost use Rattle.fts_engine.specs.Steps.{search_commit, submit};
 ghost use Rattle.fts_script.specs.session.Replies.{replied, answer_search, execute, execute_line, number_reply};
 ghost use Rattle.fts_script.specs.session.Replies.{Outcome, text_of, index_after};
 ghost use Rattle.fts_script.specs.session.Finds.{find, find_line};
 ghost use Rattle.fts_script.specs.session.Sessions.{Executes, ChangesAtMost, ChangesOnce};
 
-use crate::command::{Command, Search, answer_value, command_of};
+use crate::command::{Command, Search, command_of};
 use crate::session::reply::Reply;
 use fts_engine::{Engine, EngineOver, Options};
-use fts_model::{Document, Field, Op, Order, Query, Refusal, Request, Schema, Term};
+use fts_model::{Document, Field, Op, Order, Query, Refusal, Request, Schema, Term, Text};
 use fts_query::parse;
 use serde_json::Value;
 use std::alloc::{AllocError, Global};
@@ -176,6 +178,30 @@ pub(crate) fn request_of(
     Request::new(schema, groups, top)
 }
 
+/// Answers a search for a query, with the fields of these names alone in the documents of its hits, if there are names.
+pub(crate) fn search_for<R: AllocGlobal + Sync, E: EngineOver<R>>(
+    rt: &R,
+    engine: &mut E,
+    query: Query,
+    request: Request,
+    names: Option<&[Text]>,
+    out: &mut String,
+) -> Result<Reply, Refusal>
+    requires query { query_fits (E.index engine.old).schema (query_value query) ≡ true }
+    requires request { request_fits (E.index engine.old).schema request ≡ true }
+    ensures executes { Executes
+        (replied (λ answer. answer_data (cut_answer (option_copied names.entry) answer))
+        (search_commit indexes (query_value query) request (E.index engine.old)))
+        (Some (E.index engine.old)) (Some (E.index engine.new)) result }
+    ensures out { string_bytes out.new ≡ string_bytes out.old }
+    ensures room { IfOk result (λ reply. string_len out.new + string_len reply.line ≤ string_capacity out.new) }
+    ensures same { E.index engine.new ≡ E.index engine.old }
+    ensures changes { E.changes engine.new ≤ E.changes engine.old }
+{
+    let answer = engine.search(rt, &query, &request)?;
+    Ok(Reply::of_answer(rt.alloc(), &answer, names, out)?)
+}
+
 /// Answers a search.
 fn search<R: AllocGlobal + Sync, E: EngineOver<R>>(
     rt: &R,
@@ -193,9 +219,7 @@ fn search<R: AllocGlobal + Sync, E: EngineOver<R>>(
 {
     let query = query_of(rt.alloc(), engine.schema(), asked.query)?;
     let request = request_of(engine.schema(), asked.groups, asked.top)?;
-    let answer = engine.search(rt, &query, &request)?;
-    let value = answer_value(rt.alloc(), &answer, None)?;
-    Ok(Reply::new(rt.alloc(), &value, out)?)
+    search_for(rt, engine, query, request, None, out)
 }
 
 /// Executes a command that comes after the schema.

@@ -14,8 +14,8 @@ ghost use Rattle.fts_script.specs.session.CutSearches.{answer_cut, find_cut, fin
 ghost use Rattle.fts_script.specs.session.Replies.{text_of};
 ghost use Rattle.fts_script.specs.session.Sessions.{Executes, ChangesAtMost};
 
-use crate::command::{Command, Search, answer_value, command_of, names_of};
-use crate::session::commands::{json_of, query_of, replied_line, request_of};
+use crate::command::{Command, Search, command_of, names_of};
+use crate::session::commands::{json_of, query_of, replied_line, request_of, search_for};
 use crate::session::reply::Reply;
 use fts_engine::EngineOver;
 use fts_model::{Order, Refusal, Request, Schema, Text};
@@ -78,9 +78,7 @@ fn search_cut<R: AllocGlobal + Sync, E: EngineOver<R>>(
 {
     let query = query_of(rt.alloc(), engine.schema(), asked.query)?;
     let request = cut_request_of(engine.schema(), asked.groups, asked.top, names)?;
-    let answer = engine.search(rt, &query, &request)?;
-    let value = answer_value(rt.alloc(), &answer, Some(names))?;
-    Ok(Reply::new(rt.alloc(), &value, out)?)
+    search_for(rt, engine, query, request, Some(names), out)
 }
 
 /// Executes a search, cut to the fields of these names. Another command is refused as `BadCommand`.

@@ -4,9 +4,13 @@ ghost use Rattle.std.specs.Prelude.{string_bytes, string_len, string_capacity, I
 ghost use Rattle.json.specs.Print.{quoted};
 ghost use Rattle.serde_json.specs.View.{view};
 ghost use Rattle.serde_json.specs.Written.{has_float};
+ghost use Rattle.std.specs.Option.{option_copied};
+ghost use Rattle.fts_script.specs.command.AnswerData.{answer_data};
+ghost use Rattle.fts_script.specs.command.Cuts.{cut_answer};
 ghost use Rattle.fts_script.specs.session.Replies.{line_of, number_reply, refusal_reply};
 
-use fts_model::Refusal;
+use crate::command::answer_value;
+use fts_model::{Answer, Refusal, Text};
 use serde_json::{Value, json};
 use std::alloc::{AllocError, Global};
 use std::fmt::Write;
@@ -57,6 +61,23 @@ impl Reply {
         let mut line = value.to_string(alloc)?;
         line.push('\n')?;
         Reply::of_line(line, out)
+    }
+
+    /// The reply that an answer is, with the fields of these names alone in the documents of its hits, if there are
+    /// names, and room for its line after others.
+    pub fn of_answer(
+        alloc: Global,
+        answer: &Answer,
+        names: Option<&[Text]>,
+        out: &mut String,
+    ) -> Result<Reply, AllocError>
+        ensures line { IfOk result (λ reply. string_bytes reply.line
+            ≡ line_of (answer_data (cut_answer (option_copied names.entry) answer.now))) }
+        ensures out { string_bytes out.new ≡ string_bytes out.old }
+        ensures room { IfOk result (λ reply. string_len out.new + string_len reply.line ≤ string_capacity out.new) }
+    {
+        let value = answer_value(alloc, answer, names)?;
+        Reply::new(alloc, &value, out)
     }
 
     /// An object of a name, which needs no escapes, and a number.
