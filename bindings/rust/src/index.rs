@@ -225,7 +225,7 @@ impl Index {
     /// # use dilforec::{Document, Field, Index};
     /// # let mut index = Index::with_schema(&[Field::text("title").default()])?;
     /// index.limit_merges(Some(0))?;
-    /// for title in ["a", "b", "c", "d", "e", "f"] {
+    /// for title in ["a", "b", "c", "d", "e", "f", "g"] {
     ///     index.add(&Document::new().with("title", title))?;
     ///     index.commit()?;
     /// }
