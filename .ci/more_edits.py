@@ -1,5 +1,5 @@
 #!/usr/bin/env python3
-"""Tries the edits below .ci/edits/, which the gate leaves out, since for its first edit a crate is proved once more.
+"""Tries the edits below .ci/edits/, which the gate leaves out, since a crate that has edits is proved twice.
 
     python3 .ci/more_edits.py [CRATE..]
 
