@@ -101,8 +101,6 @@ fn tree_of<'a>(alloc: Global, segment: &'a Segment, query: &Query) -> Result<Tre
                 return Ok(kept);
             }
             let dropped = any_of(alloc, segment, must_not)?;
-            let kept = Box::new(alloc, kept)?;
-            let dropped = Box::new(alloc, dropped)?;
             Tree::without(alloc, kept, dropped)
         }
     }

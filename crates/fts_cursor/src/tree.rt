@@ -211,14 +211,16 @@ impl<'a> Tree<'a> {
     /// Of what the first has and the second doesn't.
     pub(crate) fn without(
         alloc: Global,
-        kept: Box<Tree<'a>>,
-        dropped: Box<Tree<'a>>,
+        kept: Tree<'a>,
+        dropped: Tree<'a>,
     ) -> Result<Tree<'a>, AllocError>
         ensures remaining { IfOk result (λ t. t.remaining
-            ≡ without kept.entry.value.remaining dropped.entry.value.remaining) }
+            ≡ without kept.entry.remaining dropped.entry.remaining) }
         ensures most { IfOk result (λ t. most_at t.bound None
-            ≡ most_at kept.entry.value.bound None + most_at dropped.entry.value.bound None) }
+            ≡ most_at kept.entry.bound None + most_at dropped.entry.bound None) }
     {
+        let kept = Box::new(alloc, kept)?;
+        let dropped = Box::new(alloc, dropped)?;
         let mut parts = Exclusion { kept, dropped };
         let doc = settle(&mut parts);
         Tree::of(alloc, doc, Node::Without(parts))

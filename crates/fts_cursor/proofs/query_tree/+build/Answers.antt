@@ -112,17 +112,15 @@ tree_of-returns-then-is_empty-2-clause-opens t c =
 pub tree_of-returns-in-None-clause-hits : goal.tree_of-returns-in-None-clause-hits
 tree_of-returns-in-None-clause-hits t c = c.nothing.ensures.remaining ∙ nothing_found c.args.segment.now c.args.query.now c.in-None.is
 
-pub tree_of-returns-in_ok-dropped-in-Bool-2-clause-opens : goal.tree_of-returns-in_ok-dropped-in-Bool-2-clause-opens
-tree_of-returns-in_ok-dropped-in-Bool-2-clause-opens t c =
+pub tree_of-returns-in_ok-dropped-in-Bool-clause-opens : goal.tree_of-returns-in_ok-dropped-in-Bool-clause-opens
+tree_of-returns-in_ok-dropped-in-Bool-clause-opens t c =
     let segment = c.args.segment.now in
-    let kept_is : c.in_ok-kept-in-Bool-4.kept.value ≡ c.if-is_empty.kept = search rules in
-    let dropped_is : c.in_ok-dropped-in-Bool-2.dropped.value ≡ c.in_ok-dropped-in-Bool.dropped = search rules in
     let dropped = rw c.deref-in-Bool-3.ensures.value at c.in_ok-dropped-in-Bool.ensures.most in
     IfOk-weaker c.without.result _ _ (λ tree is. opens_apart segment c.args.query.now c.in-Bool.must.items c.in-Bool.must_not.items c.in-Bool.should.items tree
     (ap query_value c.in-Bool.is ∙ value_at_bool c.in-Bool.must c.in-Bool.must_not c.in-Bool.should)
     (omega (arith, some_from c.in-Bool.must_not.len (sym c.is_empty-in-Bool.ensures ∙ c.if-is_empty-2.false))) c.if-is_empty.kept
-    c.in_ok-dropped-in-Bool.dropped (keeps t (goal.at.tree_of-returns-in_ok-dropped-in-Bool-2-clause-opens t c).Joined-is_empty) dropped
-    (is ∙ ap₂ (λ (a b : TreeValue). most_at a.bound None + most_at b.bound None) kept_is dropped_is)) c.without.ensures.most
+    c.in_ok-dropped-in-Bool.dropped (keeps t (goal.at.tree_of-returns-in_ok-dropped-in-Bool-clause-opens t c).Joined-is_empty) dropped is)
+    c.without.ensures.most
 
 pub trees_of-loop-query-preserved : goal.trees_of-loop-query-preserved
 trees_of-loop-query-preserved t c =
@@ -133,19 +131,16 @@ trees_of-loop-query-preserved t c =
           c.in_ok-tree_of.field-0 c.query-item.result c.loop-query.invariant.1 c.loop-query-test.true c.query-item.is c.in_ok-tree_of.ensures.opens,
     )
 
-pub tree_of-returns-in_ok-dropped-in-Bool-2-clause-hits : goal.tree_of-returns-in_ok-dropped-in-Bool-2-clause-hits
-tree_of-returns-in_ok-dropped-in-Bool-2-clause-hits t c =
+pub tree_of-returns-in_ok-dropped-in-Bool-clause-hits : goal.tree_of-returns-in_ok-dropped-in-Bool-clause-hits
+tree_of-returns-in_ok-dropped-in-Bool-clause-hits t c =
     let segment = c.args.segment.now in
     let bool : IsBool segment c.args.query.now c.in-Bool.must.items c.in-Bool.must_not.items c.in-Bool.should.items =
     λ document. ap (matches_in segment.schema document) c.in-Bool.is ∙ matches_at_bool segment.schema document c.in-Bool.must c.in-Bool.must_not
     c.in-Bool.should in
-    let kept_is : c.in_ok-kept-in-Bool-4.kept.value ≡ c.if-is_empty.kept = search rules in
-    let dropped_is : c.in_ok-dropped-in-Bool-2.dropped.value ≡ c.in_ok-dropped-in-Bool.dropped = search rules in
-    let dropped = ap (λ (s : TreeValue). s.remaining) dropped_is ∙ c.in_ok-dropped-in-Bool.ensures.hits
-    ∙ ap union (ap (map (hits_of segment)) c.deref-in-Bool-3.ensures.value) in
+    let dropped = c.in_ok-dropped-in-Bool.ensures.hits ∙ ap union (ap (map (hits_of segment)) c.deref-in-Bool-3.ensures.value) in
     IfOk-weaker c.without.result _ _ (λ tree is. is ∙ bool_apart segment c.args.query.now c.in-Bool.must.items c.in-Bool.must_not.items c.in-Bool.should.items
-    c.in_ok-kept-in-Bool-4.kept.value.remaining c.in_ok-dropped-in-Bool-2.dropped.value.remaining bool (ap (λ (s : TreeValue). s.remaining) kept_is
-    ∙ (keeps t (goal.at.tree_of-returns-in_ok-dropped-in-Bool-2-clause-hits t c).Joined-is_empty).hits) dropped) c.without.ensures.remaining
+    c.if-is_empty.kept.remaining c.in_ok-dropped-in-Bool.dropped.remaining bool
+    (keeps t (goal.at.tree_of-returns-in_ok-dropped-in-Bool-clause-hits t c).Joined-is_empty).hits dropped) c.without.ensures.remaining
 
 pub any_of-returns-in-len1-clause-hits : goal.any_of-returns-in-len1-clause-hits
 any_of-returns-in-len1-clause-hits t c =
