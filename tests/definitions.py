@@ -5,8 +5,8 @@
     python3 tests/definitions.py --check    compares, and changes nothing; the last line is 'N passed, M failed'
     python3 tests/definitions.py --poor     lists comments that don't say enough by themselves
 
-A definition is listed if a public contract of a library for Rattle names it (not of the engines and the snapshots below
-them): a clause of a public function or of a trait's method, or the type as which contracts see a public type. Its sentence is the comment above it; definitions that follow
+A definition is listed if a public contract of a library for Rattle names it (not of the engines, and the snapshots and
+their searches below them): a clause of a public function or of a trait's method, or the type as which contracts see a public type. Its sentence is the comment above it; definitions that follow
 without a comment of their own share it. A sentence that goes on from the one before it ('the same with one more')
 brings that one along. The definitions of the parts of a segment and of the command line are left to their own folders.
 """
@@ -28,8 +28,8 @@ WIDTH = 120
 
 # Not listed: programs, tests and examples, which define nothing that others need, the command line, the parts of a segment, and how
 # rounds draw stamps. Of INNER, what the contracts of other libraries name is.
-OTHERS = re.compile(r"(tests|cases|testing|example)_|(fts|fts_cli|fts_list|dilforec)$|fts_(pack|segment|postings|cursor|collect|merge|pool|rounds)$")
-INNER = {"fts_snapshots", "fts_engine_local", "fts_engine_index", "fts_c"}
+OTHERS = re.compile(r"(tests|cases|testing|example)_|(fts|fts_cli|fts_list|dilforec)$|fts_(pack|segment|postings|cursor|merge|pool|rounds)$")
+INNER = {"fts_snapshots", "fts_collect", "fts_engine_local", "fts_engine_index", "fts_c"}
 
 DEFINITION = re.compile(r"(?:(?:abbrev|unfoldable|opaque) pub|pub (?:record|data)) ([^\s:({]+)")
 MUTUAL = re.compile(r"(?:abbrev |unfoldable )?mutual$")

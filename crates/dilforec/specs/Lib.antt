@@ -31,7 +31,7 @@ pub use Rattle.fts_snapshots.specs.PreparedCommits
 pub use Rattle.fts_snapshots.specs.Snapshots
 pub use Rattle.fts_snapshots.specs.Stamps
 pub use Rattle.fts_snapshots.specs.Successors
-pub use Rattle.fts_snapshots.specs.searches.Searches
+pub use Rattle.fts_collect.specs.Searches
 pub use Rattle.fts_index.specs.Publications
 pub use Rattle.fts_index.specs.PublicationsShown
 pub use Rattle.fts_index.specs.Writers

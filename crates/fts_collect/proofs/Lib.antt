@@ -19,3 +19,4 @@ pub mod BestLemmas
 pub mod WalkLemmas
 pub mod BetweenLemmas
 pub mod WalkedLemmas
+pub mod SearchLemmas

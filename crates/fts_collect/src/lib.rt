@@ -6,6 +6,8 @@
 //! lists: however documents were cut into segments, the joined parts are the answer over all of them, as long as no
 //! stamp occurs twice.
 //!
+//! [`search_alone`] asks the segments of a snapshot one after the other; [`search_segment`] is what jobs ask of each.
+//!
 //! Documents are handles here. A part holds those of its top list alone, and joining moves them.
 #![tactic(auto)]
 
@@ -16,6 +18,7 @@ mod live_cursor;
 mod order;
 mod part;
 mod ranks;
+mod searches;
 mod tally;
 mod top;
 mod top_k;
@@ -23,3 +26,4 @@ mod walk;
 
 pub use collector::collect;
 pub use part::Part;
+pub use searches::{search_alone, search_segment};

@@ -6,7 +6,7 @@ use Rattle.fts_base.specs.declared.refusal.Refusal.TheVariants.{Memory}
 use Rattle.fts_model.specs.QueryValues.{QueryValue, query_value}
 use Rattle.fts_collect.specs.Parts.{PartValue}
 use Rattle.fts_snapshots.specs.Entries.{EntryValue}
-use Rattle.fts_snapshots.specs.searches.Searches.{IsPartOf}
+use Rattle.fts_collect.specs.Searches.{IsPartOf}
 use Rattle.fts_index.specs.declared.searches.job.SearchJob.{SearchJob}
 
 -- a query and a request, for a segment

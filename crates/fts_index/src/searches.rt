@@ -4,7 +4,7 @@ ghost use Rattle.std.specs.Prelude.{IfOk, IfErr, IsOkUnless, map, min, sum_by};
 ghost use Rattle.std.specs.List.{AllZip};
 ghost use Rattle.fts_model.specs.Queries.{query_fits, request_fits};
 ghost use Rattle.fts_model.specs.QueryValues.{query_value};
-ghost use Rattle.fts_snapshots.specs.searches.Searches.{IsPartOf};
+ghost use Rattle.fts_collect.specs.Searches.{IsPartOf};
 ghost use Rattle.fts_index.specs.SearchJobs.{asks, asked_of};
 
 mod answer;

@@ -17,4 +17,3 @@ pub mod Lookups
 pub mod LateMerges
 pub mod Changes
 pub mod Candidates
-pub mod searches

@@ -11,8 +11,6 @@
 //!   [`Snapshot::end_merge`] puts the [`MergedSegment`] in place of its sources, with the live bits that these have in
 //!   the snapshot if it ends. It may end in every snapshot that follows the one where it began ([`laws`]).
 //!
-//! - [`searches`] answers a search over a snapshot, in one thread or a part for each segment.
-//!
 //! It starts no thread, waits for none and publishes nothing: that is for the crates above.
 //!
 //! ```text
@@ -29,7 +27,6 @@ mod entries;
 pub mod laws;
 mod merges;
 mod merging;
-pub mod searches;
 mod snapshot;
 mod stamped;
 
@@ -39,6 +36,5 @@ pub use fts_merge::MergePolicy;
 pub use fts_model::Cut;
 pub use merges::{MergeJob, MergedSegment};
 pub use merging::{Mergeable, merge_all, merge_planned};
-pub use searches::{search_alone, search_segment};
 pub use snapshot::Snapshot;
 pub use stamped::Commit;

@@ -5,7 +5,7 @@ ghost use Rattle.fts_model.specs.Queries.{query_fits, request_fits};
 ghost use Rattle.fts_model.specs.QueryValues.{query_value};
 ghost use Rattle.fts_model.specs.Answers.{answer};
 ghost use Rattle.fts_snapshots.specs.Snapshots.{content_of};
-ghost use Rattle.fts_snapshots.specs.searches.Searches.{AreOfParts, OpensInAll};
+ghost use Rattle.fts_collect.specs.Searches.{AreOfParts, OpensInAll};
 ghost use Rattle.fts_index.specs.declared.publications.publication.Publication.{Publication};
 ghost use Rattle.fts_index.specs.Publications.{IsFront, IsOneCommit};
 

@@ -3,10 +3,10 @@ ghost use Rattle.std.specs.Prelude.{◌≡◌, true};
 ghost use Rattle.fts_model.specs.Queries.{query_fits, request_fits};
 ghost use Rattle.fts_model.specs.QueryValues.{query_value};
 
-use fts_collect::Part;
+use fts_collect::{Part, search_segment};
 use fts_model::{Query, Refusal, Request};
 use fts_pool::Job;
-use fts_snapshots::{Entry, search_segment};
+use fts_snapshots::Entry;
 use std::alloc::Global;
 
 /// A query and a request, for the live documents of one segment.

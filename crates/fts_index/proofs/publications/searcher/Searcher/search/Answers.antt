@@ -4,7 +4,7 @@ use Rattle.fts_model.specs.Queries.{hits}
 use Rattle.fts_model.specs.QueryValues.{query_value}
 use Rattle.fts_collect.specs.Parts.{PartValue}
 use Rattle.fts_snapshots.specs.Snapshots.{IsSnapshot, SnapshotValue, content_of}
-use Rattle.fts_snapshots.proofs.SearchLemmas.{length-hits, of_parts, once_among_hits, opens_in_all, parts_of_snapshot}
+use Rattle.fts_collect.proofs.SearchLemmas.{length-hits, of_parts, once_among_hits, opens_in_all, parts_of_snapshot}
 use Rattle.fts_index.proofs.publications.searcher.Searcher.search.Goals as goal
 
 pub returns-in-Ok-clause-answer : goal.returns-in-Ok-clause-answer

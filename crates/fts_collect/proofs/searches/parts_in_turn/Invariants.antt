@@ -3,9 +3,9 @@ use Rattle.std.proofs.Common.{◌≡◌, ◌++◌}
 use Rattle.std.specs.List.{AllZip}
 use Rattle.fts_model.specs.QueryValues.{query_value}
 use Rattle.fts_snapshots.specs.EntryLists.{entries_ahead}
-use Rattle.fts_snapshots.specs.searches.Searches.{IsPartOf}
+use Rattle.fts_collect.specs.Searches.{IsPartOf}
 use Rattle.fts_snapshots.proofs.EntryListLemmas.{passed}
-use Rattle.fts_snapshots.proofs.searches.parts_in_turn.Given as goal
+use Rattle.fts_collect.proofs.searches.parts_in_turn.Given as goal
 
 abbrev pub invariant-loop-entry : goal.invariant-loop-entry
 invariant-loop-entry l =

@@ -22,7 +22,7 @@ use Rattle.fts_cursor.specs.Openings.{IsOfOneTerm, HasMusts, blocks_with, most_f
 use Rattle.fts_collect.specs.Parts.{PartValue, ArePartsOf, joined}
 use Rattle.fts_snapshots.specs.Entries.{EntryValue, live_in, content}
 use Rattle.fts_snapshots.specs.Snapshots.{IsSnapshot, SnapshotValue, content_of}
-use Rattle.fts_snapshots.specs.searches.Searches.{AreOfParts, IsPartOf, OpensInAll, blocks_in, fewest_in, greatest_in, most_in, has_hit, least_in}
+use Rattle.fts_collect.specs.Searches.{AreOfParts, IsPartOf, OpensInAll, blocks_in, fewest_in, greatest_in, most_in, has_hit, least_in}
 use Rattle.fts_snapshots.proofs.OrderLemmas.{permutation_in_order, filter-in_stamp_order}
 
 -- one more of each

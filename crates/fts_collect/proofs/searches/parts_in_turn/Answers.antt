@@ -4,10 +4,10 @@ use Rattle.fts_model.specs.Queries.{query_fits, request_fits}
 use Rattle.fts_model.specs.QueryValues.{query_value}
 use Rattle.fts_snapshots.specs.Entries.{EntryValue}
 use Rattle.fts_snapshots.specs.EntryLists.{entries_ahead}
-use Rattle.fts_snapshots.specs.searches.Searches.{IsPartOf}
+use Rattle.fts_collect.specs.Searches.{IsPartOf}
 use Rattle.fts_snapshots.proofs.EntryListLemmas.{next_has, passed, passed_more}
-use Rattle.fts_snapshots.proofs.SearchLemmas.{zip_more}
-use Rattle.fts_snapshots.proofs.searches.parts_in_turn.Goals as goal
+use Rattle.fts_collect.proofs.SearchLemmas.{zip_more}
+use Rattle.fts_collect.proofs.searches.parts_in_turn.Goals as goal
 
 pub search_segment-requires-clause-query : goal.search_segment-requires-clause-query
 search_segment-requires-clause-query c =

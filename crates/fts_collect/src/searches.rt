@@ -1,9 +1,9 @@
-//! What a query finds in a snapshot.
-//!
-//! Each segment tells what it has of the hits, and the hits of all segments are those of the content in another order:
-//! so what the parts tell together is the answer over the content, whatever the segments. [`search_alone`] asks one
-//! segment after the other in the calling thread; a crate above asks them by jobs, of which each is a
-//! [`search_segment`].
+// What a query finds in a snapshot.
+//
+// Each segment tells what it has of the hits, and the hits of all segments are those of the content in another order:
+// so what the parts tell together is the answer over the content, whatever the segments. [`search_alone`] asks one
+// segment after the other in the calling thread; a crate above asks them by jobs, of which each is a
+// [`search_segment`].
 
 ghost use Rattle.std.specs.Prelude.{◌≡◌, ◌<◌, ◌^◌, true, IfOk, IsOkUnless, All, length};
 ghost use Rattle.std.specs.List.{AllZip};
@@ -11,11 +11,11 @@ ghost use Rattle.fts_model.specs.Answers.{answer};
 ghost use Rattle.fts_model.specs.Queries.{query_fits, request_fits};
 ghost use Rattle.fts_model.specs.QueryValues.{query_value};
 ghost use Rattle.fts_snapshots.specs.Snapshots.{content_of};
-ghost use Rattle.fts_snapshots.specs.searches.Searches.{IsPartOf};
+ghost use Rattle.fts_collect.specs.Searches.{IsPartOf};
 
-use crate::{Entry, EntryList, Snapshot};
-use fts_collect::{Part, collect};
+use crate::{Part, collect};
 use fts_model::{Answer, Query, Refusal, Request};
+use fts_snapshots::{Entry, EntryList, Snapshot};
 use std::alloc::Global;
 
 /// What a segment tells of its live hits. The only refusal is `Memory`.

@@ -3,8 +3,8 @@ use Rattle.std.proofs.Common.{arith}
 use Rattle.fts_model.specs.Queries.{hits}
 use Rattle.fts_model.specs.QueryValues.{query_value}
 use Rattle.fts_snapshots.specs.Snapshots.{content_of}
-use Rattle.fts_snapshots.proofs.SearchLemmas.{length-hits, once_among_hits, parts_of_snapshot}
-use Rattle.fts_snapshots.proofs.searches.search_alone.Goals as goal
+use Rattle.fts_collect.proofs.SearchLemmas.{length-hits, once_among_hits, parts_of_snapshot}
+use Rattle.fts_collect.proofs.searches.search_alone.Goals as goal
 
 pub returns-in-Ok-clause-answer : goal.returns-in-Ok-clause-answer
 returns-in-Ok-clause-answer c =
