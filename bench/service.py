@@ -40,7 +40,8 @@ if not os.environ.get("PYTHONPATH"):
 
 import corpus  # noqa: E402
 from dilforec import Field, Top  # noqa: E402
-from dilforec.service import Answer, Hit, Store, application  # noqa: E402
+from dilforec.index import to_line  # noqa: E402
+from dilforec.service import Store, application  # noqa: E402
 from dilforec.service import _lines as lines  # noqa: E402
 from dilforec.service._turns import Turns  # noqa: E402
 from dilforec.service._writer import Pending  # noqa: E402
@@ -103,14 +104,15 @@ class FtsStore:
         finally:
             self.local.connection.execute("COMMIT")
 
-    def search(self, query: str, *, groups: list[str], top: Top, fields: Optional[list[str]]) -> Answer:
+    def search_json(self, query: str, *, groups: list[str], top: Top, fields: Optional[list[str]]) -> bytes:
         wanted = " ".join(f'"{word}"' for word in query.replace("+", "").split())
         one = self.local.connection
         joined = "FROM bodies JOIN documents ON id = bodies.rowid WHERE bodies MATCH ?"
-        counts = dict(one.execute(f"SELECT tag, count(*) {joined} GROUP BY tag ORDER BY tag", (wanted,)))
+        counts = one.execute(f"SELECT tag, count(*) {joined} GROUP BY tag ORDER BY tag", (wanted,)).fetchall()
         rows = one.execute(f"SELECT id, price, text {joined} ORDER BY price DESC, id LIMIT ?", (wanted, top.k))
-        hits = tuple(Hit(id, value, json.loads(document)) for id, value, document in rows)
-        return Answer(sum(counts.values()), {"tag": counts}, hits, 0)
+        hits = [{"id": id, "value": value, "document": json.loads(document)} for id, value, document in rows]
+        count = sum(count for _, count in counts)
+        return to_line({"count": count, "groups": {"tag": counts}, "hits": hits, "commit": 0}) + b"\n"
 
 
 def serve_fts(path: str, shares: bool) -> None:

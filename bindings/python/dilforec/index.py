@@ -99,13 +99,23 @@ class Searching:
 
         TypeError if the query isn't a str; Refused if the index refuses it, as Syntax or UnknownField.
         """
-        _expect(query, str, "a query is a str")
         _expect(groups, (str, list, tuple, type(None)), "groups are by the name of a field, or a list of names")
-        _expect(top, (Top, type(None)), "a top list is a dilforec.Top")
         by = [groups] if isinstance(groups, str) else list(groups or [])
+        replies = [json.loads(reply.decode()) for reply in self._replies(query, by, top, fields)]
+        counted = [{value: count for value, count in reply.get("groups", [])} for reply in replies]
+        hits = tuple(Hit(hit["value"], hit["stamp"], hit["doc"], hit.get("source")) for hit in replies[0].get("top", []))
+        is_list = groups is not None and not isinstance(groups, str)
+        return Answer(replies[0]["count"], dict(zip(by, counted)) if is_list else counted[0], hits)
+
+    def _replies(self, query: str, by: Sequence[str], top: Optional[Top], fields: Optional[Sequence[str]]) -> list[bytes]:
+        """The replies to a search with the groups of some fields, one for each of them, but one if there are none.
+
+        They are of one commit, and the first has the top list.
+        """
+        _expect(query, str, "a query is a str")
+        _expect(top, (Top, type(None)), "a top list is a dilforec.Top")
         names = None if fields is None else _names(fields)
         search: dict[str, Any] = {"query": query}
-        # The first search has the top list, and each has the groups of one field.
         asked: list[dict[str, Any]] = [{**search, "groups": field} for field in by] or [search]
         if top is not None:
             asked[0]["top"] = as_json(top)
@@ -114,14 +124,11 @@ class Searching:
             told = [self._channel.ask(lines[0])]
         else:
             told = self._channel.ask_each(lines, names)
-        replies = [json.loads(reply.decode()) for reply in told]
-        for reply in replies:
-            if "error" in reply:
-                raise self._refused_search(reply["error"], reply["line"], query, by, top, list(fields or []))
-        counted = [{value: count for value, count in reply.get("groups", [])} for reply in replies]
-        hits = tuple(Hit(hit["value"], hit["stamp"], hit["doc"], hit.get("source")) for hit in replies[0].get("top", []))
-        is_list = groups is not None and not isinstance(groups, str)
-        return Answer(replies[0]["count"], dict(zip(by, counted)) if is_list else counted[0], hits)
+        for reply in told:
+            if reply.startswith(b'{"error"'):
+                why = json.loads(reply.decode())
+                raise self._refused_search(why["error"], why["line"], query, by, top, list(fields or []))
+        return told
 
     def _refused_search(self, name: str, line: int, query: str, groups: Sequence[str], top: Optional[Top],
                         fields: Sequence[str]) -> Refused:

@@ -1,4 +1,6 @@
 """The store without HTTP: what it answers, and what is left after faults of its disk and its memory."""
+import itertools
+import json
 import pathlib
 import random
 import re
@@ -54,6 +56,31 @@ class Calls(Stored):
         self.assertEqual(store.search("*", fields=["id"]).hits[0].document, {"id": 12})
         with self.assertRaises(dilforec.Syntax):
             store.search("rust OR")
+
+    def test_search_json(self):
+        """The text that the service sends says what `search` does, whatever quotes and brackets values have."""
+        store = self.opened()
+        shelves = ["", '"', '],"top":[', '","groups":[[', "\\", '\\"}\n', '{"count":1,"top":[]}', "é\u2028"]
+        for year, shelf in enumerate(shelves):
+            store.add({"title": f'rust "top":[ {shelf}', "shelf": shelf, "year": year})
+        with store.snapshot() as snapshot:
+            for groups, top, fields in itertools.product(
+                ([], ["shelf"], ["year"], ["shelf", "year", "shelf"]),
+                (None, dilforec.Top("year", 3, "falling")),
+                (None, [], ["id"], ["shelf", "title"]),
+            ):
+                for query in "rust", "year:>5", "nothing":
+                    with self.subTest(query, groups=groups, top=top, fields=fields):
+                        told = json.loads(snapshot.search_json(query, groups=groups, top=top, fields=fields))
+                        found = snapshot.search(query, groups=groups, top=top, fields=fields)
+                        counted = {name: [list(each) for each in group.items()] for name, group in found.groups.items()}
+                        hits = [hit._asdict() for hit in found.hits]
+                        self.assertEqual(told, {"count": found.count, "groups": counted, "hits": hits, "commit": 8})
+            for wrong in {"groups": "shelf"}, {"fields": "shelf"}:
+                with self.assertRaises(TypeError):
+                    snapshot.search_json("rust", **wrong)
+            with self.assertRaises(dilforec.Syntax):
+                snapshot.search_json("rust OR")
 
     def test_refusals(self):
         """What is refused leaves nothing, neither in the index nor in the file."""

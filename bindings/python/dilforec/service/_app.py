@@ -149,21 +149,16 @@ class Application:
 
     def _search(self, request: Request) -> Response:
         given = request.parameters("q", "top", lists=("groups", "fields"))
-        top = _top(given["top"]) if "top" in given else Top("id", 10, "falling")
+        top = _top(given["top"]) if "top" in given else None
         fields = _names(given["fields"]) if "fields" in given else None
         query, groups = given.get("q", "*"), _names(given.get("groups", ""))
         try:
             with self._metrics.timed("searches"), self._store.snapshot() as snapshot:
-                found = snapshot.search(query, groups=groups, top=top, fields=fields)
+                found = snapshot.search_json(query, groups=groups, top=top, fields=fields)
         except Syntax as error:
             # The package tells it in characters.
             raise bad("Syntax", str(error), None if error.at is None else len(query[:error.at].encode())) from None
-        return answer({
-            "count": found.count,
-            "groups": {field: list(groups.items()) for field, groups in found.groups.items()},
-            "hits": [hit._asdict() for hit in found.hits],
-            "commit": found.commit,
-        })
+        return Response(HTTPStatus.OK, found)
 
     def _list(self, request: Request) -> Response:
         given = request.parameters("after", "limit")

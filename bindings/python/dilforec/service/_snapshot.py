@@ -1,11 +1,12 @@
 """One commit of a store, to search."""
 from __future__ import annotations
 
+import json
 from collections.abc import Iterator, Sequence
 from dataclasses import dataclass
 from typing import Any, NamedTuple, Optional
 
-from dilforec.index import Searcher
+from dilforec.index import Searcher, to_line
 from dilforec.values import Groups, Stats, Top
 
 
@@ -29,6 +30,10 @@ class Answer:
     groups: "dict[str, Groups]"
     hits: "tuple[Hit, ...]"
     commit: int
+
+
+# The hits of a search that asks for none.
+NEWEST = Top("id", 10, "falling")
 
 
 class Snapshot:
@@ -69,15 +74,27 @@ class Snapshot:
         Without `top` the hits are the ten newest, by their numbers; `fields` names those of a hit's document. A query,
         a field or a number of hits that the index refuses raises its refusal, as dilforec.Syntax.
         """
-        if isinstance(groups, str) or isinstance(fields, str):
-            raise TypeError("groups and fields are lists of names")
-        wanted = None if fields is None else list(dict.fromkeys([*fields, "id"]))
-        found = self._searcher.search(
-            query, groups=list(groups), top=top or Top("id", 10, "falling"), fields=wanted,
-        )
+        names = _names(groups, fields)
+        found = self._searcher.search(query, groups=list(groups), top=top or NEWEST, fields=names)
         return Answer(
             found.count, dict(found.groups),
             tuple(_hit(hit.value, hit.document, fields) for hit in found.hits), self.commit,
+        )
+
+    def search_json(
+        self, query: str, *, groups: Sequence[str] = (), top: Optional[Top] = None,
+        fields: Optional[Sequence[str]] = None,
+    ) -> bytes:
+        """What `search` finds, as JSON: the text that the service sends, in which each hit is an object.
+
+        Groups are a list of values with their counts. There may be thousands, and they go as the index wrote them.
+        """
+        names, groups = _names(groups, fields), list(dict.fromkeys(groups))
+        replies = [_taken_apart(it) for it in self._searcher._replies(query, groups, top or NEWEST, names)]
+        counted = b",".join(to_line(name) + b":" + reply.groups for name, reply in zip(groups, replies))
+        hits = [_hit(hit["value"], hit["doc"], fields)._asdict() for hit in json.loads(replies[0].hits.decode())]
+        return b'{"count":%b,"groups":{%b},"hits":%b,"commit":%d}\n' % (
+            replies[0].count, counted, to_line(hits), self.commit,
         )
 
     def stats(self) -> Stats:
@@ -103,6 +120,29 @@ class Snapshot:
                 yield hit.value
                 after = hit.value
             page = len(found.hits)
+
+
+class _Reply(NamedTuple):
+    """The parts of an index's reply, each as JSON; empty where the reply has none."""
+
+    count: bytes
+    groups: bytes
+    hits: bytes
+
+
+def _taken_apart(reply: bytes) -> _Reply:
+    # Neither name can stand in what comes before it: a quote in a text is escaped, and after the one that ends it comes
+    # a comma.
+    head, _, hits = reply[:-len(b"}\n")].partition(b',"top":')
+    count, _, groups = head.partition(b',"groups":')
+    return _Reply(count[len(b'{"count":'):], groups, hits)
+
+
+def _names(groups: Sequence[str], fields: Optional[Sequence[str]]) -> "Optional[list[str]]":
+    """The fields that the documents of hits need, for their numbers too; None for all."""
+    if isinstance(groups, str) or isinstance(fields, str):
+        raise TypeError("groups and fields are lists of names")
+    return None if fields is None else list(dict.fromkeys([*fields, "id"]))
 
 
 def _hit(value: int, document: "dict[str, Any]", fields: Optional[Sequence[str]]) -> Hit:
