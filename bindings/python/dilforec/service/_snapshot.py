@@ -94,7 +94,7 @@ class Snapshot:
         counted = b",".join(to_line(name) + b":" + reply.groups for name, reply in zip(groups, replies))
         hits = [_hit(hit["value"], hit["doc"], fields)._asdict() for hit in json.loads(replies[0].hits.decode())]
         return b'{"count":%b,"groups":{%b},"hits":%b,"commit":%d}\n' % (
-            replies[0].count, counted, to_line(hits), self.commit,
+            replies[0].found, counted, to_line(hits), self.commit,
         )
 
     def stats(self) -> Stats:
@@ -123,9 +123,9 @@ class Snapshot:
 
 
 class _Reply(NamedTuple):
-    """The parts of an index's reply, each as JSON; empty where the reply has none."""
+    """The parts of an index's reply, each as JSON: how many were found, and groups and hits, empty if it has none."""
 
-    count: bytes
+    found: bytes
     groups: bytes
     hits: bytes
 
