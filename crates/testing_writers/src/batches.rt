@@ -1,9 +1,10 @@
 // Rounds of one lane.
 ghost use Rattle.std.specs.Prelude.{◌≡◌, IfOk};
-ghost use Rattle.dilforec.specs.Rounds.{SameLane};
+ghost use Rattle.fts_rounds.specs.Rounds.{SameLane};
 
 use crate::fixtures::document;
-use dilforec::{Batch, FieldValue, Lane, LaneEnd, Op, Refusal, Schema, Term, Text, Writer};
+use fts_index::{Batch, Lane, LaneEnd, Writer};
+use fts_model::{FieldValue, Op, Refusal, Schema, Term, Text};
 use std::alloc::Global;
 
 /// A document with this tag, and with no value where the tag is empty.

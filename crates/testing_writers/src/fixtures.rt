@@ -1,5 +1,6 @@
 // The schema of four fields, and documents and a writer of it.
-use dilforec::{Document, Field, Kind, Refusal, Schema, Text, Writer};
+use fts_index::Writer;
+use fts_model::{Document, Field, Kind, Refusal, Schema, Text};
 use serde_json::Value;
 use std::alloc::{AllocError, Global};
 use std::sync::Wait;

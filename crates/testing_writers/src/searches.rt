@@ -1,5 +1,8 @@
 // Searches of a commit by one thread.
-use dilforec::{Open, Refusal, Request, Searcher, parse};
+use fts_index::Searcher;
+use fts_model::{Refusal, Request};
+use fts_pool::Open;
+use fts_query::parse;
 use std::alloc::Global;
 use std::sync::Wait;
 use std::thread::Threads;

@@ -1,5 +1,6 @@
 // What is seen of a writer, as text.
-use dilforec::{Document, Entry, FieldValue, Refusal, Searcher, Writer};
+use fts_index::{Entry, Searcher, Writer};
+use fts_model::{Document, FieldValue, Refusal};
 use std::alloc::{AllocError, Global};
 use std::fmt::Write;
 

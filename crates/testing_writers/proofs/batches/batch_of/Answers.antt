@@ -2,7 +2,7 @@
 use Rattle.std.proofs.Common.{◌≡◌, List, [], ◌∷◌, ◌++◌, length, length-append, get_or, ap, sym, subst, ◌∙◌, arith}
 use Rattle.std.specs.Prelude.{All}
 use Rattle.std.proofs.lemmas.List.Elements.{All-from_recursion}
-use Rattle.dilforec.specs.Rounds.{Opened, Held, IsLaneOf, SameLane, fresh}
+use Rattle.fts_rounds.specs.Rounds.{Opened, Held, IsLaneOf, SameLane, fresh}
 use Rattle.testing_writers.proofs.batches.batch_of.Goals as goal
 
 last_one : (xs : List Held) (x y : Held) → x ∷ [] ≡ xs ++ y ∷ [] → y ≡ x

@@ -1,5 +1,5 @@
 -- It stays the same lane.
-use Rattle.dilforec.specs.Rounds.{SameLane}
+use Rattle.fts_rounds.specs.Rounds.{SameLane}
 use Rattle.testing_writers.proofs.batches.filled.Given as goal
 
 abbrev pub invariant-loop-op : goal.invariant-loop-op
