@@ -11,7 +11,7 @@ use Rattle.fts_model.specs.declared.operation.Stamped.{Stamped}
 use Rattle.fts_model.specs.Documents.{DocumentValue}
 use Rattle.fts_segment.specs.Contents.{where_set}
 use Rattle.fts_segment.specs.Segments.{SegmentValue, numbers_where}
-use Rattle.fts_collect.specs.Internals.Collected.{AreHits}
+use Rattle.fts_parts.specs.Collected.{AreHits}
 use Rattle.fts_segment.proofs.SourceLemmas.{get_behind}
 use Rattle.fts_segment.proofs.HoldingLemmas.{numbers_apart, length-numbers_where}
 

@@ -22,7 +22,7 @@ use Rattle.fts_cursor.specs.Hits.{segment_hits}
 use Rattle.fts_cursor.specs.Most.{least_for, least_of_range}
 use Rattle.fts_cursor.specs.Openings.{HasMusts, blocks_with}
 use Rattle.fts_cursor.specs.Ranges.{is_bounded}
-use Rattle.fts_collect.specs.Internals.Collected.{hits_at}
+use Rattle.fts_parts.specs.Collected.{hits_at}
 use Rattle.fts_segment.proofs.HoldingLemmas.{length-numbers_where}
 
 -- lists of one value are as long

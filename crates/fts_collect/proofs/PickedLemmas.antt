@@ -16,9 +16,9 @@ use Rattle.fts_postings.specs.Sets.{FirstPasses}
 use Rattle.fts_segment.specs.Contents.{where_set}
 use Rattle.fts_segment.specs.Segments.{SegmentValue}
 use Rattle.fts_segment.proofs.SourceLemmas.{length-where_set}
-use Rattle.fts_collect.specs.Internals.Collected.{MatchesAll}
+use Rattle.fts_collect.specs.Internals.Taken.{MatchesAll}
 use Rattle.fts_collect.proofs.LiveLemmas.{hits_are, live_hits-at}
-use Rattle.fts_collect.proofs.SeenLemmas.{length-hits_at}
+use Rattle.fts_parts.proofs.HitsLemmas.{length-hits_at}
 
 -- where the first document is live, one is picked
 pub none_picked : (test : ℕ → Bool) (n : ℕ) (xs : List ℕ) → FirstPasses test xs → 0 ≡ length (filter test (take (suc n) xs)) → xs ≡ []

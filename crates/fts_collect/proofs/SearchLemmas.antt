@@ -19,7 +19,7 @@ use Rattle.fts_model.specs.QueryValues.{QueryValue}
 use Rattle.fts_model.specs.Answers.{answer_of}
 use Rattle.fts_cursor.specs.Most.{least_for, most_for}
 use Rattle.fts_cursor.specs.Openings.{IsOfOneTerm, HasMusts, blocks_with, most_for_musts}
-use Rattle.fts_collect.specs.Parts.{PartValue, ArePartsOf, joined}
+use Rattle.fts_parts.specs.Parts.{PartValue, ArePartsOf, joined}
 use Rattle.fts_snapshots.specs.Entries.{EntryValue, live_in, content}
 use Rattle.fts_snapshots.specs.Snapshots.{IsSnapshot, SnapshotValue, content_of}
 use Rattle.fts_collect.specs.Searches.{AreOfParts, IsPartOf, OpensInAll, blocks_in, fewest_in, greatest_in, most_in, has_hit, least_in}

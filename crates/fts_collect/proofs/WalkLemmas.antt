@@ -5,7 +5,7 @@ use Rattle.std.specs.Prelude.{nat_le}
 use Rattle.std.specs.Option.{option_map_or}
 use Rattle.std.specs.List.{filter_map, cons_option}
 use Rattle.fts_pack.specs.column.Column.{is_within}
-use Rattle.fts_collect.specs.declared.top_k.Key.{Key}
+use Rattle.fts_parts.specs.declared.top_k.Key.{Key}
 
 -- one document more, whether it has a key and whether it passes
 kept-step : (f : ℕ → Option Key) (p : Key → Bool) (d : ℕ) (o : Option Key) (b : Bool) (docs : List ℕ) (keys : List Key) → f d ≡ o →

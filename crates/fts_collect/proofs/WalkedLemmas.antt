@@ -16,15 +16,15 @@ use Rattle.fts_model.specs.Documents.{DocumentValue}
 use Rattle.fts_model.specs.Queries.{is_limit, is_number_field, is_ordered_field, request_fits}
 use Rattle.fts_pack.specs.column.Column.{IsRangeOf, is_within}
 use Rattle.fts_segment.specs.Segments.{SegmentValue, column}
-use Rattle.fts_collect.specs.declared.top_k.Key.{Key}
-use Rattle.fts_collect.specs.declared.collector.Seen.{Seen}
-use Rattle.fts_collect.specs.Internals.Collected.{HasRanked, HasSeen}
-use Rattle.fts_collect.specs.Internals.Keys.{TopKValue, first_keys}
-use Rattle.fts_collect.specs.Internals.Ranks.{keep_keys, key_at, keys_at, rank_in, stamp_at}
+use Rattle.fts_parts.specs.declared.top_k.Key.{Key}
+use Rattle.fts_parts.specs.declared.seen.Seen.{Seen}
+use Rattle.fts_parts.specs.Collected.{HasRanked, HasSeen}
+use Rattle.fts_parts.specs.Keys.{TopKValue, first_keys}
+use Rattle.fts_parts.specs.Ranks.{keep_keys, key_at, keys_at, rank_in, stamp_at}
 use Rattle.fts_collect.specs.Internals.Walks.{IsEnd, RanksMore, has_between, hits_between}
-use Rattle.fts_collect.proofs.BestLemmas.{first-best, within}
-use Rattle.fts_collect.proofs.CollectLemmas.{ranked-more}
-use Rattle.fts_collect.proofs.RanksLemmas.{in_range, least_in, most_in}
+use Rattle.fts_parts.proofs.BestLemmas.{first-best, within}
+use Rattle.fts_parts.proofs.CollectLemmas.{ranked-more}
+use Rattle.fts_parts.proofs.RanksLemmas.{in_range, least_in, most_in}
 use Rattle.fts_collect.proofs.WalkLemmas.{keys-all, keys-count, keys-kept, none-outside, ranks-falling, ranks-rising}
 
 -- the rank of the worse end

@@ -1,3 +1,3 @@
-pub mod Parts
+pub mod Openings
 pub mod Internals
 pub mod Searches

@@ -9,7 +9,8 @@ use Rattle.fts_model.specs.QueryValues.{QueryValue}
 use Rattle.fts_model.specs.Answers.{answer}
 use Rattle.fts_cursor.specs.Most.{least_for, most_for}
 use Rattle.fts_cursor.specs.Openings.{blocks_with, most_for_musts}
-use Rattle.fts_collect.specs.Parts.{AreOpenings, AreWalked, OpensIn, PartValue}
+use Rattle.fts_parts.specs.Parts.{PartValue}
+use Rattle.fts_collect.specs.Openings.{AreOpenings, AreWalked, OpensIn}
 use Rattle.fts_snapshots.specs.Entries.{EntryValue, live_in}
 use Rattle.fts_snapshots.specs.Snapshots.{SnapshotValue}
 

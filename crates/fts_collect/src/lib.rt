@@ -1,29 +1,16 @@
-//! What one segment tells of its hits, and how the parts of several segments make one answer.
+//! The hits of a query among the live documents of a segment, and what a search tells of them.
 //!
-//! A search asks each segment for itself and puts together what they tell. A [`Part`] is the answer over the hits of
-//! one segment: their number, their groups, and the first `k` of them, which is all that any answer over more segments
-//! can need of it. [`Part::join`] adds the numbers, merges the groups number by number and picks the first of the top
-//! lists: however documents were cut into segments, the joined parts are the answer over all of them, as long as no
-//! stamp occurs twice.
-//!
-//! [`search_alone`] asks the segments of a snapshot one after the other; [`search_segment`] is what jobs ask of each.
-//!
-//! Documents are handles here. A part holds those of its top list alone, and joining moves them.
+//! [`collect`] makes a query's cursor and takes its hits, up to 128 at a time, for the [`Part`] that the segment tells;
+//! where it takes fewer steps it looks for the first hits of a top list among the documents with the best numbers.
+//! [`search_alone`] asks the segments of a snapshot one after the other and joins their parts; [`search_segment`] is
+//! what jobs ask of each.
 #![tactic(auto)]
 
 mod collector;
-mod groups;
-mod lent;
 mod live_cursor;
-mod order;
-mod part;
-mod ranks;
 mod searches;
-mod tally;
-mod top;
-mod top_k;
 mod walk;
 
 pub use collector::collect;
-pub use part::Part;
+pub use fts_parts::Part;
 pub use searches::{search_alone, search_segment};

@@ -5,14 +5,13 @@ ghost use Rattle.std.specs.Prelude.{OnOk, filter, length};
 ghost use Rattle.fts_model.specs.Queries.{is_number_field};
 ghost use Rattle.fts_postings.specs.Sets.{has};
 ghost use Rattle.fts_segment.specs.Segments.{column};
-ghost use Rattle.fts_collect.specs.Internals.Collected.{AreHits};
+ghost use Rattle.fts_parts.specs.Collected.{AreHits};
 ghost use Rattle.fts_collect.specs.Internals.Walks.{IsBetween, IsEnd, RanksMore, hits_between};
 
-use crate::ranks::{Ranking, numbers_of};
-use crate::top_k::TopK;
 use fts_cursor::HitTest;
 use fts_model::{Order, Top};
 use fts_pack::{Blocks, List};
+use fts_parts::{Ranking, TopK, numbers_of};
 use fts_segment::Segment;
 use std::alloc::{AllocError, Global};
 

@@ -6,7 +6,7 @@ use Rattle.fts_base.specs.declared.refusal.Refusal.{Refusal}
 use Rattle.fts_base.specs.declared.refusal.Refusal.TheVariants.{Memory}
 use Rattle.fts_model.specs.QueryValues.{QueryValue}
 use Rattle.fts_model.proofs.Lists.{Contains-cases, Contains-none}
-use Rattle.fts_collect.specs.Parts.{PartValue}
+use Rattle.fts_parts.specs.Parts.{PartValue}
 use Rattle.fts_snapshots.specs.Entries.{EntryValue}
 use Rattle.fts_collect.specs.Searches.{IsPartOf}
 use Rattle.fts_index.specs.SearchJobs.{Asked, asks, asked_of, Tells, AnswersSearch}

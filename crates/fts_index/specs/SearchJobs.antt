@@ -4,7 +4,7 @@ use Rattle.fts_model.specs.declared.query.Request.{Request}
 use Rattle.fts_base.specs.declared.refusal.Refusal.{Refusal}
 use Rattle.fts_base.specs.declared.refusal.Refusal.TheVariants.{Memory}
 use Rattle.fts_model.specs.QueryValues.{QueryValue, query_value}
-use Rattle.fts_collect.specs.Parts.{PartValue}
+use Rattle.fts_parts.specs.Parts.{PartValue}
 use Rattle.fts_snapshots.specs.Entries.{EntryValue}
 use Rattle.fts_collect.specs.Searches.{IsPartOf}
 use Rattle.fts_index.specs.declared.searches.job.SearchJob.{SearchJob}

@@ -7,8 +7,8 @@ use Rattle.fts_model.specs.declared.query.Top.{Top}
 use Rattle.fts_pack.specs.column.Column.{is_within}
 use Rattle.fts_postings.specs.Sets.{has}
 use Rattle.fts_segment.specs.Segments.{SegmentValue, column}
-use Rattle.fts_collect.specs.Internals.Keys.{TopKValue}
-use Rattle.fts_collect.specs.Internals.Collected.{HasRanked}
+use Rattle.fts_parts.specs.Keys.{TopKValue}
+use Rattle.fts_parts.specs.Collected.{HasRanked}
 
 -- whether the number of a document is between two
 abbrev pub has_between : List (Option ℕ) → ℕ → ℕ → ℕ → Bool

@@ -4,8 +4,8 @@ use Rattle.fts_model.specs.Documents.{DocumentValue}
 use Rattle.fts_model.specs.QueryValues.{query_value}
 use Rattle.fts_model.specs.Queries.{matches}
 use Rattle.fts_model.specs.Answers.{answer_of}
-use Rattle.fts_collect.specs.Internals.Collected.{AreHits, hits_at}
-use Rattle.fts_collect.proofs.FitLemmas.{has_values}
+use Rattle.fts_parts.specs.Collected.{AreHits, hits_at}
+use Rattle.fts_parts.proofs.FitLemmas.{has_values}
 use Rattle.fts_collect.proofs.LiveLemmas.{live_hits-at, hits_are}
 use Rattle.fts_collect.proofs.OpeningsLemmas.{at_most, blocks-few, least-few, some_hits, where_some}
 use Rattle.fts_collect.proofs.collector.collected.Goals as goal

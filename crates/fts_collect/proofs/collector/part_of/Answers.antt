@@ -1,4 +1,4 @@
-use Rattle.fts_collect.proofs.CollectLemmas.{ranked-within}
+use Rattle.fts_parts.proofs.CollectLemmas.{ranked-within}
 use Rattle.fts_collect.proofs.collector.part_of.Goals as goal
 
 pub told-requires-clause-within : goal.told-requires-clause-within

@@ -1,6 +1,6 @@
 use Rattle.std.proofs.Common.{◌≤◌, ◌+◌, length, take}
 use Rattle.fts_cursor.specs.Standing.{Walked}
-use Rattle.fts_collect.specs.Internals.Collected.{IsUnderWay}
+use Rattle.fts_collect.specs.Internals.Taken.{IsUnderWay}
 use Rattle.fts_collect.proofs.collector.see_all.Given as goal
 
 abbrev pub invariant-loop-len : goal.invariant-loop-len

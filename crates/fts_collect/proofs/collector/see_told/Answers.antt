@@ -1,8 +1,8 @@
 use Rattle.std.proofs.Common.{◌≡◌, true, ℕ, List, [], Option, Some, IfSome, sym, subst}
 use Rattle.fts_model.specs.declared.query.Top.{Top}
 use Rattle.fts_model.specs.Queries.{is_number_field}
-use Rattle.fts_collect.specs.Internals.Collected.{AreHits, HasRanked}
-use Rattle.fts_collect.proofs.CollectLemmas.{fits-top}
+use Rattle.fts_parts.specs.Collected.{AreHits, HasRanked}
+use Rattle.fts_parts.proofs.CollectLemmas.{fits-top}
 use Rattle.fts_collect.proofs.WalkedLemmas.{ranked-none}
 use Rattle.fts_collect.proofs.collector.see_told.Goals as goal
 

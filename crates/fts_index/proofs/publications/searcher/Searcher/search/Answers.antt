@@ -2,7 +2,7 @@
 use Rattle.std.proofs.Common.{◌-◌, ◌^◌, List, min, sum_by, subst, ap, ◌∙◌, arith}
 use Rattle.fts_model.specs.Queries.{hits}
 use Rattle.fts_model.specs.QueryValues.{query_value}
-use Rattle.fts_collect.specs.Parts.{PartValue}
+use Rattle.fts_parts.specs.Parts.{PartValue}
 use Rattle.fts_snapshots.specs.Snapshots.{IsSnapshot, SnapshotValue, content_of}
 use Rattle.fts_collect.proofs.SearchLemmas.{length-hits, of_parts, once_among_hits, opens_in_all, parts_of_snapshot}
 use Rattle.fts_index.proofs.publications.searcher.Searcher.search.Goals as goal

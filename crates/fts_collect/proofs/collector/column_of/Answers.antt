@@ -1,5 +1,0 @@
-use Rattle.fts_collect.proofs.FitLemmas.{column_is}
-use Rattle.fts_collect.proofs.collector.column_of.Goals as goal
-
-pub returns : goal.returns
-returns c = column_is c.args.segment.now c.args.field c.column.result.now c.column.ensures.numbers c.column.ensures.ordinals

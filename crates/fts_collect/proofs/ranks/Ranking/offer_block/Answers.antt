@@ -1,6 +1,0 @@
-use Rattle.fts_collect.proofs.RanksLemmas.{Offers-beyond}
-use Rattle.fts_collect.proofs.ranks.Ranking.offer_block.Goals as goal
-
-pub returns-then-is_block_beyond : goal.returns-then-is_block_beyond
-returns-then-is_block_beyond c =
-    Offers-beyond c.args.self.now _ c.args.top_k.now c.args.docs.now (c.is_block_beyond.ensures c.if-is_block_beyond.true) c.requires.block

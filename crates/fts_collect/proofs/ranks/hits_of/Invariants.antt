@@ -1,6 +1,0 @@
-use Rattle.std.proofs.Common.{◌≡◌, take, map}
-use Rattle.fts_collect.specs.Internals.Ranks.{hit_of}
-use Rattle.fts_collect.proofs.ranks.hits_of.Given as goal
-
-abbrev pub invariant-loop-key : goal.invariant-loop-key
-invariant-loop-key l = l.hits.items ≡ map (hit_of l.kind l.order l.segment.documents) (take l.key-index l.keys)

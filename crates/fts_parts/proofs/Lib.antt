@@ -1,0 +1,15 @@
+pub mod ApartLemmas
+pub mod BestLemmas
+pub mod CollectLemmas
+pub mod FirstLemmas
+pub mod FitLemmas
+pub mod GroupsLemmas
+pub mod KeptLemmas
+pub mod KeysLemmas
+pub mod NamesLemmas
+pub mod NumbersLemmas
+pub mod PartsLemmas
+pub mod RanksLemmas
+pub mod HitsLemmas
+pub mod TallyLemmas
+pub mod ValuesLemmas

@@ -1,0 +1,15 @@
+use Rattle.std.proofs.Common.{◌++◌, ℕ, List}
+use Rattle.std.proofs.lemmas.Result.{IfOk-weaker}
+use Rattle.fts_parts.specs.Collected.{HasCounted}
+use Rattle.fts_parts.specs.Tallies.{IsTally, present_at}
+use Rattle.fts_parts.proofs.CollectLemmas.{counted-more}
+use Rattle.fts_parts.proofs.seen.count_hits.Goals as goal
+
+pub returns-in-Some-clause-counted : goal.returns-in-Some-clause-counted
+returns-in-Some-clause-counted c =
+    IfOk-weaker c.take.result
+    (λ _. (numbers : List ℕ) → IsTally numbers c.args.tally.now → IsTally (numbers ++ present_at c.column_of.result.now c.args.docs.now) c.take.new.self)
+    (λ _. (before : List ℕ) → HasCounted c.args.segment.now c.args.field before c.args.tally.now → HasCounted c.args.segment.now c.args.field
+    (before ++ c.args.docs.now) c.take.new.self)
+    (λ _ more. counted-more c.args.segment.now c.args.field c.in-Some.field c.column_of.result.now c.args.docs.now c.args.tally.now c.take.new.self c.in-Some.is
+    c.column_of.ensures more) c.take.ensures.taken
