@@ -4,7 +4,7 @@ ghost use Rattle.std.specs.Prelude.{◌≡◌, All, IfSome};
 use crate::bench::{Bench, segment_with};
 use crate::merges::give_merged;
 use crate::numbers::all_bits;
-use fts_merge::{Merged, Source, merge};
+use fts_merge::{Merged, LiveSegment, merge};
 use fts_model::{Document, Schema, Stamped};
 use fts_pack::bits::Bits;
 use fts_segment::Segment;
@@ -63,7 +63,7 @@ fn all_again(trial: &mut Trial, schema: &Schema, made: &[Bench]) -> Vec<Segment>
 /// Puts a segment with its live bits after sources.
 fn push_source<'a>(
     trial: &mut Trial,
-    sources: &mut Vec<Source<'a>>,
+    sources: &mut Vec<LiveSegment<'a>>,
     schema: &Schema,
     segment: &'a Segment,
     live: &'a Bits,
@@ -75,7 +75,7 @@ fn push_source<'a>(
     if live.len() != segment.docs() {
         return trial.fail(Trouble::Impossible("not one bit a document"));
     }
-    let pushed = sources.push(Source::new(segment, live));
+    let pushed = sources.push(LiveSegment::new(segment, live));
     trial.kept(pushed);
 }
 

@@ -2,7 +2,7 @@
 use fts_model::MOST_MERGED;
 use fts_pack::bits::{Bits, i64_to_u64, u64_to_i64};
 use fts_pack::column::Column;
-use fts_pack::{Block, Numbers};
+use fts_pack::{Block, PackedNumbers};
 use serde_json::Value;
 use testing_cases::{Trial, Trouble, flag, list, member, numbers, size};
 
@@ -44,7 +44,7 @@ fn block_words(trial: &mut Trial, case: &Value) {
 }
 
 /// Gives packed numbers, each asked by itself.
-fn give_each(trial: &mut Trial, packed: &Numbers) {
+fn give_each(trial: &mut Trial, packed: &PackedNumbers) {
     trial.open();
     for index in 0..packed.len() {
         trial.give_number(u64::from(packed.get(index)));
@@ -55,7 +55,7 @@ fn give_each(trial: &mut Trial, packed: &Numbers) {
 /// What comes back of any number of numbers, each asked by itself.
 fn each_number(trial: &mut Trial, case: &Value) {
     let numbers = numbers(trial, case, "numbers");
-    let packed = Numbers::build(trial.alloc(), &numbers);
+    let packed = PackedNumbers::build(trial.alloc(), &numbers);
     if let Some(packed) = trial.kept(packed) {
         give_each(trial, &packed);
     }

@@ -1,13 +1,13 @@
 -- The definitions that contracts of packed numbers cite.
 pub use Rattle.fts_pack.specs.Block
 pub use Rattle.fts_pack.specs.Documents
-pub use Rattle.fts_pack.specs.Lanes
+pub use Rattle.fts_pack.specs.FourLanes
 pub use Rattle.fts_pack.specs.ListSource
 pub use Rattle.fts_pack.specs.Repr
 pub use Rattle.fts_pack.specs.SourceLaws
 pub use Rattle.fts_pack.specs.bits.Bits
 pub use Rattle.fts_pack.specs.bits.Digits
-pub use Rattle.fts_pack.specs.column.Blocks
+pub use Rattle.fts_pack.specs.column.BlockRanges
 pub use Rattle.fts_pack.specs.column.Column
 pub use Rattle.fts_pack.specs.column.Counts
-pub use Rattle.fts_pack.specs.column.Lanes as ColumnLanes
+pub use Rattle.fts_pack.specs.column.OffsetArray as ColumnLanes

@@ -7,4 +7,4 @@ pub use Rattle.fts_segment.specs.ListIds
 pub use Rattle.fts_segment.specs.PositionsLeft
 pub use Rattle.fts_segment.specs.Segments
 pub use Rattle.fts_segment.specs.Sources
-pub use Rattle.fts_segment.specs.Stored
+pub use Rattle.fts_segment.specs.SegmentData

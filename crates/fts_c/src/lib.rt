@@ -27,11 +27,11 @@ ghost use Rattle.fts_c.specs.Syntaxes.{IsSyntaxAt, TellsSyntaxAt};
 ghost use Rattle.fts_script.specs.session.Outputs.{start};
 
 mod codes;
-mod loose;
-mod merges;
+mod raw_box;
+mod maintenance;
 mod state;
 
-use crate::loose::Loose;
+use crate::raw_box::RawBox;
 use codes::{CLOSED, MEMORY, NO_BYTE, NO_LIMIT, NO_REPLY, OK};
 use core::mem::replace_with;
 use core::ptr::null_mut;
@@ -102,21 +102,21 @@ impl Slot {
 }
 
 impl Handle {
-    fn of(state: Loose<State, Global>) -> Handle
+    fn of(state: RawBox<State, Global>) -> Handle
         ensures { result.state ≡ state.value }
     {
-        let Loose { at, alloc } = state;
+        let RawBox { at, alloc } = state;
         Handle {
             at: at as *mut u8,
             alloc,
         }
     }
 
-    fn into_loose(self) -> Loose<State, Global>
+    fn into_raw(self) -> RawBox<State, Global>
         ensures { result.value ≡ self.state }
     {
         let Handle { at, alloc } = self;
-        Loose {
+        RawBox {
             at: at as *mut State,
             alloc,
         }
@@ -126,13 +126,13 @@ impl Handle {
 fn wrap(state: Box<State, Global>) -> Handle
     ensures { result.state ≡ state.value }
 {
-    Handle::of(Loose::of(state))
+    Handle::of(RawBox::of(state))
 }
 
 fn unwrap(handle: Handle) -> Box<State, Global>
     ensures { result.value ≡ handle.state }
 {
-    handle.into_loose().into_box()
+    handle.into_raw().into_box()
 }
 
 /// Segments of up to 65,536 documents, and merges after commits, so that many small commits leave few segments.

@@ -9,11 +9,11 @@ ghost use Rattle.fts_c.specs.Pairs.{AreTried, IsFaultOfTwo, Replaces};
 ghost use Rattle.fts_c.specs.StatsOf.{AreStatsOf};
 
 use crate::codes::{GONE, LINE_TOO_LONG, MEMORY, NOTHING, OK, USED_UP};
-use crate::merges::{Beginning, Ending, Limiting};
+use crate::maintenance::{BeginMerge, EndMerge, LimitMerges};
 use fts_engine_local::{BegunMerge, LocalEngine, Stats};
 use fts_model::Refusal;
 use fts_script::LONGEST;
-use fts_script::session::{MOST_LINES, Session, Upkeep, first_line, is_blank};
+use fts_script::session::{MOST_LINES, Session, Maintenance, first_line, is_blank};
 use std::alloc::{AllocError, Global};
 
 /// How large an index is that has no schema.
@@ -182,19 +182,19 @@ impl State {
     }
 
     /// Has work done on how the index is kept, if there is one.
-    fn keep_up<W: Upkeep<LocalEngine> + Drop>(&mut self, work: W) -> Result<W::Done, i32>
+    fn maintain<W: Maintenance<LocalEngine> + Drop>(&mut self, work: W) -> Result<W::Done, i32>
         ensures same { self.new ≡ self.old }
         ensures done { MatchResult result (λ _. self.old.session.index ≢ None)
             (λ code. (self.old.session.index ≡ None) × (code ≡ NOTHING)) }
     {
-        self.session.keep_up(work).ok_or(NOTHING)
+        self.session.maintain(work).ok_or(NOTHING)
     }
 
     /// Limits what commits merge.
     pub(crate) fn limit_merges(&mut self, limit: Option<u32>) -> i32
         ensures { LimitsMerges self.old self.new result }
     {
-        match self.keep_up(Limiting { limit }) {
+        match self.maintain(LimitMerges { limit }) {
             Ok(()) => OK,
             Err(code) => code,
         }
@@ -220,7 +220,7 @@ impl State {
         let Ok(mut begun) = Box::new(alloc, begun) else {
             return Err(MEMORY);
         };
-        match self.keep_up(Beginning)? {
+        match self.maintain(BeginMerge)? {
             Ok(Some(merge)) => {
                 begun.merge = Some(merge);
                 Ok(begun)
@@ -247,7 +247,7 @@ impl State {
     pub(crate) fn end_merge(&mut self) -> i32
         ensures { EndsMerge self.old self.new result }
     {
-        match self.keep_up(Ending) {
+        match self.maintain(EndMerge) {
             Ok(Ok(true)) => OK,
             Ok(Ok(false)) => NOTHING,
             Ok(Err(Refusal::Memory)) => MEMORY,

@@ -6,7 +6,7 @@ use Rattle.fts_model.specs.declared.operation.Stamped.{Stamped}
 use Rattle.fts_model.specs.Operations.{op_fits}
 use Rattle.fts_base.specs.declared.refusal.Refusal.{Refusal}
 use Rattle.fts_engine.specs.declared.options.Merge.{Merge}
-use Rattle.fts_merge.specs.declared.policy.MergePolicy.{MergePolicy}
+use Rattle.fts_merge.specs.declared.merge_policy.MergePolicy.{MergePolicy}
 use Rattle.fts_snapshots.specs.Candidates.{MergesDue}
 use Rattle.fts_snapshots.specs.Changes.{Commits, Merges}
 use Rattle.fts_snapshots.specs.Commits.{misfit}

@@ -20,12 +20,12 @@ use Rattle.fts_snapshots.proofs.FollowLemmas.{fits_further, follows_further}
 use Rattle.fts_model.specs.Operations.{stamps_of}
 use Rattle.fts_model.proofs.StampLemmas.{numbered-push}
 use Rattle.fts_engine.specs.Indexes.{Index, indexes}
-use Rattle.fts_engine.specs.Pairs.{submit_two}
+use Rattle.fts_engine.specs.SubmitTwo.{submit_two}
 use Rattle.fts_engine.specs.Steps.{submit}
 use Rattle.fts_base.specs.declared.refusal.Refusal.{Refusal}
 use Rattle.fts_base.specs.Results.{result_and_then}
 use Rattle.fts_snapshots.specs.Commits.{misfit}
-use Rattle.fts_snapshots.specs.declared.stamped.Commit.{Commit}
+use Rattle.fts_snapshots.specs.declared.commit_point.CommitPoint.{CommitPoint}
 use Rattle.fts_engine_local.specs.CountedIndexes.{IsCounted}
 use Rattle.fts_engine_local.specs.LaterCommits.{IsLaterCommit}
 use Rattle.fts_engine_local.specs.LocalIndexes.{IsLocalEngine}
@@ -37,7 +37,7 @@ fits_later : (begun : Option (List EntryValue)) (old new : SnapshotValue) → Fo
 fits_later begun old new h f = λ job is. fits_further (merged_of job) old new (h job is) f
 
 -- one more uncommitted operation
-pub local_submitted : (commit : Commit) (uncommitted : List (Stamped Op)) (cut : Cut) (calls : ℕ) (begun : Option (List EntryValue)) (stamp : ℕ) (op : Op) →
+pub local_submitted : (commit : CommitPoint) (uncommitted : List (Stamped Op)) (cut : Cut) (calls : ℕ) (begun : Option (List EntryValue)) (stamp : ℕ) (op : Op) →
     IsLocalEngine commit uncommitted cut calls begun → stamp ≡ commit.stamp + length uncommitted + 1 →
     op_fits commit.snapshot.schema op ≡ true → IsLocalEngine commit (uncommitted ++ record { stamp = stamp; value = op } ∷ []) cut (calls + 1) begun
 local_submitted commit uncommitted cut calls begun stamp op i at fits =
@@ -50,7 +50,7 @@ local_submitted commit uncommitted cut calls begun stamp op i at fits =
     }
 
 -- two more
-pub local_submitted_two : (commit : Commit) (uncommitted : List (Stamped Op)) (cut : Cut) (calls : ℕ) (begun : Option (List EntryValue)) (stamp : ℕ)
+pub local_submitted_two : (commit : CommitPoint) (uncommitted : List (Stamped Op)) (cut : Cut) (calls : ℕ) (begun : Option (List EntryValue)) (stamp : ℕ)
     (first second : Op) → IsLocalEngine commit uncommitted cut calls begun → stamp ≡ commit.stamp + length uncommitted + 1 →
     op_fits commit.snapshot.schema first ≡ true → op_fits commit.snapshot.schema second ≡ true →
     IsLocalEngine commit (uncommitted ++ record { stamp = stamp; value = first } ∷ [] ++ record { stamp = stamp + 1; value = second } ∷ []) cut (calls + 2) begun
@@ -84,7 +84,7 @@ submitted_two i first second stamp few at =
     ∙ ap (λ b. left (i.commit_stamp + length i.uncommitted + 1) b) next ∙ ap (λ a. left a (stamp + 1)) (sym at)
 
 -- the uncommitted operations are committed, and segments merged after it
-pub local_committed : (old mid new : Commit) (uncommitted : List (Stamped Op)) (cut : Cut) (calls : ℕ) (begun : Option (List EntryValue)) →
+pub local_committed : (old mid new : CommitPoint) (uncommitted : List (Stamped Op)) (cut : Cut) (calls : ℕ) (begun : Option (List EntryValue)) →
     IsLocalEngine old uncommitted cut calls begun → Commits uncommitted old.snapshot mid.snapshot →
     mid.stamp ≡ old.stamp + length uncommitted + 1 → Follows old.snapshot mid.snapshot → Merges 1 mid.snapshot new.snapshot → IsLaterCommit mid new →
     IsLocalEngine new [] cut (calls + 1) begun
@@ -96,7 +96,7 @@ local_committed old mid new uncommitted cut calls begun i c at f m kept = record
 }
 
 -- the segments of the last commit are merged
-pub local_merged : (old new : Commit) (uncommitted : List (Stamped Op)) (cut : Cut) (calls : ℕ) (begun : Option (List EntryValue)) →
+pub local_merged : (old new : CommitPoint) (uncommitted : List (Stamped Op)) (cut : Cut) (calls : ℕ) (begun : Option (List EntryValue)) →
     IsLocalEngine old uncommitted cut calls begun → Merges 1 old.snapshot new.snapshot → IsLaterCommit old new →
     IsLocalEngine new uncommitted cut (calls + 1) begun
 local_merged old new uncommitted cut calls begun i m kept = record {
@@ -122,7 +122,7 @@ end_counted m s =
     )
 
 -- the begun merge has ended
-pub local_ended : (m : MergedSegmentValue) (old new : Commit) (uncommitted : List (Stamped Op)) (cut : Cut) (calls : ℕ) (begun : Option (List EntryValue)) →
+pub local_ended : (m : MergedSegmentValue) (old new : CommitPoint) (uncommitted : List (Stamped Op)) (cut : Cut) (calls : ℕ) (begun : Option (List EntryValue)) →
     IsLocalEngine old uncommitted cut calls begun → new.snapshot ≡ after_end m old.snapshot → new.stamp ≡ old.stamp →
     IsLocalEngine new uncommitted cut (calls + 1) None
 local_ended m old new uncommitted cut calls begun i is kept = record {
@@ -137,7 +137,7 @@ local_ended m old new uncommitted cut calls begun i is kept = record {
 }
 
 -- one more call was counted, and the begun merge may be forgotten
-pub local_counted : (commit : Commit) (uncommitted : List (Stamped Op)) (cut : Cut) (calls : ℕ) (begun : Option (List EntryValue)) →
+pub local_counted : (commit : CommitPoint) (uncommitted : List (Stamped Op)) (cut : Cut) (calls : ℕ) (begun : Option (List EntryValue)) →
     IsLocalEngine commit uncommitted cut calls begun → IsLocalEngine commit uncommitted cut (calls + 1) begun
 local_counted commit uncommitted cut calls begun i = record {
   fits = i.fits;
@@ -146,7 +146,7 @@ local_counted commit uncommitted cut calls begun i = record {
   counted = record { fit = i.counted.fit; stamps = omega (arith, i.counted.stamps); segments = omega (arith, i.counted.segments) };
 }
 
-pub local_forgotten : (commit : Commit) (uncommitted : List (Stamped Op)) (cut : Cut) (calls : ℕ) (begun : Option (List EntryValue)) →
+pub local_forgotten : (commit : CommitPoint) (uncommitted : List (Stamped Op)) (cut : Cut) (calls : ℕ) (begun : Option (List EntryValue)) →
     IsLocalEngine commit uncommitted cut calls begun → IsLocalEngine commit uncommitted cut (calls + 1) None
 local_forgotten commit uncommitted cut calls begun i = record {
   fits = λ job is. cc;

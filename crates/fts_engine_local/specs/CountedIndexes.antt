@@ -1,7 +1,7 @@
 -- What both engines over segments share: an index at a commit, what calls take of numbers, and the merges after a
 -- commit.
 use Rattle.std.specs.Prelude.{◌≡◌, Bool, ℕ, ◌+◌, ◌*◌, ◌≤◌, None, List, [], length}
-use Rattle.fts_merge.specs.declared.policy.MergePolicy.{MergePolicy}
+use Rattle.fts_merge.specs.declared.merge_policy.MergePolicy.{MergePolicy}
 use Rattle.fts_model.specs.declared.operation.Op.{Op}
 use Rattle.fts_model.specs.declared.operation.Stamped.{Stamped}
 use Rattle.fts_snapshots.specs.Candidates.{MergesDue}

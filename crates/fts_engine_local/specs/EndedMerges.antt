@@ -7,7 +7,7 @@ use Rattle.fts_snapshots.specs.LateMerges.{after_end, end_fault}
 use Rattle.fts_snapshots.specs.MergedSegments.{merged_of}
 use Rattle.fts_engine_local.specs.BegunMerges.{due_job}
 use Rattle.fts_engine_local.specs.LocalIndexes.{LocalValue}
-use Rattle.fts_engine_local.specs.declared.begun.BegunMerge.{BegunMerge}
+use Rattle.fts_engine_local.specs.declared.begun_merge.BegunMerge.{BegunMerge}
 
 -- what came of the beginning of a merge: a job of what is due, which the engine remembers, or nothing, if nothing is due
 -- or memory was refused

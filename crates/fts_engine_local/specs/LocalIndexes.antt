@@ -11,7 +11,7 @@ use Rattle.fts_snapshots.specs.Entries.{EntryValue}
 use Rattle.fts_snapshots.specs.MergedSegments.{merged_of}
 use Rattle.fts_snapshots.specs.Snapshots.{SnapshotValue}
 use Rattle.fts_snapshots.specs.Successors.{Fits}
-use Rattle.fts_snapshots.specs.declared.stamped.Commit.{Commit}
+use Rattle.fts_snapshots.specs.declared.commit_point.CommitPoint.{CommitPoint}
 use Rattle.fts_engine.specs.Indexes.{Index}
 use Rattle.fts_engine.specs.declared.options.Merge.{Merge}
 use Rattle.fts_engine_local.specs.CountedIndexes.{IsCounted}
@@ -32,7 +32,7 @@ pub record LocalValue : Type 0 where
 
 -- What holds of an engine after this many calls that changed it: the operations have the stamps after the commit's, and
 -- what the begun merge makes can take the place of its sources.
-pub record IsLocalEngine (commit : Commit) (uncommitted : List (Stamped Op)) (cut : Cut) (calls : ℕ)
+pub record IsLocalEngine (commit : CommitPoint) (uncommitted : List (Stamped Op)) (cut : Cut) (calls : ℕ)
     (begun : Option (List EntryValue)) : Type 0 where
   pub fits : ForSome begun (λ job. Fits (merged_of job) commit.snapshot)
   pub cuts : IsCut cut

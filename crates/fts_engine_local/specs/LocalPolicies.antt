@@ -1,6 +1,6 @@
 -- When an engine of one thread merges.
 use Rattle.std.specs.Prelude.{ℕ, min, Option, Some, None}
-use Rattle.fts_merge.specs.declared.policy.MergePolicy.{MergePolicy}
+use Rattle.fts_merge.specs.declared.merge_policy.MergePolicy.{MergePolicy}
 
 -- the policy; and what of it commits do under a limit: they merge no segment of more live documents, and none by itself
 abbrev pub local_policy : Option ℕ → MergePolicy

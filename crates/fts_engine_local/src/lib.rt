@@ -12,14 +12,14 @@
 //! ```
 #![tactic(auto)]
 
-mod begun;
-mod engine;
-mod merges;
+mod begun_merge;
+mod local_engine;
+mod local_policy;
 mod merging;
 mod next_commit;
 mod stats;
 
-pub use begun::BegunMerge;
-pub use engine::LocalEngine;
-pub use merges::merge_after;
+pub use begun_merge::BegunMerge;
+pub use local_engine::LocalEngine;
+pub use local_policy::merge_after;
 pub use stats::Stats;

@@ -1,6 +1,6 @@
 // The last commit of an engine of one thread, while its segments are merged.
 use fts_model::Refusal;
-use fts_snapshots::{Commit, Mergeable, Snapshot};
+use fts_snapshots::{CommitPoint, Mergeable, Snapshot};
 use std::alloc::Global;
 use std::sync::Arc;
 
@@ -8,7 +8,7 @@ use std::sync::Arc;
 /// end.
 #[derive(Drop)]
 pub(crate) struct Merging {
-    pub(crate) commit: Arc<Commit>,
+    pub(crate) commit: Arc<CommitPoint>,
 }
 
 impl<R> Mergeable<R> for Merging {
@@ -29,7 +29,7 @@ impl<R> Mergeable<R> for Merging {
     fn merge_segments(&mut self, _rt: &R, alloc: Global, ids: &[u64]) -> Result<(), Refusal> {
         let stamp = self.commit.stamp;
         let snapshot = self.commit.snapshot.merge(alloc, ids)?;
-        self.commit = Arc::new(alloc, Commit { stamp, snapshot })?;
+        self.commit = Arc::new(alloc, CommitPoint { stamp, snapshot })?;
         Ok(())
     }
 

@@ -9,17 +9,17 @@ ghost use Rattle.fts_snapshots.specs.Cuts.{IsCut};
 ghost use Rattle.fts_snapshots.specs.Successors.{Follows};
 
 use fts_model::{Cut, Op, Refusal, Stamped};
-use fts_snapshots::Commit;
+use fts_snapshots::CommitPoint;
 use std::alloc::Global;
 use std::sync::Arc;
 
 /// The commit after another one, of the operations since.
 pub(crate) fn next_commit(
     alloc: Global,
-    last: &Commit,
+    last: &CommitPoint,
     ops: &[Stamped<Op>],
     cut: Cut,
-) -> Result<Arc<Commit>, Refusal>
+) -> Result<Arc<CommitPoint>, Refusal>
     requires cut { IsCut cut }
     requires numbered { stamps_of ops.now ≡ range_with_len (last.now.stamp + 1) (length ops.now) }
     requires fit { misfit last.now.snapshot.schema ops.now ≡ None }
@@ -37,5 +37,5 @@ pub(crate) fn next_commit(
         Err(refusal) => return Err(refusal),
     };
     let stamp = last.stamp + ops.len() as u64 + 1;
-    Ok(Arc::new(alloc, Commit { stamp, snapshot })?)
+    Ok(Arc::new(alloc, CommitPoint { stamp, snapshot })?)
 }

@@ -5,7 +5,7 @@ use Rattle.fts_base.specs.declared.refusal.Refusal.{Refusal}
 use Rattle.fts_base.specs.declared.refusal.Refusal.TheVariants.{Memory}
 use Rattle.fts_snapshots.specs.Entries.{EntryValue, has_live}
 use Rattle.fts_snapshots.specs.Jobs.{entry_of, Answers}
-use Rattle.fts_snapshots.specs.declared.commits.jobs.CommitJob.{CommitJob}
+use Rattle.fts_snapshots.specs.declared.commits.commit_job.CommitJob.{CommitJob}
 use Rattle.fts_snapshots.proofs.JobLemmas.{kept_in_turn}
 use Rattle.fts_index.specs.CommitJobs.{AreAnswers}
 

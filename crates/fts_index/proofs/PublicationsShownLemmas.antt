@@ -6,19 +6,19 @@ use lib.ListN.{get_elem?}
 use Rattle.logbook.specs.Pages.{Book}
 use Rattle.left_right.specs.Register.{Admits, TurnsAt, Forks, Merges}
 use Rattle.atomic_table.proofs.Lists.{at_set, at_snoc}
-use Rattle.fts_index.specs.declared.publications.name.Name.{Name}
+use Rattle.fts_index.specs.declared.publications.writer_id.WriterId.{WriterId}
 use Rattle.fts_index.specs.Publications.{FrontValue}
 use Rattle.fts_index.proofs.PublicationsLemmas.{fold_last}
 use Rattle.fts_index.specs.PublicationsShown.{name_of, KnowsName, IsOfOne, Looks}
 
-set_knows : (x : FrontValue) (views : List (Option Name)) (seat : ℕ) (w : Option Name) → IsOfOne x views → KnowsName w x.seen.of → IsOfOne x (set views seat w)
+set_knows : (x : FrontValue) (views : List (Option WriterId)) (seat : ℕ) (w : Option WriterId) → IsOfOne x views → KnowsName w x.seen.of → IsOfOne x (set views seat w)
 set_knows x views seat w h new j u e =
-    ⊎_elim (λ (t : (j ≡ seat) × (w ≡ u)). subst (λ (v : Option Name). KnowsName v x.seen.of) t.1 new) (λ (t : (j ≢ seat) × (get_elem? views j ≡ some u)). h j u
+    ⊎_elim (λ (t : (j ≡ seat) × (w ≡ u)). subst (λ (v : Option WriterId). KnowsName v x.seen.of) t.1 new) (λ (t : (j ≢ seat) × (get_elem? views j ≡ some u)). h j u
     t.1) (at_set views seat j w u e)
 
-snoc_knows : (x : FrontValue) (views : List (Option Name)) (w : Option Name) → IsOfOne x views → KnowsName w x.seen.of → IsOfOne x (views ++ w ∷ [])
+snoc_knows : (x : FrontValue) (views : List (Option WriterId)) (w : Option WriterId) → IsOfOne x views → KnowsName w x.seen.of → IsOfOne x (views ++ w ∷ [])
 snoc_knows x views w h new j u e =
-    ⊎_elim (λ (t : get_elem? views j ≡ some u). h j u t) (λ (same : w ≡ u). subst (λ (v : Option Name). KnowsName v x.seen.of) same new) (at_snoc views w u j e)
+    ⊎_elim (λ (t : get_elem? views j ≡ some u). h j u t) (λ (same : w ≡ u). subst (λ (v : Option WriterId). KnowsName v x.seen.of) same new) (at_snoc views w u j e)
 
 pub opens : (x : FrontValue) → IsOfOne x (None ∷ [])
 opens x = snoc_knows x [] None (λ j u e. absurd cc) tt
@@ -26,17 +26,17 @@ opens x = snoc_knows x [] None (λ j u e. absurd cc) tt
 pub admits : Admits IsOfOne None
 admits x views h = snoc_knows x views None h tt
 
-pub looks : (seat : ℕ) (v : Option Name) (x y : FrontValue) → x.seen.of ≡ y.seen.of → TurnsAt IsOfOne seat v x y Looks
+pub looks : (seat : ℕ) (v : Option WriterId) (x y : FrontValue) → x.seen.of ≡ y.seen.of → TurnsAt IsOfOne seat v x y Looks
 looks seat v x y same views h at = let h' : IsOfOne y views = λ j u e. subst (KnowsName u) same (h j u e) in (
   Some (name_of y.seen.of),
   set_knows y views seat (Some (name_of y.seen.of)) h' refl,
   (h' seat v at, refl),
 )
 
-pub forks : (seat : ℕ) (v : Option Name) → Forks IsOfOne seat v v v
+pub forks : (seat : ℕ) (v : Option WriterId) → Forks IsOfOne seat v v v
 forks seat v x views h at = snoc_knows x (set views seat v) v (set_knows x views seat v h (h seat v at)) (h seat v at)
 
-pub merges : (seat : ℕ) (v : Option Name) (other : ℕ) (w : Option Name) → Merges IsOfOne seat v other w w None
+pub merges : (seat : ℕ) (v : Option WriterId) (other : ℕ) (w : Option WriterId) → Merges IsOfOne seat v other w w None
 merges seat v other w x views h at apart there =
     let told : KnowsName w x.seen.of =
     ⊎_elim (λ (t : (other ≡ seat) × (w ≡ w)). absurd (apart t.0)) (λ (t : (other ≢ seat) × (get_elem? views other ≡ some w)). h other w t.1)
@@ -66,7 +66,7 @@ is_shown P Q (Ok a) new old front pending before e h = h.0 ∙ last_pending old 
 is_shown P Q (Err f) new old front pending before e h = tt
 
 -- and where it did, the publisher's seat knows the writer
-pub seat_shown : {A B : Type 0} (r : Result A B) (first v w : Option Name) (x y : FrontValue) (b : Book) → v ≡ first → y.seen.of ≡ b →
+pub seat_shown : {A B : Type 0} (r : Result A B) (first v w : Option WriterId) (x y : FrontValue) (b : Book) → v ≡ first → y.seen.of ≡ b →
     MatchResult r (λ _. Looks v x y w) (λ _. w ≡ v)
     → MatchResult r (λ _. w ≡ Some (name_of b)) (λ _. w ≡ first)
 seat_shown (Ok a) first v w x y b same of h = h.1 ∙ ap (λ k. Some (name_of k)) of

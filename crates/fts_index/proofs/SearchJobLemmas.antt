@@ -10,7 +10,7 @@ use Rattle.fts_parts.specs.Parts.{PartValue}
 use Rattle.fts_snapshots.specs.Entries.{EntryValue}
 use Rattle.fts_collect.specs.Searches.{IsPartOf}
 use Rattle.fts_index.specs.SearchJobs.{Asked, asks, asked_of, Tells, AnswersSearch}
-use Rattle.fts_index.specs.declared.searches.job.SearchJob.{SearchJob}
+use Rattle.fts_index.specs.declared.searches.search_job.SearchJob.{SearchJob}
 
 told_at : (query : QueryValue) (request : Request) (job : SearchJob) (answer : Result PartValue Refusal) (entry : EntryValue) (part : PartValue) →
     AnswersSearch job answer → asked_of job ≡ asks query request entry → answer ≡ Ok part → IsPartOf query request entry part

@@ -3,7 +3,7 @@ use Rattle.std.specs.Prelude.{◌≡◌, ℕ, ◌<◌, List, length, Result, sli
 use Rattle.fts_base.specs.declared.refusal.Refusal.{Refusal}
 use Rattle.fts_snapshots.specs.Entries.{EntryValue}
 use Rattle.fts_snapshots.specs.Jobs.{Answers}
-use Rattle.fts_snapshots.specs.declared.commits.jobs.CommitJob.{CommitJob}
+use Rattle.fts_snapshots.specs.declared.commits.commit_job.CommitJob.{CommitJob}
 
 -- there is one answer for each job, in their order
 pub record AreAnswers (jobs : List CommitJob) (results : List (Result EntryValue Refusal)) : Type 0 where

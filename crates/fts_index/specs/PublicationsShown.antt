@@ -9,28 +9,28 @@ use Rattle.left_right.specs.declared.part.Part.{Part}
 use Rattle.left_right.specs.declared.board.Doing.{Doing}
 use Rattle.left_right.specs.Sides.{view}
 use Rattle.fts_index.specs.Publications.{FrontValue}
-use Rattle.fts_index.specs.declared.publications.name.Name.{Name}
+use Rattle.fts_index.specs.declared.publications.writer_id.WriterId.{WriterId}
 
 -- which writer a place knows, once it was told
-abbrev pub told_name : {T : Type 0} → Seat (Option (Part T)) (Doing T (Option Name)) → Option Name
+abbrev pub told_name : {T : Type 0} → Seat (Option (Part T)) (Doing T (Option WriterId)) → Option WriterId
 told_name = view
 
-abbrev pub name_of : Book → Name
+abbrev pub name_of : Book → WriterId
 name_of b = record { number = b.number; log_name = b.log_name; cells_name = b.cells_name }
 
 -- a seat that was told no name knows nothing
-abbrev pub KnowsName : Option Name → Book → Type 0
+abbrev pub KnowsName : Option WriterId → Book → Type 0
 KnowsName None b = Unit {0}
 KnowsName (Some n) b = n ≡ name_of b
 
-abbrev pub IsOfOne : FrontValue → List (Option Name) → Type 0
-IsOfOne shown views = (seat : ℕ) (v : Option Name) → get_elem? views seat ≡ some v → KnowsName v shown.seen.of
+abbrev pub IsOfOne : FrontValue → List (Option WriterId) → Type 0
+IsOfOne shown views = (seat : ℕ) (v : Option WriterId) → get_elem? views seat ≡ some v → KnowsName v shown.seen.of
 
 -- a step: the seat knew nothing or this name, and knows it now
-abbrev pub Looks : Option Name → FrontValue → FrontValue → Option Name → Type 0
+abbrev pub Looks : Option WriterId → FrontValue → FrontValue → Option WriterId → Type 0
 Looks v x y w = KnowsName v y.seen.of × (w ≡ Some (name_of y.seen.of))
 
 -- what a look leaves: a seat that knew the writer knows it still, and the front that it found is of that writer
-pub record Finds (before after : Option Name) (found : Result (Option FrontValue) AllocError) : Type 0 where
+pub record Finds (before after : Option WriterId) (found : Result (Option FrontValue) AllocError) : Type 0 where
   pub keeps : (b : Book) → before ≡ Some (name_of b) → after ≡ Some (name_of b)
   pub of_one : (b : Book) → before ≡ Some (name_of b) → IfOk found (λ o. IfSome o (λ f. f.seen.of ≡ b))

@@ -7,7 +7,7 @@ use Rattle.fts_model.specs.QueryValues.{QueryValue, query_value}
 use Rattle.fts_parts.specs.Parts.{PartValue}
 use Rattle.fts_snapshots.specs.Entries.{EntryValue}
 use Rattle.fts_collect.specs.Searches.{IsPartOf}
-use Rattle.fts_index.specs.declared.searches.job.SearchJob.{SearchJob}
+use Rattle.fts_index.specs.declared.searches.search_job.SearchJob.{SearchJob}
 
 -- a query and a request, for a segment
 pub record Asked : Type 0 where

@@ -31,7 +31,7 @@
 //! ```
 #![tactic(auto)]
 
-mod commits;
+mod commit;
 pub mod publications;
 mod searches;
 mod writer;

@@ -24,11 +24,11 @@
 //! publisher.close(&rt);
 //! ```
 
-mod cells;
+mod left_right_rule;
 mod front;
-mod history;
+mod publication_log;
 pub mod laws;
-mod name;
+mod writer_id;
 mod publication;
 mod publisher;
 mod reader;

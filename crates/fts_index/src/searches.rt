@@ -7,15 +7,15 @@ ghost use Rattle.fts_model.specs.QueryValues.{query_value};
 ghost use Rattle.fts_collect.specs.Searches.{IsPartOf};
 ghost use Rattle.fts_index.specs.SearchJobs.{asks, asked_of};
 
-mod answer;
-mod job;
+mod found;
+mod search_job;
 
-pub use answer::Found;
+pub use found::Found;
 use fts_collect::Part;
 use fts_model::{Query, Refusal, Request};
 use fts_pool::{Gate, run_all};
 use fts_snapshots::EntryList;
-use job::SearchJob;
+use search_job::SearchJob;
 use std::alloc::{AllocError, Global};
 use std::sync::Wait;
 use std::thread::Threads;

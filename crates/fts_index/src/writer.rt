@@ -15,12 +15,12 @@ ghost use Rattle.fts_index.specs.Publications.{opening, schema_of, IsFront, IsOn
 ghost use Rattle.fts_index.specs.Writers.{IsRefusedFor, next_round, with_round, without_round, round_fault, is_of};
 ghost use Rattle.fts_index.specs.Writers.{batch_fault, stamp_behind, with_commit, with_merge, late_fault, with_end};
 
-use crate::commits::commit;
+use crate::commit::commit;
 use crate::publications::{CommitSeen, Publisher, Reader, Searcher};
 use fts_model::{Cut, Op, Refusal, Schema, Stamp, Stamped};
 use fts_pool::Gate;
 use fts_rounds::{Batch, Lane, Round, RoundLimits, open_round};
-use fts_snapshots::{MergeJob, Mergeable, MergedSegment, NUMBERS, SegmentInfo, Snapshot};
+use fts_snapshots::{MergeJob, Mergeable, MergedSegment, ID_LIMIT, SegmentInfo, Snapshot};
 use std::alloc::Global;
 use std::marker::Model;
 use std::sync::Wait;
@@ -161,7 +161,7 @@ impl Writer {
         }
         let first = self.publisher.commit_stamp() + 1;
         let stamps = lanes as u64 * cap as u64;
-        if self.rounds >= NUMBERS || first + stamps >= NUMBERS {
+        if self.rounds >= ID_LIMIT || first + stamps >= ID_LIMIT {
             return Err(Refusal::StampsUsedUp);
         }
         let round = open_round(alloc, self.rounds, first, lanes, cap)?;

@@ -8,8 +8,8 @@ use Rattle.std.proofs.lemmas.List.{append_assoc, append-nil, length-map}
 use Rattle.std.proofs.lemmas.List.Elements.{All-nil, All-cons, All-append}
 use Rattle.std.proofs.lemmas.List.Folds.{list_any-append}
 use Rattle.std.proofs.lemmas.List.Sums.{sum_by-cons, sum_by-append}
-use Rattle.fts_merge.specs.declared.policy.MergePolicy.{MergePolicy}
-use Rattle.fts_merge.specs.declared.policy.SegmentSize.{SegmentSize}
+use Rattle.fts_merge.specs.declared.merge_policy.MergePolicy.{MergePolicy}
+use Rattle.fts_merge.specs.declared.merge_policy.SegmentSize.{SegmentSize}
 use Rattle.fts_merge.specs.Levels.{is_mostly_dead, is_named, alone, together, live_sizes, candidates, candidates_by, usual}
 use Rattle.fts_merge.proofs.CandidatesLemmas.{named, once, pairs_apart, together-sum, together-within}
 use Rattle.fts_segment.proofs.SourceLemmas.{dropped}

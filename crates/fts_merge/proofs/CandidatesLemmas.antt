@@ -9,21 +9,21 @@ use Rattle.std.proofs.lemmas.List.Sums.{sum_by-cons, sum_by-append}
 use Rattle.std.proofs.lemmas.List.Elements.{All-nil, All-cons, All-append, All-head, All-tail, All-weaker, All-map, filter_passes}
 use Rattle.std.proofs.lemmas.List.Kept.{AllPairs-cons}
 use Rattle.std.proofs.lemmas.List.Sorted.{All-permutation, sum_by-IsPermutation}
-use Rattle.fts_merge.specs.declared.levels.Counted.{Counted}
-use Rattle.fts_merge.specs.declared.policy.MergePolicy.{MergePolicy}
+use Rattle.fts_merge.specs.declared.merge_plan.LevelSize.{LevelSize}
+use Rattle.fts_merge.specs.declared.merge_policy.MergePolicy.{MergePolicy}
 use Rattle.fts_merge.specs.Levels.{as_counted, considered, greatest_first, joins, levels_behind, levels_of, levels, large_enough, candidates, together, usual}
 use Rattle.fts_merge.proofs.LevelsLemmas.{considered_from, considered-cons}
 use Rattle.fts_merge.proofs.OrderLemmas.{IsPermutation-greatest_first}
 
 -- the members of all levels, one level behind the other
-abbrev joined : List (List Counted) → List Counted
+abbrev joined : List (List LevelSize) → List LevelSize
 joined ls = flat_map (λ level. level) ls
 
 abbrev pub named : List (List ℕ) → List ℕ
 named found = flat_map (λ candidate. candidate) found
 
 -- levels cut a list
-joined-behind : (first : ℕ) (level cs : List Counted) → joined (levels_behind first level cs) ≡ level ++ cs
+joined-behind : (first : ℕ) (level cs : List LevelSize) → joined (levels_behind first level cs) ≡ level ++ cs
 joined-behind first level [] = refl
 joined-behind first level (c ∷ cs) =
     elim (joins first c.size) as (λ b. joined (cond b (levels_behind first (level ++ c ∷ []) cs) (level ∷ levels_behind c.size (c ∷ []) cs)) ≡ level ++ c ∷ cs) [
@@ -31,7 +31,7 @@ joined-behind first level (c ∷ cs) =
       | false ↦ ap (λ ds. level ++ ds) (joined-behind c.size (c ∷ []) cs)
     ]
 
-joined-levels_of : (cs : List Counted) → joined (levels_of cs) ≡ cs
+joined-levels_of : (cs : List LevelSize) → joined (levels_of cs) ≡ cs
 joined-levels_of [] = refl
 joined-levels_of (c ∷ cs) = joined-behind c.size (c ∷ []) cs
 
@@ -40,22 +40,22 @@ abbrev pub once : ℕ → ℕ → ℕ
 once i n = cond (n == i) 1 0
 
 -- how often a size has this index
-abbrev once_of : ℕ → Counted → ℕ
+abbrev once_of : ℕ → LevelSize → ℕ
 once_of i c = once i c.index
 
 -- an index is considered once at most
-absent : (i : ℕ) (cs : List Counted) → All (λ c. i < c.index) cs → sum_by (once_of i) cs ≡ 0
+absent : (i : ℕ) (cs : List LevelSize) → All (λ c. i < c.index) cs → sum_by (once_of i) cs ≡ 0
 absent i [] above = refl
 absent i (c ∷ cs) above =
-    let here : i < c.index = All-head (λ (c : Counted). i < c.index) c cs above in
+    let here : i < c.index = All-head (λ (c : LevelSize). i < c.index) c cs above in
     let none : once_of i c ≡ 0 = grind (arith, nat_tests) in
-    omega (arith, none, absent i cs (All-tail (λ (c : Counted). i < c.index) c cs above), sum_by-cons (once_of i) c cs)
+    omega (arith, none, absent i cs (All-tail (λ (c : LevelSize). i < c.index) c cs above), sum_by-cons (once_of i) c cs)
 
 from_first : (p : MergePolicy) (n : ℕ) (sizes : List ℕ) → All (λ c. n ≤ c.index) (considered_from p n sizes)
-from_first p n [] = All-nil (λ (c : Counted). n ≤ c.index)
+from_first p n [] = All-nil (λ (c : LevelSize). n ≤ c.index)
 from_first p n (size ∷ sizes) =
-    let P : Counted → Type 0 = λ c. n ≤ c.index in
-    let rest = All-weaker (λ (c : Counted). n + 1 ≤ c.index) P (λ c h. omega (arith, h)) (considered_from p (n + 1) sizes) (from_first p (n + 1) sizes) in
+    let P : LevelSize → Type 0 = λ c. n ≤ c.index in
+    let rest = All-weaker (λ (c : LevelSize). n + 1 ≤ c.index) P (λ c h. omega (arith, h)) (considered_from p (n + 1) sizes) (from_first p (n + 1) sizes) in
     subst (All P) (sym (considered-cons p n size sizes))
     (elim (nat_le size p.most) as (λ b. All P (cond b (as_counted p.floor (n, size) ∷ considered_from p (n + 1) sizes) (considered_from p (n + 1) sizes))) [
       | true ↦ All-cons P (as_counted p.floor (n, size)) (considered_from p (n + 1) sizes) (omega arith) rest
@@ -67,13 +67,13 @@ considered_once p i n [] = omega arith
 considered_once p i n (size ∷ sizes) =
     let others = considered_from p (n + 1) sizes in
     let rest = considered_once p i (n + 1) sizes in
-    subst (λ (cs : List Counted). sum_by (once_of i) cs ≤ 1) (sym (considered-cons p n size sizes))
+    subst (λ (cs : List LevelSize). sum_by (once_of i) cs ≤ 1) (sym (considered-cons p n size sizes))
     (elim (nat_le size p.most) as (λ b. sum_by (once_of i) (cond b (as_counted p.floor (n, size) ∷ others) others) ≤ 1) [
       | true ↦ elim (n == i) as (λ b. (n == i) ≡ b → sum_by (once_of i) (as_counted p.floor (n, size) ∷ others) ≤ 1) [
         | true ↦ λ is.
             let same : n ≡ i = grind (arith, nat_tests) in
             let one : once_of i (as_counted p.floor (n, size)) ≡ 1 = ap (λ b. cond b 1 0) is in
-            let none = absent i others (All-weaker (λ (c : Counted). n + 1 ≤ c.index) (λ (c : Counted). i < c.index) (λ c h. omega (arith, h, same)) others
+            let none = absent i others (All-weaker (λ (c : LevelSize). n + 1 ≤ c.index) (λ (c : LevelSize). i < c.index) (λ c h. omega (arith, h, same)) others
             (from_first p (n + 1) sizes)) in
             omega (arith, one, none, sum_by-cons (once_of i) (as_counted p.floor (n, size)) others)
         | false ↦ λ is.
@@ -84,23 +84,23 @@ considered_once p i n (size ∷ sizes) =
     ])
 
 -- the indexes of a level
-abbrev indexes : List Counted → List ℕ
+abbrev indexes : List LevelSize → List ℕ
 indexes level = map (λ c. c.index) level
 
-sum-indexes : (i : ℕ) (level : List Counted) → sum_by (once i) (indexes level) ≡ sum_by (once_of i) level
+sum-indexes : (i : ℕ) (level : List LevelSize) → sum_by (once i) (indexes level) ≡ sum_by (once_of i) level
 sum-indexes i [] = refl
 sum-indexes i (c ∷ cs) = omega (arith, sum-indexes i cs, sum_by-cons (once i) c.index (indexes cs), sum_by-cons (once_of i) c cs)
 
 -- a level that is large enough, or isn't
-one_level : (m : ℕ) (level : List Counted) (more : List (List Counted)) →
+one_level : (m : ℕ) (level : List LevelSize) (more : List (List LevelSize)) →
     large_enough m (level ∷ more) ≡ cond (nat_le m (length level)) (indexes level ∷ large_enough m more) (large_enough m more)
 one_level m level more =
-    let is_large : List Counted → Bool = λ level. nat_le m (length level) in
+    let is_large : List LevelSize → Bool = λ level. nat_le m (length level) in
     elim (nat_le m (length level)) as (λ b. map indexes (cond b (level ∷ filter is_large more) (filter is_large more))
     ≡ cond b (indexes level ∷ large_enough m more) (large_enough m more)) [ true ↦ refl | false ↦ refl ]
 
 -- no more are named than stand in levels
-named-fewer : (m i : ℕ) (ls : List (List Counted)) → sum_by (once i) (named (large_enough m ls)) ≤ sum_by (once_of i) (joined ls)
+named-fewer : (m i : ℕ) (ls : List (List LevelSize)) → sum_by (once i) (named (large_enough m ls)) ≤ sum_by (once_of i) (joined ls)
 named-fewer m i [] = omega arith
 named-fewer m i (level ∷ ls) =
     let rest = named-fewer m i ls in
@@ -122,14 +122,14 @@ All-back P [] ys ps = ps
 All-back P (x ∷ xs) ys ps = All-back P xs ys (All-tail P x (xs ++ ys) ps)
 
 -- what holds of the indexes of all holds of those named
-All-named : (m : ℕ) (P : ℕ → Type 0) (ls : List (List Counted)) → All (λ c. P c.index) (joined ls) → All P (named (large_enough m ls))
+All-named : (m : ℕ) (P : ℕ → Type 0) (ls : List (List LevelSize)) → All (λ c. P c.index) (joined ls) → All P (named (large_enough m ls))
 All-named m P [] ps = All-nil P
 All-named m P (level ∷ ls) ps =
-    let Q : Counted → Type 0 = λ c. P c.index in
+    let Q : LevelSize → Type 0 = λ c. P c.index in
     let rest = All-named m P ls (All-back Q level (joined ls) ps) in
     subst (λ (found : List (List ℕ)). All P (named found)) (sym (one_level m level ls))
     (elim (nat_le m (length level)) as (λ b. All P (named (cond b (indexes level ∷ large_enough m ls) (large_enough m ls)))) [
-      | true ↦ All-append P (indexes level) (named (large_enough m ls)) (All-map P (λ (c : Counted). c.index) level (All-front Q level (joined ls) ps)) rest
+      | true ↦ All-append P (indexes level) (named (large_enough m ls)) (All-map P (λ (c : LevelSize). c.index) level (All-front Q level (joined ls) ps)) rest
       | false ↦ rest
     ])
 
@@ -150,16 +150,16 @@ pairs_apart (n ∷ ns) h =
 
 pub together-many : (p : MergePolicy) (sizes : List ℕ) → All (λ candidate. p.members ≤ length candidate) (together p sizes)
 together-many p sizes =
-    let is_large : List Counted → Bool = λ level. nat_le p.members (length level) in
+    let is_large : List LevelSize → Bool = λ level. nat_le p.members (length level) in
     All-map (λ (candidate : List ℕ). p.members ≤ length candidate) indexes (filter is_large (levels p sizes))
     (All-weaker (λ level. is_large level ≡ true) (λ level. p.members ≤ length (indexes level))
-    (λ level h. omega (arith, leb-true p.members (length level) h, length-map level (λ (c : Counted). c.index)))
+    (λ level h. omega (arith, leb-true p.members (length level) h, length-map level (λ (c : LevelSize). c.index)))
     (filter is_large (levels p sizes)) (filter_passes is_large (levels p sizes)))
 
 considered_below : (p : MergePolicy) (n end : ℕ) (sizes : List ℕ) → n + length sizes ≤ end → All (λ c. c.index < end) (considered_from p n sizes)
-considered_below p n end [] e = All-nil (λ (c : Counted). c.index < end)
+considered_below p n end [] e = All-nil (λ (c : LevelSize). c.index < end)
 considered_below p n end (size ∷ sizes) e =
-    let P : Counted → Type 0 = λ c. c.index < end in
+    let P : LevelSize → Type 0 = λ c. c.index < end in
     let rest = considered_below p (n + 1) end sizes (omega (arith, e)) in
     subst (All P) (sym (considered-cons p n size sizes))
     (elim (nat_le size p.most) as (λ b. All P (cond b (as_counted p.floor (n, size) ∷ considered_from p (n + 1) sizes) (considered_from p (n + 1) sizes))) [
@@ -170,7 +170,7 @@ considered_below p n end (size ∷ sizes) e =
 pub together-within : (p : MergePolicy) (sizes : List ℕ) → All (λ index. index < length sizes) (named (together p sizes))
 together-within p sizes =
     let cs = considered p sizes in
-    let P : Counted → Type 0 = λ c. c.index < length sizes in
+    let P : LevelSize → Type 0 = λ c. c.index < length sizes in
     let all = All-permutation P cs (greatest_first cs) (IsPermutation-greatest_first cs) (considered_below p 0 (length sizes) sizes (omega arith)) in
     All-named p.members (λ index. index < length sizes) (levels p sizes) (subst (All P) (sym (joined-levels_of (greatest_first cs))) all)
 

@@ -20,7 +20,7 @@ use Rattle.fts_model.specs.Documents.{DocumentValue}
 use Rattle.fts_model.specs.Operations.{has}
 use Rattle.fts_segment.specs.Segments.{SegmentValue, numbers_where, postings}
 use Rattle.fts_merge.specs.Strikes.{bits_where}
-use Rattle.fts_merge.specs.declared.matches.Found.{Found}
+use Rattle.fts_merge.specs.declared.term_delete.TermDelete.{TermDelete}
 use Rattle.fts_merge.specs.Internals.Deletes.{strikes_by_term, survives_terms, strikes_found, survives_found, StrikeAlike}
 use Rattle.fts_merge.proofs.BitsLemmas.{not_or, bits_where-again, bits_where-same, bits_where-all}
 use Rattle.fts_segment.proofs.HoldingLemmas.{numbers_where-cons}
@@ -52,19 +52,19 @@ struck-none segment stamp term none =
     λ k d h. ap (λ b. nat_lt (get_or segment.documents k d).stamp stamp && b) (lacks k d h) ∙ and-false (nat_lt (get_or segment.documents k d).stamp stamp)
 
 -- one more operation, which is a delete that was looked up
-pub alike-push : (schema : List Field) (ds : List (Stamped DocumentValue)) (deletes : List Found) (ops : List (Stamped Op)) (op : Stamped Op) (delete : Found) →
+pub alike-push : (schema : List Field) (ds : List (Stamped DocumentValue)) (deletes : List TermDelete) (ops : List (Stamped Op)) (op : Stamped Op) (delete : TermDelete) →
     ((d : Stamped DocumentValue) → strikes_found schema delete d ≡ strikes_by_term schema op.stamp op.value d) →
     StrikeAlike schema deletes ops ds → StrikeAlike schema (deletes ++ delete ∷ []) (ops ++ op ∷ []) ds
 alike-push schema ds deletes ops op delete same alike = λ k x lt.
     let d = get_or ds k x in
-    let f : Found → Bool = λ found. strikes_found schema found d in
+    let f : TermDelete → Bool = λ found. strikes_found schema found d in
     let t : Stamped Op → Bool = λ o. strikes_by_term schema o.stamp o.value d in
     list_any-append f deletes (delete ∷ [])
     ∙ ap₂ (λ a b. a || b) (alike k x lt) (ap (λ b. b || false) (same d))
     ∙ sym (list_any-append t ops (op ∷ []))
 
 -- one more operation, which strikes nothing by a term
-pub alike-none : (schema : List Field) (ds : List (Stamped DocumentValue)) (deletes : List Found) (ops : List (Stamped Op)) (op : Stamped Op) →
+pub alike-none : (schema : List Field) (ds : List (Stamped DocumentValue)) (deletes : List TermDelete) (ops : List (Stamped Op)) (op : Stamped Op) →
     All (λ d. strikes_by_term schema op.stamp op.value d ≡ false) ds → StrikeAlike schema deletes ops ds → StrikeAlike schema deletes (ops ++ op ∷ []) ds
 alike-none schema ds deletes ops op none alike = λ k x lt.
     let d = get_or ds k x in
@@ -75,12 +75,12 @@ alike-none schema ds deletes ops op none alike = λ k x lt.
     ∙ sym (list_any-append t ops (op ∷ []))
 
 -- in any order, deletes that strike alike leave the same bits
-pub bits_where-alike : (schema : List Field) (ds : List (Stamped DocumentValue)) (bits : List Bool) (deletes sorted : List Found) (ops : List (Stamped Op)) →
+pub bits_where-alike : (schema : List Field) (ds : List (Stamped DocumentValue)) (bits : List Bool) (deletes sorted : List TermDelete) (ops : List (Stamped Op)) →
     IsPermutation deletes sorted → StrikeAlike schema deletes ops ds →
     bits_where (survives_found schema sorted) ds bits ≡ bits_where (survives_terms schema ops) ds bits
 bits_where-alike schema ds bits deletes sorted ops moved alike =
     bits_where-agree (survives_found schema sorted) (survives_terms schema ops) ds bits
-    (λ k x lt. let f : Found → Bool = λ found. strikes_found schema found (get_or ds k x) in
+    (λ k x lt. let f : TermDelete → Bool = λ found. strikes_found schema found (get_or ds k x) in
     ap not (sym (list_any-IsPermutation f deletes sorted moved) ∙ alike k x lt))
 
 -- no delete leaves all bits
@@ -89,7 +89,7 @@ pub survives_found-none : (schema : List Field) (ds : List (Stamped DocumentValu
 survives_found-none schema ds bits e = bits_where-all (survives_found schema []) (λ d. refl) ds bits e
 
 -- one more delete
-pub survives_found-more : (schema : List Field) (ds : List (Stamped DocumentValue)) (bits : List Bool) (deletes : List Found) (i : ℕ) (delete : Found) →
+pub survives_found-more : (schema : List Field) (ds : List (Stamped DocumentValue)) (bits : List Bool) (deletes : List TermDelete) (i : ℕ) (delete : TermDelete) →
     i < length deletes → delete ≡ get_or deletes i delete →
     bits_where (λ d. not (strikes_found schema delete d)) ds (bits_where (survives_found schema (take i deletes)) ds bits)
     ≡ bits_where (survives_found schema (take (i + 1) deletes)) ds bits
@@ -98,7 +98,7 @@ survives_found-more schema ds bits deletes i delete h e =
     let q : Stamped DocumentValue → Bool = λ d. not (strikes_found schema delete d) in
     bits_where-again p q ds bits
     ∙ bits_where-same (λ d. p d && q d) (survives_found schema (take (i + 1) deletes))
-    (λ d. let f : Found → Bool = λ found. strikes_found schema found d in
+    (λ d. let f : TermDelete → Bool = λ found. strikes_found schema found d in
     sym (not_or (list_any f (take i deletes)) (f delete))
     ∙ ap not (ap (λ b. list_any f (take i deletes) || b) (ap f e) ∙ sym (list_any_more f deletes i delete h)))
     ds bits
@@ -109,13 +109,13 @@ absorbed false true h = sym (h refl)
 absorbed false false h = refl
 
 -- one more delete, which strikes nothing that the one before it doesn't strike
-pub survives_found-covered : (schema : List Field) (d : Stamped DocumentValue) (deletes : List Found) (i : ℕ) (before delete : Found) → 0 < i →
+pub survives_found-covered : (schema : List Field) (d : Stamped DocumentValue) (deletes : List TermDelete) (i : ℕ) (before delete : TermDelete) → 0 < i →
     i < length deletes →
     before ≡ get_or deletes (i - 1) before → delete ≡ get_or deletes i delete →
     (strikes_found schema delete d ≡ true → strikes_found schema before d ≡ true) →
     survives_found schema (take i deletes) d ≡ survives_found schema (take (i + 1) deletes) d
 survives_found-covered schema d deletes i before delete positive h b e covers =
-    let f : Found → Bool = λ found. strikes_found schema found d in
+    let f : TermDelete → Bool = λ found. strikes_found schema found d in
     let taken : before ≡ get_or (take i deletes) (i - 1) before = b ∙ sym (get_or-take i deletes (i - 1) before (omega (arith, positive))) in
     let within : i - 1 < length (take i deletes) = omega (arith, positive, h, length-take-le i deletes (omega (arith, h))) in
     ap not (sym (absorbed (list_any f (take i deletes)) (f delete) (λ struck. list_any_at f (take i deletes) (i - 1) before within
@@ -127,7 +127,7 @@ below_later : (n a b : ℕ) → a ≤ b → nat_lt n a ≡ true → nat_lt n b �
 below_later n a b h e = grind (arith, nat_tests)
 
 -- a later delete of the same term strikes no less
-pub later-strikes : (schema : List Field) (d : Stamped DocumentValue) (delete other : Found) → other.stamp ≤ delete.stamp → delete.term.now ≡ other.term.now →
+pub later-strikes : (schema : List Field) (d : Stamped DocumentValue) (delete other : TermDelete) → other.stamp ≤ delete.stamp → delete.term.now ≡ other.term.now →
     strikes_found schema other d ≡ true → strikes_found schema delete d ≡ true
 later-strikes schema d delete other later same struck =
     let parts = and_parts (nat_lt d.stamp other.stamp) (has schema d.value other.term.now) struck in

@@ -6,14 +6,14 @@ use Rattle.std.proofs.Math.Nat.{pow-le-pow_left}
 use Rattle.std.proofs.lemmas.Bool.Decides.{nat_tests}
 use Rattle.std.proofs.lemmas.List.{append_assoc, get_or-drop, length-drop, take_more}
 use Rattle.std.proofs.lemmas.List.Elements.{All-nil, All-cons}
-use Rattle.fts_merge.specs.declared.levels.Counted.{Counted}
-use Rattle.fts_merge.specs.declared.policy.MergePolicy.{MergePolicy}
+use Rattle.fts_merge.specs.declared.merge_plan.LevelSize.{LevelSize}
+use Rattle.fts_merge.specs.declared.merge_policy.MergePolicy.{MergePolicy}
 use Rattle.fts_model.specs.Limits.{most_merged}
 use Rattle.fts_merge.specs.Levels.{as_counted, joins, levels_behind, large_enough}
 use Rattle.fts_segment.proofs.SourceLemmas.{dropped}
 
 -- sizes as they count, of which the first has the index n
-abbrev pub considered_from : MergePolicy → ℕ → List ℕ → List Counted
+abbrev pub considered_from : MergePolicy → ℕ → List ℕ → List LevelSize
 considered_from p n sizes = map (as_counted p.floor) (filter (λ s. nat_le s.1 p.most) (enumerate_from n sizes))
 
 pub considered-cons : (p : MergePolicy) (n size : ℕ) (sizes : List ℕ) →
@@ -25,7 +25,7 @@ considered-cons p n size sizes =
     ≡ cond b (as_counted p.floor (n, size) ∷ considered_from p (n + 1) sizes) (considered_from p (n + 1) sizes)) [ true ↦ refl | false ↦ refl ]
 
 -- a size is considered
-pub considered-more : (p : MergePolicy) (done all : List Counted) (sizes : List ℕ) (i size : ℕ) → i < length sizes → size ≡ get_or sizes i size →
+pub considered-more : (p : MergePolicy) (done all : List LevelSize) (sizes : List ℕ) (i size : ℕ) → i < length sizes → size ≡ get_or sizes i size →
     size ≤ p.most →
     done ++ considered_from p i (drop i sizes) ≡ all → (done ++ as_counted p.floor (i, size) ∷ []) ++ considered_from p (i + 1) (drop (i + 1) sizes) ≡ all
 considered-more p done all sizes i size h e small old =
@@ -36,7 +36,7 @@ considered-more p done all sizes i size h e small old =
     ∙ ap (λ b. cond b (as_counted p.floor (i, size) ∷ rest) rest) is)) ∙ old
 
 -- a size is too great
-pub considered-less : (p : MergePolicy) (done all : List Counted) (sizes : List ℕ) (i size : ℕ) → i < length sizes → size ≡ get_or sizes i size →
+pub considered-less : (p : MergePolicy) (done all : List LevelSize) (sizes : List ℕ) (i size : ℕ) → i < length sizes → size ≡ get_or sizes i size →
     p.most < size →
     done ++ considered_from p i (drop i sizes) ≡ all → done ++ considered_from p (i + 1) (drop (i + 1) sizes) ≡ all
 considered-less p done all sizes i size h e great old =
@@ -48,9 +48,9 @@ considered-less p done all sizes i size h e great old =
 -- sizes as they count are within the greatest
 pub considered-within : (p : MergePolicy) (n : ℕ) (sizes : List ℕ) → p.floor ≤ most_merged → p.most ≤ most_merged →
     All (λ c. c.size ≤ most_merged) (considered_from p n sizes)
-considered-within p n [] f m = All-nil (λ (c : Counted). c.size ≤ most_merged)
+considered-within p n [] f m = All-nil (λ (c : LevelSize). c.size ≤ most_merged)
 considered-within p n (size ∷ sizes) f m =
-    let P : Counted → Type 0 = λ c. c.size ≤ most_merged in
+    let P : LevelSize → Type 0 = λ c. c.size ≤ most_merged in
     let rest = considered-within p (n + 1) sizes f m in
     subst (All P) (sym (considered-cons p n size sizes))
     (elim (nat_le size p.most) as (λ b. nat_le size p.most ≡ b → All P (cond b (as_counted p.floor (n, size) ∷ considered_from p (n + 1) sizes)
@@ -64,16 +64,16 @@ pub fourth_power-bound : (size : ℕ) → size ≤ most_merged → size ^ 4 ≤ 
 fourth_power-bound size h = pow-le-pow_left h 4
 
 -- levels that are large enough, the first apart
-pub large_enough-cons : (m : ℕ) (level : List Counted) (more : List (List Counted)) → large_enough m (level ∷ more) ≡ large_enough m (level ∷ [])
+pub large_enough-cons : (m : ℕ) (level : List LevelSize) (more : List (List LevelSize)) → large_enough m (level ∷ more) ≡ large_enough m (level ∷ [])
     ++ large_enough m more
 large_enough-cons m level more =
-    let is_large : List Counted → Bool = λ level. nat_le m (length level) in
-    let told : List (List Counted) → List (List ℕ) = map (λ level. map (λ c. c.index) level) in
+    let is_large : List LevelSize → Bool = λ level. nat_le m (length level) in
+    let told : List (List LevelSize) → List (List ℕ) = map (λ level. map (λ c. c.index) level) in
     elim (nat_le m (length level)) as (λ b. told (cond b (level ∷ filter is_large more) (filter is_large more)) ≡ told (cond b (level ∷ []) []) ++ large_enough
     m more) [ true ↦ refl | false ↦ refl ]
 
 -- a stretch with one member more
-stretch_more : (cs : List Counted) (start place : ℕ) (c : Counted) → start < place → place < length cs → c ≡ get_or cs place c →
+stretch_more : (cs : List LevelSize) (start place : ℕ) (c : LevelSize) → start < place → place < length cs → c ≡ get_or cs place c →
     slice_range cs start (place + 1) ≡ slice_range cs start place ++ c ∷ []
 stretch_more cs start place c begun within is =
     let n = place - start in
@@ -84,13 +84,13 @@ stretch_more cs start place c begun within is =
     ∙ ap (λ d. take n (drop start cs) ++ d ∷ []) at
 
 -- a stretch of one member
-stretch_of_one : (cs : List Counted) (place : ℕ) (c : Counted) → place < length cs → c ≡ get_or cs place c → slice_range cs place (place + 1) ≡ c ∷ []
+stretch_of_one : (cs : List LevelSize) (place : ℕ) (c : LevelSize) → place < length cs → c ≡ get_or cs place c → slice_range cs place (place + 1) ≡ c ∷ []
 stretch_of_one cs place c within is =
     let one : place + 1 - place ≡ 1 = omega arith in
     ap (λ k. take k (drop place cs)) one ∙ ap (take 1) (dropped cs place c within is)
 
 -- a size joins the level
-pub level_joined : (m : ℕ) (found all : List (List ℕ)) (cs : List Counted) (start place first : ℕ) (c : Counted) → start < place → place < length cs →
+pub level_joined : (m : ℕ) (found all : List (List ℕ)) (cs : List LevelSize) (start place first : ℕ) (c : LevelSize) → start < place → place < length cs →
     c ≡ get_or cs place c → joins first c.size ≡ true →
     found ++ large_enough m (levels_behind first (slice_range cs start place) (drop place cs)) ≡ all →
     found ++ large_enough m (levels_behind first (slice_range cs start (place + 1)) (drop (place + 1) cs)) ≡ all
@@ -104,7 +104,7 @@ level_joined m found all cs start place first c begun within is joined old =
     ap (λ ls. found ++ large_enough m ls) (sym step) ∙ old
 
 -- a size opens another level
-pub level_opened : (m : ℕ) (found more all : List (List ℕ)) (cs : List Counted) (start place first : ℕ) (c : Counted) → place < length cs →
+pub level_opened : (m : ℕ) (found more all : List (List ℕ)) (cs : List LevelSize) (start place first : ℕ) (c : LevelSize) → place < length cs →
     c ≡ get_or cs place c → joins first c.size ≡ false →
     more ≡ found ++ large_enough m (slice_range cs start place ∷ []) →
     found ++ large_enough m (levels_behind first (slice_range cs start place) (drop place cs)) ≡ all →

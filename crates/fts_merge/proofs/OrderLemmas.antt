@@ -8,7 +8,7 @@ use Rattle.std.proofs.lemmas.Bool.Decides.{nat_tests}
 use Rattle.std.proofs.lemmas.List.Sums.{sum_by-cons}
 use Rattle.std.proofs.lemmas.List.Elements.{All-nil, All-cons, All-head, All-tail, All-weaker}
 use Rattle.std.proofs.lemmas.List.Sorted.{IsPermutation-refl, IsPermutation-cons, IsPermutation-trans, IsPermutation-middle, sum_by-IsPermutation}
-use Rattle.fts_merge.specs.declared.levels.Counted.{Counted}
+use Rattle.fts_merge.specs.declared.merge_plan.LevelSize.{LevelSize}
 use Rattle.fts_merge.specs.Levels.{comes_first, placed, greatest_first}
 
 -- by numbers: a size with its index comes before another
@@ -35,18 +35,18 @@ pub comes_as_pairs : (s i t j : ℕ) → is_lt (ordering_then (nat_cmp t s) (nat
 comes_as_pairs s i t j = grind (arith, nat_tests)
 
 -- a size doesn't come after another
-abbrev NotAfter : Counted → Counted → Type 0
+abbrev NotAfter : LevelSize → LevelSize → Type 0
 NotAfter c d = comes_first d c ≡ false
 
 -- sizes in order
-abbrev pub IsOrdered : List Counted → Type 0
+abbrev pub IsOrdered : List LevelSize → Type 0
 IsOrdered [] = Unit {0}
 IsOrdered (c ∷ cs) = All (NotAfter c) cs × IsOrdered cs
 
-chained : (c d : Counted) (cs : List Counted) → NotAfter c d → All (NotAfter d) cs → All (NotAfter c) cs
+chained : (c d : LevelSize) (cs : List LevelSize) → NotAfter c d → All (NotAfter d) cs → All (NotAfter c) cs
 chained c d cs first behind = All-weaker (NotAfter d) (NotAfter c) (λ e h. comes_chain c.size c.index d.size d.index e.size e.index first h) cs behind
 
-All-placed : (P : Counted → Type 0) (c : Counted) (ds : List Counted) → P c → All P ds → All P (placed c ds)
+All-placed : (P : LevelSize → Type 0) (c : LevelSize) (ds : List LevelSize) → P c → All P ds → All P (placed c ds)
 All-placed P c [] p ps = All-cons P c [] p ps
 All-placed P c (d ∷ ds) p ps =
     elim (comes_first c d) as (λ b. All P (cond b (c ∷ d ∷ ds) (d ∷ placed c ds))) [
@@ -54,7 +54,7 @@ All-placed P c (d ∷ ds) p ps =
       | false ↦ All-cons P d (placed c ds) (All-head P d ds ps) (All-placed P c ds p (All-tail P d ds ps))
     ]
 
-IsOrdered-placed : (c : Counted) (ds : List Counted) → IsOrdered ds → IsOrdered (placed c ds)
+IsOrdered-placed : (c : LevelSize) (ds : List LevelSize) → IsOrdered ds → IsOrdered (placed c ds)
 IsOrdered-placed c [] o = (All-nil (NotAfter c), tt)
 IsOrdered-placed c (d ∷ ds) o =
     elim (comes_first c d) as (λ b. comes_first c d ≡ b → IsOrdered (cond b (c ∷ d ∷ ds) (d ∷ placed c ds))) [
@@ -63,11 +63,11 @@ IsOrdered-placed c (d ∷ ds) o =
       | false ↦ λ is. (All-placed (NotAfter d) c ds is o.0, IsOrdered-placed c ds o.1)
     ] refl
 
-IsOrdered-greatest_first : (cs : List Counted) → IsOrdered (greatest_first cs)
+IsOrdered-greatest_first : (cs : List LevelSize) → IsOrdered (greatest_first cs)
 IsOrdered-greatest_first [] = tt
 IsOrdered-greatest_first (c ∷ cs) = IsOrdered-placed c (greatest_first cs) (IsOrdered-greatest_first cs)
 
-IsPermutation-placed : (c : Counted) (ds : List Counted) → IsPermutation (c ∷ ds) (placed c ds)
+IsPermutation-placed : (c : LevelSize) (ds : List LevelSize) → IsPermutation (c ∷ ds) (placed c ds)
 IsPermutation-placed c [] = IsPermutation-refl (c ∷ [])
 IsPermutation-placed c (d ∷ ds) =
     elim (comes_first c d) as (λ b. IsPermutation (c ∷ d ∷ ds) (cond b (c ∷ d ∷ ds) (d ∷ placed c ds))) [
@@ -77,31 +77,31 @@ IsPermutation-placed c (d ∷ ds) =
     ]
 
 -- the order moves sizes only
-pub IsPermutation-greatest_first : (cs : List Counted) → IsPermutation cs (greatest_first cs)
+pub IsPermutation-greatest_first : (cs : List LevelSize) → IsPermutation cs (greatest_first cs)
 IsPermutation-greatest_first [] = IsPermutation-refl []
 IsPermutation-greatest_first (c ∷ cs) =
     IsPermutation-trans (c ∷ cs) (c ∷ greatest_first cs) (placed c (greatest_first cs))
     (IsPermutation-cons c cs (greatest_first cs) (IsPermutation-greatest_first cs)) (IsPermutation-placed c (greatest_first cs))
 
 -- two are the same
-abbrev is_same : Counted → Counted → Bool
+abbrev is_same : LevelSize → LevelSize → Bool
 is_same c d = c.size == d.size && c.index == d.index
 
-same_itself : (c : Counted) → is_same c c ≡ true
+same_itself : (c : LevelSize) → is_same c c ≡ true
 same_itself c = grind (arith, nat_tests)
 
-same_from : (c d : Counted) → c.size ≡ d.size → c.index ≡ d.index → c ≡ d
-same_from c d s i = ap₂ (λ (a b : ℕ). let e : Counted = record { size = a; index = b } in e) s i
+same_from : (c d : LevelSize) → c.size ≡ d.size → c.index ≡ d.index → c ≡ d
+same_from c d s i = ap₂ (λ (a b : ℕ). let e : LevelSize = record { size = a; index = b } in e) s i
 
-same_is : (c d : Counted) → is_same c d ≡ true → c ≡ d
+same_is : (c d : LevelSize) → is_same c d ≡ true → c ≡ d
 same_is c d h = same_from c d (grind (arith, nat_tests)) (grind (arith, nat_tests))
 
 -- how often a size is among these: once, or not
-abbrev once : Counted → Counted → ℕ
+abbrev once : LevelSize → LevelSize → ℕ
 once c d = cond (is_same c d) 1 0
 
 -- what holds of all holds of one that is among them
-occurs : (P : Counted → Type 0) (c : Counted) (ds : List Counted) → All P ds → 1 ≤ sum_by (once c) ds → P c
+occurs : (P : LevelSize → Type 0) (c : LevelSize) (ds : List LevelSize) → All P ds → 1 ≤ sum_by (once c) ds → P c
 occurs P c [] ps more = absurd (omega (arith, more))
 occurs P c (d ∷ ds) ps more =
     elim (is_same c d) as (λ b. is_same c d ≡ b → P c) [
@@ -111,7 +111,7 @@ occurs P c (d ∷ ds) ps more =
     ] refl
 
 -- lists in order that have the same members as often are one
-one_order : (cs ds : List Counted) → IsOrdered cs → IsOrdered ds → ((e : Counted) → sum_by (once e) cs ≡ sum_by (once e) ds) → cs ≡ ds
+one_order : (cs ds : List LevelSize) → IsOrdered cs → IsOrdered ds → ((e : LevelSize) → sum_by (once e) cs ≡ sum_by (once e) ds) → cs ≡ ds
 one_order [] [] o p same = refl
 one_order [] (d ∷ ds) o p same =
     let one : once d d ≡ 1 = ap (λ b. cond b 1 0) (same_itself d) in
@@ -131,7 +131,7 @@ one_order (c ∷ cs) (d ∷ ds) o p same =
     ap₂ (λ x xs. x ∷ xs) is rest
 
 -- neighbours in order
-ordered_from : (cs : List Counted) → ((k : ℕ) (d : Counted) → k + 1 < length cs → NotAfter (get_or cs k d) (get_or cs (k + 1) d)) → IsOrdered cs
+ordered_from : (cs : List LevelSize) → ((k : ℕ) (d : LevelSize) → k + 1 < length cs → NotAfter (get_or cs k d) (get_or cs (k + 1) d)) → IsOrdered cs
 ordered_from [] h = tt
 ordered_from (c ∷ []) h = (All-nil (NotAfter c), tt)
 ordered_from (c ∷ d ∷ cs) h =
@@ -143,8 +143,8 @@ ordered_from (c ∷ d ∷ cs) h =
     (All-cons (NotAfter c) d cs first (chained c d cs first rest.0), rest)
 
 -- a list of the same sizes whose neighbours are in order is their order
-pub greatest_first-is : (cs ds : List Counted) → IsPermutation cs ds →
-    ((k : ℕ) (d : Counted) → k + 1 < length ds → comes_first (get_or ds (k + 1) d) (get_or ds k d) ≡ false) → ds ≡ greatest_first cs
+pub greatest_first-is : (cs ds : List LevelSize) → IsPermutation cs ds →
+    ((k : ℕ) (d : LevelSize) → k + 1 < length ds → comes_first (get_or ds (k + 1) d) (get_or ds k d) ≡ false) → ds ≡ greatest_first cs
 greatest_first-is cs ds moved sorted =
     one_order ds (greatest_first cs) (ordered_from ds sorted) (IsOrdered-greatest_first cs)
     (λ e. sum_by-IsPermutation (once e) cs ds moved ∙ sym (sum_by-IsPermutation (once e) cs (greatest_first cs) (IsPermutation-greatest_first cs)))

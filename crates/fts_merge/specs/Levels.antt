@@ -4,33 +4,33 @@ use Rattle.std.specs.Prelude.{ℕ, ◌-◌, ◌*◌, ◌^◌, ◌==◌, ◌&&◌
 use Rattle.std.specs.Prelude.{◌++◌}
 use Rattle.std.specs.Prelude.{length, map, filter, if◌then◌else◌}
 use Rattle.std.specs.List.{enumerate_from, list_any}
-use Rattle.fts_merge.specs.declared.levels.Counted.{Counted}
-use Rattle.fts_merge.specs.declared.policy.MergePolicy.{MergePolicy}
-use Rattle.fts_merge.specs.declared.policy.SegmentSize.{SegmentSize}
+use Rattle.fts_merge.specs.declared.merge_plan.LevelSize.{LevelSize}
+use Rattle.fts_merge.specs.declared.merge_policy.MergePolicy.{MergePolicy}
+use Rattle.fts_merge.specs.declared.merge_policy.SegmentSize.{SegmentSize}
 
 -- the policy of an index: no segment is merged by itself
 abbrev pub usual : MergePolicy
 usual = record { floor = 10000; members = 8; most = 1000000; dead = 100 }
 
 -- a size as it counts, after its index: one below the floor counts as the floor
-abbrev pub as_counted : ℕ → ℕ × ℕ → Counted
+abbrev pub as_counted : ℕ → ℕ × ℕ → LevelSize
 as_counted floor (index, size) = record { size = max size floor; index = index }
 
 -- the sizes as they count, without those over the greatest that is merged
-abbrev pub considered : MergePolicy → List ℕ → List Counted
+abbrev pub considered : MergePolicy → List ℕ → List LevelSize
 considered policy sizes = map (as_counted policy.floor) (filter (λ s. nat_le s.1 policy.most) (enumerate_from 0 sizes))
 
 -- a size is greater, or equal and of a smaller index
-abbrev pub comes_first : Counted → Counted → Bool
+abbrev pub comes_first : LevelSize → LevelSize → Bool
 comes_first a b = nat_lt b.size a.size || a.size == b.size && nat_lt a.index b.index
 
 -- a size put among others, before the first that it comes before
-abbrev pub placed : Counted → List Counted → List Counted
+abbrev pub placed : LevelSize → List LevelSize → List LevelSize
 placed c [] = c ∷ []
 placed c (d ∷ ds) = if comes_first c d then c ∷ d ∷ ds else d ∷ placed c ds
 
 -- sizes in order: the greatest first, equal ones by their indexes
-abbrev pub greatest_first : List Counted → List Counted
+abbrev pub greatest_first : List LevelSize → List LevelSize
 greatest_first [] = []
 greatest_first (c ∷ cs) = placed c (greatest_first cs)
 
@@ -39,22 +39,22 @@ abbrev pub joins : ℕ → ℕ → Bool
 joins first size = nat_le (first ^ 4) (8 * size ^ 4)
 
 -- the levels of sizes in order, where some are in the level that `first` opened
-abbrev pub levels_behind : ℕ → List Counted → List Counted → List (List Counted)
+abbrev pub levels_behind : ℕ → List LevelSize → List LevelSize → List (List LevelSize)
 levels_behind first level [] = level ∷ []
 levels_behind first level (c ∷ cs) =
     if joins first c.size then levels_behind first (level ++ c ∷ []) cs else level ∷ levels_behind c.size (c ∷ []) cs
 
 -- the levels of sizes in order: the first size opens one, and each that doesn't join opens another
-abbrev pub levels_of : List Counted → List (List Counted)
+abbrev pub levels_of : List LevelSize → List (List LevelSize)
 levels_of [] = []
 levels_of (c ∷ cs) = levels_behind c.size (c ∷ []) cs
 
 -- the levels of sizes, those of the greatest first
-abbrev pub levels : MergePolicy → List ℕ → List (List Counted)
+abbrev pub levels : MergePolicy → List ℕ → List (List LevelSize)
 levels policy sizes = levels_of (greatest_first (considered policy sizes))
 
 -- the indexes of the levels of enough members
-abbrev pub large_enough : ℕ → List (List Counted) → List (List ℕ)
+abbrev pub large_enough : ℕ → List (List LevelSize) → List (List ℕ)
 large_enough members levels =
     map (λ level. map (λ c. c.index) level) (filter (λ level. nat_le members (length level)) levels)
 

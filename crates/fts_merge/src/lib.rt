@@ -16,19 +16,19 @@
 //! ```
 #![tactic(auto)]
 
-mod deletes;
+mod live_strike;
 pub mod laws;
-mod levels;
-mod matches;
-mod merger;
+mod merge_plan;
+mod term_delete;
+mod segment_merge;
 mod origin;
-mod outcome;
-mod policy;
+mod merged;
+mod merge_policy;
 
-pub use deletes::strike;
-pub use fts_segment::Source;
-pub use levels::{plan, plan_by};
-pub use merger::merge;
+pub use live_strike::strike;
+pub use fts_segment::LiveSegment;
+pub use merge_plan::{plan, plan_by};
+pub use segment_merge::merge;
 pub use origin::Origin;
-pub use outcome::Merged;
-pub use policy::{MergePolicy, SegmentSize};
+pub use merged::Merged;
+pub use merge_policy::{MergePolicy, SegmentSize};

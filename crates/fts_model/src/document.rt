@@ -216,7 +216,7 @@ fn values_of(
 
 /// What a document shares with its copies.
 #[derive(Drop)]
-struct Stored {
+struct DocumentData {
     schema: Schema,
     values: Vec<Option<FieldValue>>,
 }
@@ -227,7 +227,7 @@ fn store(
     schema: &Schema,
     json: &Value,
     members: &Map<String, Value>,
-) -> Result<Arc<Stored>, AllocError>
+) -> Result<Arc<DocumentData>, AllocError>
     requires object { view json.now ≡ object (members_view members.now.entries) }
     requires no_fault { members_fault schema.now (members_view members.now.entries) ≡ None }
     ensures schema { IfOk result (λ stored. (arc_value stored).schema ≡ schema.now) }
@@ -239,14 +239,14 @@ fn store(
 {
     let values = values_of(alloc, schema.fields(), json, members)?;
     let schema = schema.clone()?;
-    Ok(Arc::new(alloc, Stored { schema, values })?)
+    Ok(Arc::new(alloc, DocumentData { schema, values })?)
 }
 
 /// A document: at most one value for each field of the schema that it was made under. A copy shares
 /// it.
 #[derive(Drop)]
 pub struct Document {
-    stored: Arc<Stored>,
+    stored: Arc<DocumentData>,
 }
 
 impl Model for Document {
@@ -254,7 +254,7 @@ impl Model for Document {
 
     ghost Value = { DocumentValue };
 
-    ghost use Rattle.fts_model.specs.Internals.Stored.{stored_value, IsStored};
+    ghost use Rattle.fts_model.specs.Internals.DocumentData.{stored_value, IsStored};
 
     ghost view = { stored_value };
 

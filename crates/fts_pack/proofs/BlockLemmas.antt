@@ -2,7 +2,7 @@
 use Rattle.std.proofs.Common.{◌≡◌, ℕ, ◌≤◌, List, length, sym, ap, ◌∙◌}
 use Rattle.fts_pack.specs.Block.{IsBlock, block_numbers}
 use Rattle.fts_pack.specs.bits.Digits.{IsWidthOf}
-use Rattle.fts_pack.specs.Lanes.{words_in_lanes}
+use Rattle.fts_pack.specs.FourLanes.{words_in_lanes}
 use Rattle.fts_pack.proofs.LaneLemmas.{numbers_in_lanes-words}
 
 -- the words of numbers hold these numbers

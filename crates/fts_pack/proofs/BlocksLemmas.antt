@@ -6,7 +6,7 @@ use Rattle.std.proofs.lemmas.Bool.{cases_lt}
 use Rattle.std.proofs.lemmas.List.{get_or-drop, get_or-take, get_or_default, get_or_past, length-append, length-drop, length-take, get_or_append_left}
 use Rattle.std.proofs.lemmas.List.{get_or-append_right, take_all}
 use Rattle.std.proofs.Math.Pow.{pow_mono}
-use Rattle.fts_pack.specs.column.Blocks.{AreEnds, AreEndsOf, block_of, no_ends, range_above}
+use Rattle.fts_pack.specs.column.BlockRanges.{AreEnds, AreEndsOf, block_of, no_ends, range_above}
 use Rattle.fts_pack.specs.column.Column.{HaveOffsets, IsRangeOf, offsets}
 use Rattle.fts_pack.proofs.ColumnLemmas.{length-offsets, none_in, offset_at, value_fits}
 

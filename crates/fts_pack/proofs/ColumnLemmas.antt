@@ -11,7 +11,7 @@ use Rattle.std.proofs.lemmas.Bool.{cases_lt}
 use Rattle.fts_pack.specs.bits.Digits.{IsWidthOf, numbers_in, words_of}
 use Rattle.fts_pack.specs.column.Column.{HaveOffsets, IsColumn, IsRangeOf, range_with, least_of, spread_of, offsets, values_at}
 use borrow.Rule.Slice.PartMut.{put_mid}
-use Rattle.fts_pack.specs.column.Lanes.{AreLanesOf}
+use Rattle.fts_pack.specs.column.OffsetArray.{AreLanesOf}
 use Rattle.fts_pack.proofs.PackingLemmas.{Below-from_all, numbers_in-words_of, length-numbers_in}
 
 pub IsRangeOf-missing : (values : List (Option ℕ)) (range : Option (ℕ × ℕ)) → IsRangeOf values range → IsRangeOf (values ++ None ∷ []) range

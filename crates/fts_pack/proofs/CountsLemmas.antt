@@ -15,7 +15,7 @@ use Rattle.fts_pack.specs.bits.Digits.{numbers_in}
 use Rattle.fts_pack.proofs.PackingLemmas.{length-numbers_in}
 use Rattle.fts_pack.specs.column.Column.{IsColumn, least_of, values_at}
 use Rattle.fts_pack.specs.column.Counts.{AreCounted, AreWithin, having, is_value}
-use Rattle.fts_pack.specs.column.Lanes.{number_at}
+use Rattle.fts_pack.specs.column.OffsetArray.{number_at}
 use Rattle.fts_pack.proofs.BitsLemmas.{each_set}
 use Rattle.fts_pack.proofs.ColumnLemmas.{above_least, lane_at, presence-values_at, value_missing, value_there}
 

@@ -10,7 +10,7 @@ use Rattle.std.proofs.Math.Nat.{mod-one}
 use Rattle.std.proofs.lemmas.Bool.{cases_lt}
 use Rattle.std.proofs.lemmas.Nat.{pow_pos, div-mul-add, mul-le}
 use Rattle.fts_pack.specs.bits.Digits.{joined, numbers_in, word_count, words_of}
-use Rattle.fts_pack.specs.Lanes.{lane_of, woven, words_in_lanes, numbers_in_lanes}
+use Rattle.fts_pack.specs.FourLanes.{lane_of, woven, words_in_lanes, numbers_in_lanes}
 use Rattle.fts_pack.proofs.DigitsLemmas.{Below, IsWritten, IsWritten-start, IsWritten-end, read_one, read_two, get_or-digits}
 use Rattle.fts_pack.proofs.PackingLemmas.{Below-from_all, length-words_of, numbers_in-words_of, written_full, written_short}
 

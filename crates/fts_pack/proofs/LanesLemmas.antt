@@ -19,7 +19,7 @@ use mir.Val.{bits, hbits}
 use Rattle.fts_pack.specs.bits.Bits.{number_of}
 use Rattle.fts_pack.specs.bits.Digits.{joined}
 use Rattle.fts_pack.specs.column.Column.{is_within, least_of, IsColumn}
-use Rattle.fts_pack.specs.column.Lanes.{AreLanesOf, AreMarked}
+use Rattle.fts_pack.specs.column.OffsetArray.{AreLanesOf, AreMarked}
 use Rattle.fts_pack.proofs.ColumnLemmas.{lane_there, presence-at}
 
 -- a number fits a lane of as many bits as it needs

@@ -8,8 +8,8 @@ use Rattle.std.proofs.lemmas.Bool.{cases_lt}
 use Rattle.std.proofs.Math.Seq.{take-append-add}
 use Rattle.fts_pack.specs.declared.skip.Skip.{Skip}
 use Rattle.fts_pack.specs.Documents.{gaps, documents_at, block_count, block_at, last_of, Rises, after}
-use Rattle.fts_pack.specs.Lanes.{words_in_lanes}
-use Rattle.fts_pack.specs.Packed.{numbers_at, IsWithin}
+use Rattle.fts_pack.specs.FourLanes.{words_in_lanes}
+use Rattle.fts_pack.specs.BlockMeta.{numbers_at, IsWithin}
 use Rattle.fts_pack.specs.LongList.{kept_block, kept_documents, IsSkipAdded, IsKeptBlock, AreKept, IsLongList}
 use Rattle.fts_pack.proofs.LaneLemmas.{length-numbers_in_lanes}
 use Rattle.fts_pack.proofs.PackedLemmas.{numbers_at-append, numbers_at-added, IsWithin-append, IsWithin-added}

@@ -6,26 +6,26 @@ use Rattle.std.proofs.lemmas.List.FromFn.{length-map-range_with_len, get_or-map-
 use Rattle.std.proofs.lemmas.Bool.{cases_lt}
 use Rattle.std.proofs.Math.Seq.{get_or-append_seam}
 use Rattle.std.proofs.lemmas.Grind.{same_number_lists}
-use Rattle.fts_pack.specs.declared.packed_block.Packed.{Packed}
+use Rattle.fts_pack.specs.declared.block_meta.BlockMeta.{BlockMeta}
 use Rattle.fts_pack.specs.Documents.{block_count, block_at}
-use Rattle.fts_pack.specs.Lanes.{words_in_lanes}
-use Rattle.fts_pack.specs.Packed.{numbers_at, IsWithin, IsAdded}
-use Rattle.fts_pack.specs.Numbers.{no_block, number_kept, numbers_kept, AreKept}
+use Rattle.fts_pack.specs.FourLanes.{words_in_lanes}
+use Rattle.fts_pack.specs.BlockMeta.{numbers_at, IsWithin, IsAdded}
+use Rattle.fts_pack.specs.PackedNumbers.{no_block, number_kept, numbers_kept, AreKept}
 use Rattle.fts_pack.specs.SourceLaws.{length-block_at, block_inside}
 use Rattle.fts_pack.proofs.LaneLemmas.{length-numbers_in_lanes}
 use Rattle.fts_pack.proofs.PackedLemmas.{length-added, IsWithin-added, numbers_at-append, numbers_at-added}
 
-pub length-numbers_kept : (count : ℕ) (blocks : List Packed) (words : List ℕ) → length (numbers_kept count blocks words) ≡ count
+pub length-numbers_kept : (count : ℕ) (blocks : List BlockMeta) (words : List ℕ) → length (numbers_kept count blocks words) ≡ count
 unfolding numbers_kept
 length-numbers_kept count blocks words = length-map-range_with_len (number_kept blocks words) 0 count
 
-pub get_or-numbers_kept : (count : ℕ) (blocks : List Packed) (words : List ℕ) (i : ℕ) → i < count →
+pub get_or-numbers_kept : (count : ℕ) (blocks : List BlockMeta) (words : List ℕ) (i : ℕ) → i < count →
     get_or (numbers_kept count blocks words) i 0 ≡ number_kept blocks words i
 unfolding numbers_kept
 get_or-numbers_kept count blocks words i inside = get_or-map-range_with_len (number_kept blocks words) 0 count i i 0 inside (omega arith)
 
 -- the first blocks were added
-pub record AreBuilt (numbers : List ℕ) (block : ℕ) (blocks : List Packed) (words : List ℕ) : Type 0 where
+pub record AreBuilt (numbers : List ℕ) (block : ℕ) (blocks : List BlockMeta) (words : List ℕ) : Type 0 where
   pub count : length blocks ≡ block
   pub within : All (IsWithin words) blocks
   pub same : (i : ℕ) → i < block * 128 → i < length numbers → number_kept blocks words i ≡ get_or numbers i 0
@@ -33,7 +33,7 @@ pub record AreBuilt (numbers : List ℕ) (block : ℕ) (blocks : List Packed) (w
 pub AreBuilt-start : (numbers : List ℕ) → AreBuilt numbers 0 [] []
 AreBuilt-start numbers = record { count = refl; within = λ i d inside. absurd (omega arith); same = λ i near inside. absurd (omega arith) }
 
-pub AreBuilt-more : (numbers : List ℕ) (block : ℕ) (blocks : List Packed) (before words : List ℕ) (added : Packed) → AreBuilt numbers block blocks before →
+pub AreBuilt-more : (numbers : List ℕ) (block : ℕ) (blocks : List BlockMeta) (before words : List ℕ) (added : BlockMeta) → AreBuilt numbers block blocks before →
     block < block_count (length numbers) →
     IsAdded (block_at numbers block) before words added → AreBuilt numbers (block + 1) (blocks ++ added ∷ []) words
 AreBuilt-more numbers block blocks before words added h inside new =
@@ -77,7 +77,7 @@ AreBuilt-more numbers block blocks before words added h inside new =
     }
 
 -- all blocks were added
-pub numbers_kept-built : (numbers : List ℕ) (blocks : List Packed) (words : List ℕ) → AreBuilt numbers (block_count (length numbers)) blocks words →
+pub numbers_kept-built : (numbers : List ℕ) (blocks : List BlockMeta) (words : List ℕ) → AreBuilt numbers (block_count (length numbers)) blocks words →
     numbers_kept (length numbers) blocks words ≡ numbers
 numbers_kept-built numbers blocks words h =
     let size = length-numbers_kept (length numbers) blocks words in
@@ -86,14 +86,14 @@ numbers_kept-built numbers blocks words h =
     get_or-numbers_kept (length numbers) blocks words i inside ∙ h.same i (omega arith) inside)
 
 -- the block of this number, seen from the numbers
-pub record Reads (value : List ℕ) (count : ℕ) (words : List ℕ) (number : ℕ) (block : Packed) : Type 0 where
+pub record Reads (value : List ℕ) (count : ℕ) (words : List ℕ) (number : ℕ) (block : BlockMeta) : Type 0 where
   pub start : number * 128 < count
   pub narrow : block.width ≤ 32
   pub room : block.start + 4 * block.width ≤ length words
   pub size : min (count - number * 128) 128 ≡ length (block_at value number)
   pub numbers_are : take (min (count - number * 128) 128) (numbers_at words block) ≡ block_at value number
 
-pub block_read : (value : List ℕ) (count : ℕ) (blocks : List Packed) (words : List ℕ) (number : ℕ) (block : Packed) → numbers_kept count blocks words ≡ value →
+pub block_read : (value : List ℕ) (count : ℕ) (blocks : List BlockMeta) (words : List ℕ) (number : ℕ) (block : BlockMeta) → numbers_kept count blocks words ≡ value →
     AreKept count blocks words → number < block_count (length value) →
     block ≡ get_or blocks number block → Reads value count words number block
 block_read value count blocks words number block view h inside block_is =
@@ -125,21 +125,21 @@ block_read value count blocks words number block view h inside block_is =
     }
 
 -- there is a block for each 128 numbers
-pub blocks_kept : (value : List ℕ) (count : ℕ) (blocks : List Packed) (words : List ℕ) → numbers_kept count blocks words ≡ value → AreKept count blocks words →
+pub blocks_kept : (value : List ℕ) (count : ℕ) (blocks : List BlockMeta) (words : List ℕ) → numbers_kept count blocks words ≡ value → AreKept count blocks words →
     length blocks ≡ block_count (length value)
 blocks_kept value count blocks words view h =
     h.many ∙ ap block_count (sym (length-numbers_kept count blocks words) ∙ ap length view)
 
-pub block_near : (value : List ℕ) (count : ℕ) (blocks : List Packed) (words : List ℕ) (index : ℕ) → numbers_kept count blocks words ≡ value →
+pub block_near : (value : List ℕ) (count : ℕ) (blocks : List BlockMeta) (words : List ℕ) (index : ℕ) → numbers_kept count blocks words ≡ value →
     AreKept count blocks words → index < length value → index / 128 < length blocks
 block_near value count blocks words index view h inside = omega (arith, blocks_kept value count blocks words view h)
 
 -- a number, seen from its block
-pub record ReadsOne (value words : List ℕ) (index : ℕ) (block : Packed) : Type 0 where
+pub record ReadsOne (value words : List ℕ) (index : ℕ) (block : BlockMeta) : Type 0 where
   pub within : IsWithin words block
   pub number_is : get_or (numbers_at words block) (index % 128) 0 ≡ get_or value index 0
 
-pub number_read : (value : List ℕ) (count : ℕ) (blocks : List Packed) (words : List ℕ) (index : ℕ) (block : Packed) → numbers_kept count blocks words ≡ value →
+pub number_read : (value : List ℕ) (count : ℕ) (blocks : List BlockMeta) (words : List ℕ) (index : ℕ) (block : BlockMeta) → numbers_kept count blocks words ≡ value →
     AreKept count blocks words → index < length value →
     block ≡ get_or blocks (index / 128) block → ReadsOne value words index block
 number_read value count blocks words index block view h inside block_is =
@@ -153,6 +153,6 @@ number_read value count blocks words index block view h inside block_is =
     }
 
 -- all blocks were added, and the numbers are not too many
-pub AreKept-built : (numbers : List ℕ) (blocks : List Packed) (words : List ℕ) → AreBuilt numbers (block_count (length numbers)) blocks words →
+pub AreKept-built : (numbers : List ℕ) (blocks : List BlockMeta) (words : List ℕ) → AreBuilt numbers (block_count (length numbers)) blocks words →
     length numbers < 2 ^ 64 → AreKept (length numbers) blocks words
 AreKept-built numbers blocks words h few = record { few = few; many = h.count; within = h.within }

@@ -1,7 +1,7 @@
 -- What a block of packed numbers keeps.
 use Rattle.std.specs.Prelude.{◌≡◌, ℕ, ◌≤◌, List, take}
 use Rattle.fts_pack.specs.bits.Digits.{IsWidthOf}
-use Rattle.fts_pack.specs.Lanes.{numbers_in_lanes, words_in_lanes}
+use Rattle.fts_pack.specs.FourLanes.{numbers_in_lanes, words_in_lanes}
 
 -- the first of the 128 numbers that are in the words
 abbrev pub block_numbers : ℕ → ℕ → List ℕ → List ℕ

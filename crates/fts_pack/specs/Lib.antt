@@ -1,10 +1,10 @@
 pub mod Block
 pub mod Documents
-pub mod Lanes
+pub mod FourLanes
 pub mod ListSource
 pub mod LongList
-pub mod Numbers
-pub mod Packed
+pub mod PackedNumbers
+pub mod BlockMeta
 pub mod Repr
 pub mod SourceLaws
 pub mod Unpacked

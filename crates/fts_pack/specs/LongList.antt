@@ -2,7 +2,7 @@
 use Rattle.std.specs.Prelude.{◌≡◌, ℕ, suc, ◌-◌, ◌^◌, ◌<◌, List, [], ◌∷◌, ◌++◌, All, min, take}
 use Rattle.std.specs.List.Sorted.{IsStrictlyIncreasing}
 use Rattle.fts_pack.specs.Documents.{after, documents_at, gaps}
-use Rattle.fts_pack.specs.Packed.{IsAdded, IsWithin, numbers_at}
+use Rattle.fts_pack.specs.BlockMeta.{IsAdded, IsWithin, numbers_at}
 use Rattle.fts_pack.specs.declared.skip.Skip.{Skip}
 
 -- the documents of one block, the first of them `next` or later

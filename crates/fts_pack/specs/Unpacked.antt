@@ -1,6 +1,6 @@
 -- How far the numbers of a block are unpacked.
 use Rattle.std.specs.Prelude.{◌≡◌, ℕ, ◌<◌, List, slice_index}
-use Rattle.fts_pack.specs.Lanes.{numbers_in_lanes}
+use Rattle.fts_pack.specs.FourLanes.{numbers_in_lanes}
 
 -- the first numbers of a block are written, this many of them
 abbrev pub IsUnpacked : ℕ → List ℕ → ℕ → List ℕ → Type 0

@@ -1,5 +1,5 @@
-pub mod Blocks
+pub mod BlockRanges
 pub mod Column
 pub mod Counts
 pub mod Interval
-pub mod Lanes
+pub mod OffsetArray

@@ -2,10 +2,10 @@
 ghost use Rattle.std.specs.Prelude.{◌≡◌, ◌≤◌, IfOk, IsOkUnless, List, length, take, ℕ};
 ghost use Rattle.fts_pack.specs.Block.{IsBlock, block_numbers};
 ghost use Rattle.fts_pack.specs.bits.Digits.{IsWidthOf};
-ghost use Rattle.fts_pack.specs.Lanes.{words_in_lanes};
+ghost use Rattle.fts_pack.specs.FourLanes.{words_in_lanes};
 
 use crate::bits::widths;
-use crate::lanes;
+use crate::four_lanes;
 use fts_base::Refusal;
 use std::alloc::{AllocError, Global};
 use std::marker::Model;
@@ -45,7 +45,7 @@ impl Block {
     {
         let width = widths::width_of(numbers);
         let mut words = Vec::with_capacity(alloc, 4 * width as usize)?;
-        lanes::append(&mut words, width, numbers)?;
+        four_lanes::append(&mut words, width, numbers)?;
         Ok(Block {
             count: numbers.len(),
             width,
@@ -59,7 +59,7 @@ impl Block {
         ensures at_most { result ≤ 128 }
         ensures numbers { take result out.new ≡ self.now }
     {
-        lanes::unpack(&self.words, self.width, out);
+        four_lanes::unpack(&self.words, self.width, out);
         self.count
     }
 

@@ -1,11 +1,11 @@
 //! Columns: one value per document, or none, each in as few bits as the greatest of them needs.
 
-mod blocks;
+mod block_ranges;
 mod column;
-mod counts;
-mod interval;
-mod lane;
-mod lanes;
+mod value_counts;
+mod last_within;
+mod offset_int;
+mod offset_array;
 pub mod laws;
 
 pub use column::{Column, Stretch};

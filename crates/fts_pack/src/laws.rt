@@ -2,7 +2,7 @@
 ghost use Rattle.std.specs.Prelude.{◌≡◌, ℕ, [], ◌∷◌, length, take, map, slice_index};
 ghost use Rattle.std.specs.List.{flat_map, range_with_len};
 ghost use Rattle.fts_pack.specs.Documents.{blocks_of, gaps};
-ghost use Rattle.fts_pack.specs.Lanes.{words_in_lanes};
+ghost use Rattle.fts_pack.specs.FourLanes.{words_in_lanes};
 
 /// The blocks of documents, joined, are the documents.
 pub fn blocks_join_to_the_documents(documents: &[u32])

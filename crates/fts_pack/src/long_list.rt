@@ -6,9 +6,9 @@ ghost use Rattle.fts_pack.specs.LongList.{IsLongList, IsSkipAdded, kept_document
 
 use crate::block::BLOCK;
 use crate::gaps::push_gaps;
-use crate::packed_block::{Packed, add_block};
+use crate::block_meta::{BlockMeta, add_block};
 use crate::skip::Skip;
-use crate::{lanes, sums};
+use crate::{four_lanes, prefix_sums};
 use fts_base::release;
 use std::alloc::{AllocError, Global};
 use std::marker::Model;
@@ -94,10 +94,10 @@ impl LongList {
         ensures count { result ≡ length (block_at self.now block) }
         ensures documents { take result out.new ≡ block_at self.now block }
     {
-        let Packed { start, width } = self.skips[block].block;
+        let BlockMeta { start, width } = self.skips[block].block;
         let (_, words) = self.words.split_at(start);
-        lanes::unpack(words, width, out);
-        sums::add_up(self.first(block), out);
+        four_lanes::unpack(words, width, out);
+        prefix_sums::add_up(self.first(block), out);
         (self.count - block * BLOCK).min(BLOCK)
     }
 

@@ -14,7 +14,7 @@ use Rattle.std.proofs.lemmas.List.{drop-append-le, get_or-take, get_or_past, len
 use Rattle.std.proofs.lemmas.List.Elements.{filter_map-append, All-nil, All-cons, All-head, All-tail, All-take}
 use Rattle.std.proofs.lemmas.List.Kept.{AllPairs-cons}
 use Rattle.std.proofs.lemmas.List.Sums.{fold-append}
-use Rattle.fts_pack.specs.column.Blocks.{block_of}
+use Rattle.fts_pack.specs.column.BlockRanges.{block_of}
 use Rattle.fts_pack.specs.column.Column.{IsRangeOf, is_within}
 use Rattle.fts_pack.proofs.BlocksLemmas.{block_none, block_within}
 use Rattle.fts_model.specs.declared.schema.Kind.{Kind}

@@ -6,7 +6,7 @@ ghost use Rattle.fts_pool.specs.Internals.Slots.{AreSlots, IsFilled};
 use crate::deque::JobWorker;
 use crate::gate::Gate;
 use crate::job::Job;
-use crate::slots::{emptied, empty_slots, run_from};
+use crate::slots::{into_results, empty_slots, run_from};
 use crate::workers::{pop_all, push_all, share_out};
 use fts_base::Refusal;
 use std::alloc::{AllocError, Global};
@@ -66,5 +66,5 @@ pub fn run_all<R: Threads + Wait + Sync, J: Job, G: Gate>(
     let helpers = workers.min(jobs.len()).saturating_sub(1);
     let (from, mut slots) = give_out(rt, alloc, slots, jobs, helpers, gate)?;
     run_from(&mut slots, from, jobs, gate);
-    Ok(emptied(slots, outs))
+    Ok(into_results(slots, outs))
 }

@@ -81,7 +81,7 @@ pub(crate) fn put_all<J: Job>(slots: &mut Vec<Option<J::Out>>, done: Vec<Done<J:
 }
 
 /// The results out of their slots.
-pub(crate) fn emptied<T: Drop>(slots: Vec<Option<T>>, mut outs: Vec<T>) -> Vec<T>
+pub(crate) fn into_results<T: Drop>(slots: Vec<Option<T>>, mut outs: Vec<T>) -> Vec<T>
     requires filled { (n : ℕ) → n < vec_len slots → IsFilled slots.items n }
     requires empty { outs.items ≡ [] }
     requires room { vec_len slots ≤ vec_capacity outs }

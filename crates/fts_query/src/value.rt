@@ -168,7 +168,7 @@ fn quoted_value_at<'a>(alloc: Global, text: Input<'a>) -> Result<(Value<'a>, Inp
 
 /// A word.
 #[tactic(auto, unfolding(crate::specs::Reading::plain_of))]
-fn plain_at<'a>(text: Input<'a>) -> Result<(Value<'a>, Input<'a>), ParseError>
+fn unquoted_at<'a>(text: Input<'a>) -> Result<(Value<'a>, Input<'a>), ParseError>
     ensures read { Finds (λ x. (value_seen x.0, x.1)) result (plain_of text.entry) }
     ensures short { IfOk result (λ x. IsShort (value_seen x.0)) }
 {
@@ -194,7 +194,7 @@ pub(crate) fn value_at<'a>(
             '{' => range_at(false, rest),
             '>' => above_at(rest),
             '<' => below_at(rest),
-            _ => plain_at(text),
+            _ => unquoted_at(text),
         },
     }
 }

@@ -18,16 +18,16 @@
 
 pub mod command;
 mod fault;
-mod lines;
+mod partial_line;
 mod responder;
 mod run;
 pub mod session;
-mod std_streams;
+mod plain;
 mod streams;
 
 pub use fault::Fault;
 pub use fts_engine::{Cut, Engine, EngineOver, ListEngine, Merge, Options};
-pub use lines::LONGEST;
+pub use partial_line::LONGEST;
 pub use run::run_script;
-pub use std_streams::Plain;
+pub use plain::Plain;
 pub use streams::{ScriptIn, ScriptOut, StreamError, Streams};

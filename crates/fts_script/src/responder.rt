@@ -10,7 +10,7 @@ ghost use Rattle.fts_script.specs.Stops.{BeginsOutput, BeginsWith, IsWritten, St
 ghost use Rattle.fts_script.specs.Responders.{Finishes, Advances, AdvancesToStop, RunState};
 
 use crate::fault::Fault;
-use crate::lines::PartialLine;
+use crate::partial_line::PartialLine;
 use crate::session::Session;
 use crate::streams::ScriptOut;
 use fts_engine::{Engine, EngineOver, Options};

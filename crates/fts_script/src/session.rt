@@ -9,9 +9,9 @@ pub mod laws;
 mod replace;
 mod reply;
 mod session;
-mod text;
-mod upkeep;
+mod blank;
+mod maintenance;
 
 pub use session::{MOST_LINES, Session};
-pub use text::{first_line, is_blank, is_white};
-pub use upkeep::Upkeep;
+pub use blank::{first_line, is_blank, is_white};
+pub use maintenance::Maintenance;

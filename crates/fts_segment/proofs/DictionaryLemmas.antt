@@ -15,7 +15,7 @@ use Rattle.std.proofs.lemmas.List.Elements.{All-tail, All-map, filter_passes}
 use Rattle.std.proofs.lemmas.List.Kept.{AllPairs-filter}
 use Rattle.std.proofs.lemmas.Simd.{map-map}
 use Rattle.fts_segment.specs.declared.term_log.Occurrence.{Occurrence}
-use Rattle.fts_segment.specs.declared.term_groups.Place.{Place}
+use Rattle.fts_segment.specs.declared.term_groups.DocPosition.{DocPosition}
 use Rattle.fts_segment.specs.Occurrences.{OccurrenceValue}
 use Rattle.fts_segment.specs.TermLogs.{occurrence_value, occurrence_values, AreNamed, by_ordinal}
 use Rattle.fts_segment.specs.TermGroups.{is_of, place, places_of}
@@ -47,7 +47,7 @@ group_cons : (names : List (List ℕ)) (id : ℕ) (q : List ℕ) (e : Occurrence
     is_term q (occurrence_value names e) ≡ b →
     places_of id es ≡ places_with q (occurrence_values names es) → places_of id (e ∷ es) ≡ places_with q (occurrence_values names (e ∷ es))
 group_cons names id q e es true here there others =
-    ap (λ b. map place (cond b (e ∷ filter (is_of id) es) (filter (is_of id) es))) here ∙ ap (λ (ps : List Place). place e ∷ ps) others
+    ap (λ b. map place (cond b (e ∷ filter (is_of id) es) (filter (is_of id) es))) here ∙ ap (λ (ps : List DocPosition). place e ∷ ps) others
     ∙ sym (ap (λ b. map place_of (cond b (occurrence_value names e ∷ filter (is_term q) (occurrence_values names es))
     (filter (is_term q) (occurrence_values names es)))) there)
 group_cons names id q e es false here there others =
@@ -64,11 +64,11 @@ group_places names up id q found (e ∷ es) named =
     (group_places names up id q found es (All-tail (λ (x : Occurrence). x.term < length names) e es named))
 
 -- the groups have the places of their names
-pub groups_are : (names : List (List ℕ)) (log : List Occurrence) (groups : List (List Place)) → Ascends names → AreNamed names log →
+pub groups_are : (names : List (List ℕ)) (log : List Occurrence) (groups : List (List DocPosition)) → Ascends names → AreNamed names log →
     length groups ≡ length names →
     ((t : ℕ) → t < length names → get_or groups t [] ≡ places_of t log) → groups ≡ map (λ q. places_with q (occurrence_values names log)) names
 groups_are names log groups up named count grouped =
-    let places : List ℕ → List Place = λ q. places_with q (occurrence_values names log) in
+    let places : List ℕ → List DocPosition = λ q. places_with q (occurrence_values names log) in
     same_lists groups (map places names) (count ∙ sym (length-map names places)) (λ k d within.
     let inside : k < length names = omega (arith, count, within) in
     get_or_default groups k d [] within ∙ grouped k inside ∙ group_places names up k (get_or names k []) (slice_get-get_or names k [] inside) log named
@@ -91,39 +91,39 @@ Ascends-filter p names up i j lower within =
     (λ i j d lower within. rw (get_or_default names i d [] (omega arith), get_or_default names j d [] within) (up i j lower within)) i j [] lower within
 
 -- the next name is listed
-pub names_step : (groups : List (List Place)) (all : List (List ℕ)) (i : ℕ) (places : List Place) (name : List ℕ) (names after : List (List ℕ)) →
+pub names_step : (groups : List (List DocPosition)) (all : List (List ℕ)) (i : ℕ) (places : List DocPosition) (name : List ℕ) (names after : List (List ℕ)) →
     i < length all → length groups ≡ length all →
     name ≡ get_or all i [] → places ≡ get_or groups i [] → after ≡ names ++ unless_none places name → names ++ names_listed (drop i groups) (drop i all)
     ≡ names_listed groups all →
     after ++ names_listed (drop (i + 1) groups) (drop (i + 1) all) ≡ names_listed groups all
 names_step groups all i places name names after within count here there put so_far =
     let first : drop i groups ≡ places ∷ drop (i + 1) groups = drop_more groups i [] (omega (arith, count, within))
-    ∙ ap (λ (ps : List Place). ps ∷ drop (i + 1) groups) (sym there) in
+    ∙ ap (λ (ps : List DocPosition). ps ∷ drop (i + 1) groups) (sym there) in
     let second : drop i all ≡ name ∷ drop (i + 1) all = drop_more all i [] within ∙ ap (λ (n : List ℕ). n ∷ drop (i + 1) all) (sym here) in
     ap (λ ns. ns ++ names_listed (drop (i + 1) groups) (drop (i + 1) all)) put
     ∙ append_assoc names (unless_none places name) (names_listed (drop (i + 1) groups) (drop (i + 1) all))
     ∙ ap (λ ns. names ++ ns) (sym (ap₂ names_listed first second)) ∙ so_far
 
-pub listed_step : {X : Type 0} (f : List Place → X) (groups : List (List Place)) (i : ℕ) (places : List Place) (lists after : List X) → i < length groups →
+pub listed_step : {X : Type 0} (f : List DocPosition → X) (groups : List (List DocPosition)) (i : ℕ) (places : List DocPosition) (lists after : List X) → i < length groups →
     places ≡ get_or groups i [] →
     after ≡ lists ++ unless_none places (f places) → lists ++ listed_by f (drop i groups) ≡ listed_by f groups →
     after ++ listed_by f (drop (i + 1) groups) ≡ listed_by f groups
 listed_step f groups i places lists after within there put so_far =
-    let first : drop i groups ≡ places ∷ drop (i + 1) groups = drop_more groups i [] within ∙ ap (λ (ps : List Place). ps ∷ drop (i + 1) groups) (sym there) in
+    let first : drop i groups ≡ places ∷ drop (i + 1) groups = drop_more groups i [] within ∙ ap (λ (ps : List DocPosition). ps ∷ drop (i + 1) groups) (sym there) in
     ap (λ ls. ls ++ listed_by f (drop (i + 1) groups)) put ∙ append_assoc lists (unless_none places (f places)) (listed_by f (drop (i + 1) groups))
     ∙ ap (λ ls. lists ++ ls) (sym (ap (listed_by f) first)) ∙ so_far
 
-pub docs_with_places : (q : List ℕ) (os : List OccurrenceValue) → map (λ (p : Place). p.doc) (places_with q os) ≡ docs_of q os
-docs_with_places q os = map-map (λ (p : Place). p.doc) place_of (filter (is_term q) os)
+pub docs_with_places : (q : List ℕ) (os : List OccurrenceValue) → map (λ (p : DocPosition). p.doc) (places_with q os) ≡ docs_of q os
+docs_with_places q os = map-map (λ (p : DocPosition). p.doc) place_of (filter (is_term q) os)
 
 -- a term has a place exactly where it occurs
-occurs_where : (os : List OccurrenceValue) (q : List ℕ) (places : List Place) → map (λ (p : Place). p.doc) places ≡ docs_of q os →
+occurs_where : (os : List OccurrenceValue) (q : List ℕ) (places : List DocPosition) → map (λ (p : DocPosition). p.doc) places ≡ docs_of q os →
     occurs os q ≡ nat_lt 0 (length places)
 occurs_where os q [] same = ap (λ ns. nat_lt 0 (length ns)) (sym same)
-occurs_where os q (p ∷ ps) same = ap (λ ns. nat_lt 0 (length ns)) (sym same) ∙ lt-ltb 0 (suc (length (map (λ (p : Place). p.doc) ps))) (omega arith)
+occurs_where os q (p ∷ ps) same = ap (λ ns. nat_lt 0 (length ns)) (sym same) ∙ lt-ltb 0 (suc (length (map (λ (p : DocPosition). p.doc) ps))) (omega arith)
     ∙ sym (lt-ltb 0 (suc (length ps)) (omega arith))
 
-unless_none_is : {X : Type 0} (places : List Place) (x : X) → unless_none places x ≡ cond (nat_lt 0 (length places)) (x ∷ []) []
+unless_none_is : {X : Type 0} (places : List DocPosition) (x : X) → unless_none places x ≡ cond (nat_lt 0 (length places)) (x ∷ []) []
 unless_none_is [] x = refl
 unless_none_is (p ∷ ps) x = ap (λ b. cond b (x ∷ []) []) (sym (lt-ltb 0 (suc (length ps)) (omega arith)))
 
@@ -139,13 +139,13 @@ names_listed-is os (q ∷ names) =
     ap (λ ns. unless_none (places_with q os) q ++ ns) (names_listed-is os names) ∙ ap (λ ns. ns ++ rest) (unless_none_is (places_with q os) q)
     ∙ ap (λ b. cond b (q ∷ []) [] ++ rest) (sym (occurs_where os q (places_with q os) (docs_with_places q os))) ∙ cond_before (occurs os q) q rest
 
-unless_none_map : {X : Type 0} (f : List Place → X) (g : List ℕ → X) (places : List Place) (q : List ℕ) → f places ≡ g q →
+unless_none_map : {X : Type 0} (f : List DocPosition → X) (g : List ℕ → X) (places : List DocPosition) (q : List ℕ) → f places ≡ g q →
     unless_none places (f places) ≡ map g (unless_none places q)
 unless_none_map f g [] q same = refl
 unless_none_map f g (p ∷ ps) q same = ap (λ x. x ∷ []) same
 
 -- what is listed is what each of the names gives
-listed_by-is : {X : Type 0} (f : List Place → X) (g : List ℕ → X) (os : List OccurrenceValue) (names : List (List ℕ)) →
+listed_by-is : {X : Type 0} (f : List DocPosition → X) (g : List ℕ → X) (os : List OccurrenceValue) (names : List (List ℕ)) →
     ((q : List ℕ) → f (places_with q os) ≡ g q) →
     listed_by f (map (λ q. places_with q os) names) ≡ map g (names_listed (map (λ q. places_with q os) names) names)
 listed_by-is f g os [] same = refl
@@ -190,11 +190,11 @@ IsDictionaryOf-listed names log up named =
     }
 
 -- the same where terms were numbered anew by their order
-pub record IsGrouped (names sorted : List (List ℕ)) (log : List Occurrence) (groups : List (List Place)) : Type 0 where
+pub record IsGrouped (names sorted : List (List ℕ)) (log : List Occurrence) (groups : List (List DocPosition)) : Type 0 where
   pub groups_are : groups ≡ map (λ q. places_with q (occurrence_values names log)) sorted
   pub dictionary_is : IsDictionaryOf (occurrence_values names log) (names_listed groups sorted) (listed_by docs_in groups) (listed_by position_lists_of groups)
 
-pub IsGrouped-sorted : (names sorted : List (List ℕ)) (ordinals : List ℕ) (log after : List Occurrence) (groups : List (List Place)) (count : ℕ) →
+pub IsGrouped-sorted : (names sorted : List (List ℕ)) (ordinals : List ℕ) (log after : List Occurrence) (groups : List (List DocPosition)) (count : ℕ) →
     Ascends sorted → Stand names sorted ordinals → AreNamed names log →
     after ≡ map (by_ordinal ordinals) log → count ≡ length sorted → length groups ≡ count → ((t : ℕ) → t < count → get_or groups t [] ≡ places_of t after) →
     IsGrouped names sorted log groups
@@ -203,10 +203,10 @@ IsGrouped-sorted names sorted ordinals log after groups count up stand named is 
     let again : Named after = subst Named (sym is) (AreNamed-by_ordinal names sorted ordinals log stand named) in
     let same : occurrence_values sorted after ≡ occurrence_values names log =
     ap (occurrence_values sorted) is ∙ occurrence_values-by_ordinal names sorted ordinals log stand named in
-    let places : List OccurrenceValue → List (List Place) = λ os. map (λ q. places_with q os) sorted in
+    let places : List OccurrenceValue → List (List DocPosition) = λ os. map (λ q. places_with q os) sorted in
     let are : groups ≡ places (occurrence_values names log) =
     groups_are sorted after groups up again (many ∙ long) (λ t within. grouped t (omega (arith, within, long))) ∙ ap places same in
-    let Is : List OccurrenceValue → List (List Place) → Type 0 =
+    let Is : List OccurrenceValue → List (List DocPosition) → Type 0 =
     λ os gs. IsDictionaryOf os (names_listed gs sorted) (listed_by docs_in gs) (listed_by position_lists_of gs) in
     record {
       groups_are = are;

@@ -11,7 +11,7 @@ use Rattle.std.proofs.lemmas.List.{map-append, get_or-map, length-map, get_or_de
 use Rattle.std.proofs.lemmas.List.Elements.{filter-append, All-push}
 use Rattle.std.proofs.lemmas.List.Kept.{AllPairs-from_increasing}
 use Rattle.fts_segment.specs.declared.term_log.Occurrence.{Occurrence}
-use Rattle.fts_segment.specs.declared.term_groups.Place.{Place}
+use Rattle.fts_segment.specs.declared.term_groups.DocPosition.{DocPosition}
 use Rattle.fts_segment.specs.TermGroups.{is_of, place, places_of}
 use Rattle.fts_segment.specs.Dictionaries.{docs_in}
 use Rattle.fts_segment.specs.Segments.{numbers_where}
@@ -58,16 +58,16 @@ one_index numbers up i j x first second =
 -- the log has the documents of each of the numbers
 pub record IsLogged (numbers : List ℕ) (vs : List (Option ℕ)) (log : List Occurrence) : Type 0 where
   pub named : All (λ e. e.term < length numbers) log
-  pub docs : (t x : ℕ) → slice_get numbers t ≡ Some x → map (λ (p : Place). p.doc) (places_of t log) ≡ numbers_where (is_number x) 0 vs
+  pub docs : (t x : ℕ) → slice_get numbers t ≡ Some x → map (λ (p : DocPosition). p.doc) (places_of t log) ≡ numbers_where (is_number x) 0 vs
 
-docs-push : (t : ℕ) (log : List Occurrence) (e : Occurrence) → map (λ (p : Place). p.doc) (places_of t (log ++ e ∷ []))
-    ≡ map (λ (p : Place). p.doc) (places_of t log) ++ cond (e.term == t) (e.doc ∷ []) []
+docs-push : (t : ℕ) (log : List Occurrence) (e : Occurrence) → map (λ (p : DocPosition). p.doc) (places_of t (log ++ e ∷ []))
+    ≡ map (λ (p : DocPosition). p.doc) (places_of t log) ++ cond (e.term == t) (e.doc ∷ []) []
 docs-push t log e =
-    ap (λ es. map (λ (p : Place). p.doc) (map place es)) (filter-append (is_of t) log (e ∷ []))
-    ∙ ap (map (λ (p : Place). p.doc)) (map-append place (filter (is_of t) log) (filter (is_of t) (e ∷ [])))
-    ∙ map-append (λ (p : Place). p.doc) (places_of t log) (map place (filter (is_of t) (e ∷ [])))
-    ∙ ap (λ ns. map (λ (p : Place). p.doc) (places_of t log) ++ ns)
-    (elim (e.term == t) as (λ b. map (λ (p : Place). p.doc) (map place (cond b (e ∷ []) [])) ≡ cond b (e.doc ∷ []) []) [ true ↦ refl | false ↦ refl ])
+    ap (λ es. map (λ (p : DocPosition). p.doc) (map place es)) (filter-append (is_of t) log (e ∷ []))
+    ∙ ap (map (λ (p : DocPosition). p.doc)) (map-append place (filter (is_of t) log) (filter (is_of t) (e ∷ [])))
+    ∙ map-append (λ (p : DocPosition). p.doc) (places_of t log) (map place (filter (is_of t) (e ∷ [])))
+    ∙ ap (λ ns. map (λ (p : DocPosition). p.doc) (places_of t log) ++ ns)
+    (elim (e.term == t) as (λ b. map (λ (p : DocPosition). p.doc) (map place (cond b (e ∷ []) [])) ≡ cond b (e.doc ∷ []) []) [ true ↦ refl | false ↦ refl ])
 
 same_test : (numbers : List ℕ) → IsStrictlyIncreasing numbers → (s t y x : ℕ) → slice_get numbers s ≡ Some y → slice_get numbers t ≡ Some x →
     (s == t) ≡ (y == x)
@@ -91,7 +91,7 @@ IsLogged-push {numbers} {vs} {old} doc None new up at same s =
     let P : List Occurrence → Type 0 = λ es. All (λ e. e.term < length numbers) es in
     record {
       named = subst P (sym same) s.named;
-      docs = λ t x there. ap (λ es. map (λ (p : Place). p.doc) (places_of t es)) same ∙ s.docs t x there
+      docs = λ t x there. ap (λ es. map (λ (p : DocPosition). p.doc) (places_of t es)) same ∙ s.docs t x there
           ∙ sym (numbers_where-push (is_number x) 0 vs None ∙ append-nil (numbers_where (is_number x) 0 vs));
     }
 IsLogged-push {numbers} {vs} {old} doc (Some y) new up at put s =
@@ -99,18 +99,18 @@ IsLogged-push {numbers} {vs} {old} doc (Some y) new up at put s =
     let P : List Occurrence → Type 0 = λ es. All (λ e. e.term < length numbers) es in
     record {
       named = subst P (sym put.2) (All-push (λ (e : Occurrence). e.term < length numbers) old e s.named (slice_get_within numbers put.0 y put.1));
-      docs = λ t x there. ap (λ es. map (λ (p : Place). p.doc) (places_of t es)) put.2 ∙ docs-push t old e
-          ∙ ap (λ b. map (λ (p : Place). p.doc) (places_of t old) ++ cond b (doc ∷ []) []) (same_test numbers up put.0 t y x put.1 there)
+      docs = λ t x there. ap (λ es. map (λ (p : DocPosition). p.doc) (places_of t es)) put.2 ∙ docs-push t old e
+          ∙ ap (λ b. map (λ (p : DocPosition). p.doc) (places_of t old) ++ cond b (doc ∷ []) []) (same_test numbers up put.0 t y x put.1 there)
           ∙ ap (λ ns. ns ++ cond (y == x) (doc ∷ []) []) (s.docs t x there)
           ∙ ap (λ n. numbers_where (is_number x) 0 vs ++ cond (y == x) (n ∷ []) []) (let here : doc ≡ 0 + length vs = omega arith in here)
           ∙ sym (numbers_where-push (is_number x) 0 vs (Some y));
     }
 
 -- the groups of the log have the documents of each number
-pub group_docs : (numbers : List ℕ) (vs : List (Option ℕ)) (log : List Occurrence) (groups : List (List Place)) (numbers_read : List ℕ)
+pub group_docs : (numbers : List ℕ) (vs : List (Option ℕ)) (log : List Occurrence) (groups : List (List DocPosition)) (numbers_read : List ℕ)
     (vs_read : List (Option ℕ)) (log_read : List Occurrence) →
     numbers_read ≡ numbers → vs_read ≡ vs → log_read ≡ log →
-    ((t : ℕ) → t < length numbers_read → map (λ (p : Place). p.doc) (places_of t log) ≡ numbers_where (is_number (get_or numbers_read t 0)) 0 vs_read) →
+    ((t : ℕ) → t < length numbers_read → map (λ (p : DocPosition). p.doc) (places_of t log) ≡ numbers_where (is_number (get_or numbers_read t 0)) 0 vs_read) →
     ((t : ℕ) → t < length numbers → get_or groups t [] ≡ places_of t log_read) →
     (t : ℕ) → t < length numbers → docs_in (get_or groups t []) ≡ numbers_where (is_number (get_or numbers t 0)) 0 vs
 group_docs numbers vs log groups numbers_read vs_read log_read n v l docs grouped t below =
@@ -119,7 +119,7 @@ group_docs numbers vs log groups numbers_read vs_read log_read n v l docs groupe
     ∙ ap (λ xs. numbers_where (is_number (get_or xs t 0)) 0 vs_read) n ∙ ap (λ us. numbers_where (is_number (get_or numbers t 0)) 0 us) v
 
 -- so they rise
-pub groups_rise : (numbers : List ℕ) (vs : List (Option ℕ)) (groups : List (List Place)) → length groups ≡ length numbers →
+pub groups_rise : (numbers : List ℕ) (vs : List (Option ℕ)) (groups : List (List DocPosition)) → length groups ≡ length numbers →
     ((t : ℕ) → t < length numbers → docs_in (get_or groups t []) ≡ numbers_where (is_number (get_or numbers t 0)) 0 vs) →
     All (λ places. IsStrictlyIncreasing (docs_in places)) groups
 groups_rise numbers vs groups count grouped k d within =
@@ -129,7 +129,7 @@ groups_rise numbers vs groups count grouped k d within =
     subst P (sym same) (numbers_rise (is_number (get_or numbers k 0)) 0 vs)
 
 -- the numbers with their groups make the index
-pub IsNumberIndex-listed : (numbers : List ℕ) (vs : List (Option ℕ)) (groups : List (List Place)) → length groups ≡ length numbers →
+pub IsNumberIndex-listed : (numbers : List ℕ) (vs : List (Option ℕ)) (groups : List (List DocPosition)) → length groups ≡ length numbers →
     ((t : ℕ) → t < length numbers → docs_in (get_or groups t []) ≡ numbers_where (is_number (get_or numbers t 0)) 0 vs) →
     IsStrictlyIncreasing numbers → All (λ x. Contains vs (Some x)) numbers → ((x : ℕ) → Contains vs (Some x) → Contains numbers x) →
     IsNumberIndex vs numbers (map docs_in groups)

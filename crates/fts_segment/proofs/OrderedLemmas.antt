@@ -10,20 +10,20 @@ use Rattle.fts_model.specs.Queries.{is_number_field}
 use Rattle.fts_model.specs.Schemas.{holds_numbers}
 use Rattle.fts_segment.specs.declared.keyword_index.KeywordIndex.{KeywordIndex}
 use Rattle.fts_segment.specs.declared.number_index.NumberIndex.{NumberIndex}
-use Rattle.fts_segment.specs.declared.ordered.Ordered.{Ordered}
+use Rattle.fts_segment.specs.declared.sorted_column.SortedColumn.{SortedColumn}
 use Rattle.fts_segment.specs.Between.{IsCut, NumberColumn}
 use Rattle.fts_segment.specs.FieldIndexes.{AreKeywords, AreNumbers}
 use Rattle.fts_segment.specs.Keywords.{ordinals_of}
 use Rattle.fts_segment.specs.Numbers.{IsNumberIndex, numbers_of}
 use Rattle.fts_segment.specs.Occurrences.{values_in}
-use Rattle.fts_segment.specs.Ordered.{IsOrdered, column_in, column_of, different, numbers_in}
+use Rattle.fts_segment.specs.SortedColumns.{IsOrdered, column_in, column_of, different, numbers_in}
 use Rattle.fts_segment.specs.Segments.{SegmentValue, column, ordinals}
 use Rattle.fts_segment.specs.Sums.{sums_from}
 use Rattle.fts_segment.proofs.BetweenLemmas.{IsNumberIndex-keywords, numbers_count}
 use Rattle.fts_segment.proofs.FieldLemmas.{numbers_of-values, ordinals_of-values}
 
 -- those of a keyword field, and of a number field
-pub IsOrdered-keywords : (kind : Kind) (vs : List (Option FieldValue)) (index : KeywordIndex) (o : Ordered) → AreKeywords kind vs index →
+pub IsOrdered-keywords : (kind : Kind) (vs : List (Option FieldValue)) (index : KeywordIndex) (o : SortedColumn) → AreKeywords kind vs index →
     o.column.now ≡ index.ordinals → o.numbers ≡ None → o.lists.now ≡ index.dictionary.lists.items → o.sums.now ≡ index.sums.items →
     IsOrdered (column_of kind vs) o
 IsOrdered-keywords kind vs index o are column_is none lists_are sums_are =
@@ -35,7 +35,7 @@ IsOrdered-keywords kind vs index o are column_is none lists_are sums_are =
       sums = sums_are ∙ are.sums ∙ ap (sums_from 0) (sym lists_are);
     }) are
 
-pub IsOrdered-numbers : (kind : Kind) (vs : List (Option FieldValue)) (index : NumberIndex) (o : Ordered) (numbers : Bor (List ℕ)) → AreNumbers kind vs index →
+pub IsOrdered-numbers : (kind : Kind) (vs : List (Option FieldValue)) (index : NumberIndex) (o : SortedColumn) (numbers : Bor (List ℕ)) → AreNumbers kind vs index →
     o.column.now ≡ index.column → o.numbers ≡ Some numbers → numbers.now ≡ index.numbers.items → o.lists.now ≡ index.lists.items →
     o.sums.now ≡ index.sums.items → IsOrdered (column_of kind vs) o
 IsOrdered-numbers kind vs index o numbers are column_is some numbers_are lists_are sums_are =
@@ -49,7 +49,7 @@ IsOrdered-numbers kind vs index o numbers are column_is some numbers_are lists_a
     })
 
 -- a cut of the numbers is one of the lists
-pub cut_inside : (column : NumberColumn) (o : Ordered) (bound place : ℕ) → IsOrdered column o → IsCut (numbers_in o) bound place → place ≤ length o.lists.now
+pub cut_inside : (column : NumberColumn) (o : SortedColumn) (bound place : ℕ) → IsOrdered column o → IsCut (numbers_in o) bound place → place ≤ length o.lists.now
 cut_inside column o bound place are cut = omega (arith, cut.within, numbers_count column (numbers_in o) o.lists.now are.index_is)
 
 -- the column of a field is that of its values

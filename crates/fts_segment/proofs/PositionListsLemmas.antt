@@ -5,12 +5,12 @@ use Rattle.std.proofs.lemmas.Bool.{cases_Bool, eqb-true}
 use Rattle.std.proofs.lemmas.Bool.Decides.{nat_tests}
 use Rattle.std.proofs.lemmas.List.{drop_more, drop_all}
 use Rattle.std.proofs.lemmas.List.Elements.{All-head, All-tail}
-use Rattle.fts_segment.specs.declared.term_groups.Place.{Place}
+use Rattle.fts_segment.specs.declared.term_groups.DocPosition.{DocPosition}
 use Rattle.fts_segment.specs.Positions.{position_lists_from, position_lists_of}
 use Rattle.fts_segment.specs.PositionLists.{IsPositionList}
 
 -- the next place
-pub position_lists-step : (whole lists after : List (List ℕ)) (doc : ℕ) (list next : List ℕ) (places : List Place) (i : ℕ) (d p : Place) → i < length places →
+pub position_lists-step : (whole lists after : List (List ℕ)) (doc : ℕ) (list next : List ℕ) (places : List DocPosition) (i : ℕ) (d p : DocPosition) → i < length places →
     p ≡ get_or places i d →
     after ≡ lists ++ cond (p.doc == doc) [] (list ∷ []) → next ≡ cond (p.doc == doc) list [] ++ p.position ∷ [] →
     lists ++ position_lists_from doc list (drop i places) ≡ whole →
@@ -29,7 +29,7 @@ position_lists-step whole lists after doc list next places i d p within here put
     ∙ step ∙ ap (λ xs. lists ++ position_lists_from doc list xs) (sym first) ∙ so_far
 
 -- what is still to come are position lists
-pub ArePositionLists-step : (doc : ℕ) (list next : List ℕ) (places : List Place) (i : ℕ) (d p : Place) → i < length places → p ≡ get_or places i d →
+pub ArePositionLists-step : (doc : ℕ) (list next : List ℕ) (places : List DocPosition) (i : ℕ) (d p : DocPosition) → i < length places → p ≡ get_or places i d →
     next ≡ cond (p.doc == doc) list [] ++ p.position ∷ [] →
     All IsPositionList (position_lists_from doc list (drop i places)) →
     ((p.doc ≡ doc → ⊥) → IsPositionList list) × All IsPositionList (position_lists_from p.doc next (drop (i + 1) places))
@@ -50,16 +50,16 @@ ArePositionLists-step doc list next places i d p within here grown all =
         All-tail IsPositionList list (position_lists_from p.doc (p.position ∷ []) ps) h,
       ))
     ] in
-    let known = both (subst (λ (xs : List Place). All IsPositionList (position_lists_from doc list xs)) first all) in
+    let known = both (subst (λ (xs : List DocPosition). All IsPositionList (position_lists_from doc list xs)) first all) in
     (known.0, subst Q (sym grown) known.1)
 
-pub ArePositionLists-end : (doc : ℕ) (list : List ℕ) (places : List Place) (i : ℕ) → length places ≤ i →
+pub ArePositionLists-end : (doc : ℕ) (list : List ℕ) (places : List DocPosition) (i : ℕ) → length places ≤ i →
     All IsPositionList (position_lists_from doc list (drop i places)) → IsPositionList list
 ArePositionLists-end doc list places i past all =
-    All-head IsPositionList list [] (subst (λ (xs : List Place). All IsPositionList (position_lists_from doc list xs)) (drop_all i places past) all)
+    All-head IsPositionList list [] (subst (λ (xs : List DocPosition). All IsPositionList (position_lists_from doc list xs)) (drop_all i places past) all)
 
 -- a place of a document
-abbrev pub place_at : ℕ → ℕ → Place
+abbrev pub place_at : ℕ → ℕ → DocPosition
 place_at doc position = record { doc = doc; position = position }
 
 same_doc : (a : ℕ) → (a == a) ≡ true
@@ -69,12 +69,12 @@ other_doc : (a b : ℕ) → a < b → (b == a) ≡ false
 other_doc a b h = grind (arith, nat_tests)
 
 -- the list of a document, behind which come those of later ones
-pub position_list_whole : (doc : ℕ) (list ns : List ℕ) (places : List Place) → All (λ p. doc < p.doc) places →
+pub position_list_whole : (doc : ℕ) (list ns : List ℕ) (places : List DocPosition) → All (λ p. doc < p.doc) places →
     position_lists_from doc list (map (place_at doc) ns ++ places) ≡ (list ++ ns) ∷ position_lists_of places
 position_list_whole doc list [] [] above = ap (λ r. r ∷ []) (sym (append-nil list))
 position_list_whole doc list [] (p ∷ ps) above =
     ap (λ b. cond b (position_lists_from doc (list ++ p.position ∷ []) ps) (list ∷ position_lists_from p.doc (p.position ∷ []) ps))
-    (other_doc doc p.doc (All-head (λ (p : Place). doc < p.doc) p ps above))
+    (other_doc doc p.doc (All-head (λ (p : DocPosition). doc < p.doc) p ps above))
     ∙ ap (λ r. r ∷ position_lists_from p.doc (p.position ∷ []) ps) (sym (append-nil list))
 position_list_whole doc list (n ∷ ns) places above =
     let rest = map (place_at doc) ns ++ places in
@@ -82,7 +82,7 @@ position_list_whole doc list (n ∷ ns) places above =
     ∙ position_list_whole doc (list ++ n ∷ []) ns places above ∙ ap (λ r. r ∷ position_lists_of places) (append_assoc list (n ∷ []) ns)
 
 -- the positions of a document, behind which come those of later ones
-pub position_list_first : (doc : ℕ) (ns : List ℕ) (places : List Place) → All (λ p. doc < p.doc) places → position_lists_of (map (place_at doc) ns ++ places)
+pub position_list_first : (doc : ℕ) (ns : List ℕ) (places : List DocPosition) → All (λ p. doc < p.doc) places → position_lists_of (map (place_at doc) ns ++ places)
     ≡ cond (nat_lt 0 (length ns)) (ns ∷ position_lists_of places) (position_lists_of places)
 position_list_first doc [] places above = refl
 position_list_first doc (n ∷ ns) places above =

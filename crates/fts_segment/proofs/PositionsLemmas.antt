@@ -15,7 +15,7 @@ use Rattle.fts_model.specs.declared.operation.Stamped.{Stamped}
 use Rattle.fts_model.specs.declared.operation.Term.{Term}
 use Rattle.fts_model.specs.Documents.{DocumentValue, value_in_field}
 use Rattle.fts_model.specs.Operations.{has, field_has}
-use Rattle.fts_segment.specs.declared.term_groups.Place.{Place}
+use Rattle.fts_segment.specs.declared.term_groups.DocPosition.{DocPosition}
 use Rattle.fts_segment.specs.declared.dictionary.Dictionary.{Dictionary}
 use Rattle.fts_segment.specs.Occurrences.{OccurrenceValue, occurrence_at, occurrences_at, occurrences, is_token, is_term, tokens_of, holds, values_in}
 use Rattle.fts_segment.specs.Occurrences.{HasFewTokens}
@@ -37,14 +37,14 @@ token_places q doc (t ∷ ts) =
     let Here : Bool → Type 0 =
     λ b. map place_of (cond b (occurrence_at doc t ∷ filter (is_term q) (map (occurrence_at doc) ts)) (filter (is_term q) (map (occurrence_at doc) ts)))
     ≡ map (place_at doc) (map (λ (t : ℕ × List ℕ). t.0) (cond b (t ∷ filter (is_token q) ts) (filter (is_token q) ts))) in
-    elim (is_token q t) as Here [ true ↦ ap (λ (ps : List Place). place_at doc t.0 ∷ ps) (token_places q doc ts) | false ↦ token_places q doc ts ]
+    elim (is_token q t) as Here [ true ↦ ap (λ (ps : List DocPosition). place_at doc t.0 ∷ ps) (token_places q doc ts) | false ↦ token_places q doc ts ]
 
 places_with-append : (q : List ℕ) (os ps : List OccurrenceValue) → places_with q (os ++ ps) ≡ places_with q os ++ places_with q ps
 places_with-append q os ps = ap (map place_of) (filter-append (is_term q) os ps) ∙ map-append place_of (filter (is_term q) os) (filter (is_term q) ps)
 
 later_places : (q : List ℕ) (kind : Kind) (doc : ℕ) (vs : List (Option FieldValue)) → All (λ p. doc < p.doc) (places_with q (occurrences kind (doc + 1) vs))
 later_places q kind doc vs =
-    All-map (λ (p : Place). doc < p.doc) place_of (filter (is_term q) (occurrences kind (doc + 1) vs))
+    All-map (λ (p : DocPosition). doc < p.doc) place_of (filter (is_term q) (occurrences kind (doc + 1) vs))
     (All-filter (is_term q) (λ (o : OccurrenceValue). doc < o.doc) (occurrences kind (doc + 1) vs)
     (All-weaker (λ (o : OccurrenceValue). doc + 1 ≤ o.doc) (λ (o : OccurrenceValue). doc < o.doc) (λ o above. omega arith) _ (from_first kind (doc + 1) vs)))
 

@@ -14,8 +14,8 @@ pub mod Between
 pub mod Sums
 pub mod NumberLogs
 pub mod FieldIndexes
-pub mod Ordered
-pub mod Stored
+pub mod SortedColumns
+pub mod SegmentData
 pub mod PositionLists
 pub mod PositionListLogs
 pub mod PositionListBounds
@@ -23,7 +23,7 @@ pub mod PositionLogs
 pub mod TermPositionLists
 pub mod ListIds
 pub mod PositionsLeft
-pub mod UnpackedLists
+pub mod PositionCopiers
 pub mod Postings
 pub mod Puts
 pub mod Sources

@@ -9,13 +9,13 @@ use Rattle.std.specs.Cmp.Lexicographic.{slice_cmp}
 use Rattle.std.specs.declared.cmp.Ordering.TheVariants.{Less}
 use Rattle.fts_model.specs.declared.schema.Kind.{Kind}
 use Rattle.fts_segment.specs.declared.dictionary.Dictionary.{Dictionary}
-use Rattle.fts_segment.specs.declared.decoded_lists.UnpackedLists.{UnpackedLists}
+use Rattle.fts_segment.specs.declared.position_copier.PositionCopier.{PositionCopier}
 use Rattle.fts_segment.specs.Occurrences.{OccurrenceValue, occurrences, values_in, docs_with}
 use Rattle.fts_segment.specs.Positions.{position_lists_with}
 use Rattle.fts_segment.specs.Postings.{Posting, postings_of, documents, position_lists}
 use Rattle.fts_segment.specs.Sources.{SourceValue}
 use Rattle.fts_segment.specs.TermPositionLists.{term_position_lists}
-use Rattle.fts_segment.specs.UnpackedLists.{lists_in}
+use Rattle.fts_segment.specs.PositionCopiers.{lists_in}
 
 -- the new number of each document: live ones are counted from `next`, and a dead one has none
 abbrev pub renumbered : ℕ → List Bool → List (Option ℕ)
@@ -76,7 +76,7 @@ pub record IsWhole (dictionary : Dictionary) (numbers : List (Option ℕ)) : Typ
 
 -- the same, the term is that of the number `at`, and the lists that are moved are those of the dictionary
 pub record IsPartOf (at : ℕ) (dictionary : Dictionary) (numbers : List (Option ℕ)) (term : Option (List ℕ))
-    (lists : UnpackedLists) : Type 0 where
+    (lists : PositionCopier) : Type 0 where
   pub whole : IsWhole dictionary numbers
   pub next : term ≡ slice_get (drop at dictionary.names) 0
   pub lists_are : lists_in lists ≡ dictionary.positions.lists

@@ -1,6 +1,6 @@
 -- Where the lists of positions of a block begin and end.
 use Rattle.std.specs.Prelude.{◌≡◌, ℕ, ◌+◌, ◌*◌, ◌≤◌, List, IfSome, length, map, take, sum, slice_index}
-use Rattle.fts_segment.specs.declared.position_lists.Bounds.{Bounds}
+use Rattle.fts_segment.specs.declared.position_lists.BlockBounds.{BlockBounds}
 
 -- how many positions are in the lists before this one
 abbrev pub positions_before : List (List ℕ) → ℕ → ℕ
@@ -12,5 +12,5 @@ AreBoundsOf lists block bounds = (index : ℕ) → index ≤ 128 → block * 128
     → slice_index bounds index ≡ positions_before lists (block * 128 + index)
 
 -- the bounds of a block, if one was looked at
-abbrev pub AreBounds : List (List ℕ) → Bounds → Type 0
+abbrev pub AreBounds : List (List ℕ) → BlockBounds → Type 0
 AreBounds lists bounds = IfSome bounds.block (λ block. AreBoundsOf lists block bounds.at)

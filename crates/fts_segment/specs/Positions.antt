@@ -1,6 +1,6 @@
 -- The positions of a term, posting by posting.
 use Rattle.std.specs.Prelude.{ℕ, ◌==◌, Option, List, [], ◌∷◌, ◌++◌, map, filter, cond}
-use Rattle.fts_segment.specs.declared.term_groups.Place.{Place}
+use Rattle.fts_segment.specs.declared.term_groups.DocPosition.{DocPosition}
 use Rattle.fts_model.specs.declared.schema.Kind.{Kind}
 use Rattle.fts_model.specs.declared.value.FieldValue.{FieldValue}
 use Rattle.fts_model.specs.declared.value.FieldValue.TheVariants as values
@@ -8,22 +8,22 @@ use Rattle.fts_segment.specs.Occurrences.{OccurrenceValue, is_term, tokens_of, h
 use Rattle.fts_segment.specs.Segments.{positions_among}
 
 -- the positions of places, a list for each document, if `list` are those of the document `doc` before them
-abbrev pub position_lists_from : ℕ → List ℕ → List Place → List (List ℕ)
+abbrev pub position_lists_from : ℕ → List ℕ → List DocPosition → List (List ℕ)
 position_lists_from doc list [] = list ∷ []
 position_lists_from doc list (p ∷ ps) = cond (p.doc == doc)
     (position_lists_from doc (list ++ p.position ∷ []) ps) (list ∷ position_lists_from p.doc (p.position ∷ []) ps)
 
 -- the positions of places, a list for each document
-abbrev pub position_lists_of : List Place → List (List ℕ)
+abbrev pub position_lists_of : List DocPosition → List (List ℕ)
 position_lists_of [] = []
 position_lists_of (p ∷ ps) = position_lists_from p.doc (p.position ∷ []) ps
 
 -- where an occurrence stands
-abbrev pub place_of : OccurrenceValue → Place
+abbrev pub place_of : OccurrenceValue → DocPosition
 place_of o = record { doc = o.doc; position = o.position }
 
 -- the places of the occurrences of a term
-abbrev pub places_with : List ℕ → List OccurrenceValue → List Place
+abbrev pub places_with : List ℕ → List OccurrenceValue → List DocPosition
 places_with term os = map place_of (filter (is_term term) os)
 
 -- the positions of a term, a list for each document that has it

@@ -6,7 +6,7 @@ ghost use Rattle.fts_segment.specs.FieldIndexes.{AreIndexes};
 ghost use Rattle.fts_base.specs.declared.refusal.Refusal.TheVariants.{Memory, SegmentFull};
 
 use crate::field_index::FieldIndex;
-use crate::segment::{Segment, Stored};
+use crate::segment::{Segment, SegmentData};
 use fts_model::{Document, MOST_BUILT, Refusal, Schema, Stamp, Stamped};
 use std::alloc::{AllocError, Global};
 use std::marker::Model;
@@ -120,7 +120,7 @@ impl Builder {
                 documents.shrink_to_fit();
                 match Arc::new(
                     alloc,
-                    Stored {
+                    SegmentData {
                         schema,
                         documents,
                         indexes,

@@ -5,9 +5,9 @@ ghost use Rattle.fts_model.specs.declared.value.FieldValue.{FieldValue};
 ghost use Rattle.fts_segment.specs.FieldIndexes.{AreTerms, HasKeywordAt};
 ghost use Rattle.fts_segment.specs.Keywords.{texts_of};
 
-use crate::lookup::find_name;
+use crate::binary_search::find_name;
 use crate::names::Names;
-use crate::occurrences::logged;
+use crate::token_log::log_of_field;
 use crate::segment::ListId;
 use crate::term_positions::TermPositions;
 use fts_base::release;
@@ -54,7 +54,7 @@ impl Dictionary {
             dictionary.names dictionary.lists.items (term_position_lists dictionary.positions)) }
         ensures few { OnOk result (All (HasFewTokens kind) (values_in field documents.now)) }
     {
-        let log = logged(alloc, documents, field, kind)?;
+        let log = log_of_field(alloc, documents, field, kind)?;
         log.dictionary(alloc)
     }
 

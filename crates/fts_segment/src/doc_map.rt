@@ -1,62 +1,100 @@
-// Terms, numbered as they come.
-ghost use Rattle.std.specs.Prelude.{◌≡◌, [], Some, IfOk, slice_get};
-ghost use Rattle.fts_segment.specs.Numberings.{GoesOn};
+// New numbers of the documents of a segment of whose documents some are live.
+ghost use Rattle.std.specs.Prelude.{◌≡◌, ◌+◌, ◌<◌, ◌^◌, ◌++◌, ◌∷◌, [], true, count_by, IfOk, IfSome, OnOk, Some, None};
+ghost use Rattle.std.specs.Prelude.{if◌then◌else◌, slice_get};
+ghost use Rattle.fts_segment.specs.Parts.{AreInARow, number_in, renumbered};
 
-use crate::guesses::{Guesses, hash_of};
-use crate::names::{Name, Names};
+use fts_base::release;
+use fts_pack::bits::Bits;
 use std::alloc::{AllocError, Global};
 use std::marker::Model;
 
-/// Terms by their numbers, of which the first is 0. A term may have several. Contracts see the list of their bytes.
-#[derive(Drop)]
-pub(crate) struct Numbering {
-    alloc: Global,
-    names: Names,
-    /// Most numbers, by a hash: some are forgotten where terms were chosen to crowd.
-    guesses: Guesses,
+/// New numbers of documents, of which a dead one has none. Contracts see the list of these.
+pub(crate) struct DocMap {
+    numbers: Vec<Option<u32>>,
+    /// The first number, where no document is dead: they are in a row then.
+    first: Option<u32>,
 }
 
-impl Model for Numbering {
-    ghost use Rattle.std.specs.Prelude.{List, ℕ};
+impl Model for DocMap {
+    ghost use Rattle.std.specs.Prelude.{IfSome, List, Option, ℕ};
+    ghost use Rattle.fts_segment.specs.Parts.{AreInARow};
 
-    ghost Value = { List (List ℕ) };
+    ghost Value = { List (Option ℕ) };
 
-    ghost view = { λ t. t.names };
+    ghost view = { λ n. n.numbers.items };
+
+    ghost invariant = { λ n. IfSome n.first (AreInARow n.numbers.items) };
 }
 
-impl Numbering {
-    /// No term.
-    pub(crate) fn new(alloc: Global) -> Numbering
-        ensures { result ≡ [] }
+impl Drop for DocMap {
+    fn drop(self) {
+        let DocMap { numbers, first: _ } = self;
+        release(numbers);
+    }
+}
+
+impl DocMap {
+    /// The new number of each document, where the first live one gets the number `first`.
+    pub(crate) fn new(alloc: Global, first: u32, live: &Bits) -> Result<DocMap, AllocError>
+        requires { first + count_by (λ bit. bit) live.now < 2 ^ 32 }
+        ensures { IfOk result (λ numbers. numbers ≡ renumbered first live.now) }
     {
-        Numbering {
-            alloc,
-            names: Names::new(alloc),
-            guesses: Guesses::new(alloc),
+        let numbers = renumber(alloc, first, live)?;
+        let first = first_in_a_row(first, live);
+        Ok(DocMap { numbers, first })
+    }
+
+    /// The new number of a document, if it has one.
+    pub(crate) fn get(&self, doc: u32) -> Option<u32>
+        ensures { result ≡ number_in (slice_get self.now doc) }
+    {
+        match self.numbers.get(doc as usize) {
+            Some(Some(number)) => Some(*number),
+            Some(None) | None => None,
         }
     }
 
-    /// The terms, in the order of their numbers.
-    pub(crate) fn into_names(self) -> Names
-        ensures { result ≡ self }
+    /// The number of the first document, if none is dead.
+    pub(crate) fn first(&self) -> Option<u32>
+        ensures { IfSome result (AreInARow self.now) }
     {
-        self.guesses.release();
-        self.names
+        self.first
     }
+}
 
-    /// A number of a term, which takes the next one if none is found.
-    pub(crate) fn number(&mut self, term: &str) -> Result<usize, AllocError>
-        ensures ok { IfOk result (λ id. slice_get self.new id ≡ Some term.now) }
-        ensures stay { GoesOn self.old self.new }
-    {
-        let name = term.as_bytes();
-        let hash = hash_of(name);
-        if let Some(id) = self.guesses.find(&self.names, hash, name) {
-            return Ok(id);
-        }
-        let id = self.names.len();
-        self.names.push(&Name::new(name))?;
-        self.guesses.put(self.alloc, hash, id);
-        Ok(id)
+/// The first number, where all documents are live.
+fn first_in_a_row(first: u32, live: &Bits) -> Option<u32>
+    requires { first + count_by (λ bit. bit) live.now < 2 ^ 32 }
+    ensures { IfSome result (AreInARow (renumbered first live.now)) }
+{
+    if live.is_all_set() { Some(first) } else { None }
+}
+
+/// The new number of each document, where the first live one gets the number `first`; a dead one has none.
+fn renumber(alloc: Global, first: u32, live: &Bits) -> Result<Vec<Option<u32>>, AllocError>
+    requires { first + count_by (λ bit. bit) live.now < 2 ^ 32 }
+    ensures { IfOk result (λ numbers. numbers.items ≡ renumbered first live.now) }
+{
+    let mut numbers = Vec::with_capacity(alloc, live.len())?;
+    let mut next = first;
+    for document in 0..live.len() {
+        next = push_number(&mut numbers, next, live.get(document))?;
+    }
+    Ok(numbers)
+}
+
+/// Puts the number of one document more after the others, and gives the next number.
+fn push_number(numbers: &mut Vec<Option<u32>>, next: u32, live: bool) -> Result<u32, AllocError>
+    requires { live ≡ true → next + 1 < 2 ^ 32 }
+    ensures numbers { OnOk result (numbers.new.items
+        ≡ numbers.old.items ++ (if live then Some next else None) ∷ []) }
+    ensures next { IfOk result (λ n. n ≡ (if live then next + 1 else next)) }
+{
+    if live {
+        numbers.push(Some(next))?;
+        Ok(next + 1)
+    } else {
+        numbers.push(None)?;
+        Ok(next)
     }
 }

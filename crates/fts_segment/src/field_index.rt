@@ -7,19 +7,19 @@ ghost use Rattle.fts_segment.specs.ListIds.{documents_in, positions_in};
 ghost use Rattle.fts_segment.specs.Occurrences.{holds, values_in};
 ghost use Rattle.fts_segment.specs.Segments.{numbers_where};
 ghost use Rattle.fts_segment.specs.Positions.{value_position_lists};
-ghost use Rattle.fts_segment.specs.Ordered.{IsOrdered, column_of};
+ghost use Rattle.fts_segment.specs.SortedColumns.{IsOrdered, column_of};
 ghost use Rattle.fts_model.specs.Limits.{most_merged};
 ghost use Rattle.fts_model.specs.Operations.{kind_at};
 ghost use Rattle.fts_model.specs.Schemas.{holds_numbers, is_ordered};
 ghost use Rattle.fts_segment.specs.Sources.{contents, live_count};
 
 use crate::dictionary::Dictionary;
-use crate::joint_terms::joined_terms;
+use crate::dictionary_merge::merge_dictionaries;
 use crate::keyword_index::KeywordIndex;
 use crate::number_index::{NumberIndex, number_in};
-use crate::ordered::Ordered;
+use crate::sorted_column::SortedColumn;
 use crate::segment::ListId;
-use crate::source::Source;
+use crate::live_segment::LiveSegment;
 use fts_model::{Document, FieldValue, Kind, Stamped};
 use std::alloc::{AllocError, Global};
 
@@ -61,7 +61,7 @@ impl FieldIndex {
     /// The index of a field of this kind in the live documents of sources.
     pub(crate) fn joined(
         alloc: Global,
-        sources: &[Source<'_>],
+        sources: &[LiveSegment<'_>],
         documents: &[Stamped<Document>],
         field: usize,
         kind: Kind,
@@ -74,7 +74,7 @@ impl FieldIndex {
     {
         match kind {
             Kind::Text => {
-                let dictionary = joined_terms(alloc, sources, field, kind)?;
+                let dictionary = merge_dictionaries(alloc, sources, field, kind)?;
                 Ok(FieldIndex::Terms(dictionary))
             }
             Kind::Keyword => {
@@ -102,20 +102,20 @@ impl FieldIndex {
     }
 
     /// The numbers of a number field in order, or the ordinals of a keyword field.
-    pub(crate) fn ordered(&self, kind: Kind) -> Ordered<'_>
+    pub(crate) fn ordered(&self, kind: Kind) -> SortedColumn<'_>
         requires ordered { is_ordered kind ≡ true }
         requires is { (vs : List (Option FieldValue)) × IsFieldIndex kind vs self.now }
         ensures { (vs : List (Option FieldValue)) → IsFieldIndex kind vs self.now
             → IsOrdered (column_of kind vs) result }
     {
         match self {
-            FieldIndex::Keywords(index) => Ordered {
+            FieldIndex::Keywords(index) => SortedColumn {
                 column: &index.ordinals,
                 numbers: None,
                 lists: &index.dictionary.lists,
                 sums: &index.sums,
             },
-            FieldIndex::Numbers(index) => Ordered {
+            FieldIndex::Numbers(index) => SortedColumn {
                 column: &index.column,
                 numbers: Some(index.numbers.as_slice()),
                 lists: &index.lists,

@@ -11,8 +11,8 @@ ghost use Rattle.fts_segment.specs.Sources.{contents, live_count};
 ghost use Rattle.fts_segment.specs.Between.{AreKeyed, NumberColumn};
 
 use crate::dictionary::Dictionary;
-use crate::joint_terms::joined_terms;
-use crate::source::Source;
+use crate::dictionary_merge::merge_dictionaries;
+use crate::live_segment::LiveSegment;
 use crate::sums::sums_of;
 use fts_base::release;
 use fts_model::{Document, Kind, Stamped};
@@ -59,7 +59,7 @@ impl KeywordIndex {
     /// The texts of the live documents of sources in a keyword field.
     pub(crate) fn joined(
         alloc: Global,
-        sources: &[Source<'_>],
+        sources: &[LiveSegment<'_>],
         documents: &[Stamped<Document>],
         field: usize,
     ) -> Result<KeywordIndex, AllocError>
@@ -69,7 +69,7 @@ impl KeywordIndex {
         requires kinds { All (λ source. kind_at source.segment.schema field ≡ Some kinds.Keyword) sources.now }
         ensures { IfOk result (AreKeywords kinds.Keyword (values_in field documents.now)) }
     {
-        let dictionary = joined_terms(alloc, sources, field, Kind::Keyword)?;
+        let dictionary = merge_dictionaries(alloc, sources, field, Kind::Keyword)?;
         let index = KeywordIndex::of(alloc, documents.len(), dictionary)?;
         Ok(index)
     }

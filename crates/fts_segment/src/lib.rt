@@ -5,7 +5,7 @@
 //! where it is in each ([`Segment::positions`], a [`PositionReader`]). Of a number field it has a column
 //! ([`Segment::column`]), and it knows how many documents have a number within bounds
 //! ([`Segment::documents_between`]). A copy of a segment shares it, so that commits, merges and searches hand segments
-//! on at the cost of one count. [`join`] makes one segment of the live documents of several, each a [`Source`].
+//! on at the cost of one count. [`join`] makes one segment of the live documents of several, each a [`LiveSegment`].
 //!
 //! ```text
 //! let mut builder = Builder::new(alloc, &schema)?;
@@ -18,35 +18,35 @@
 #![tactic(auto)]
 
 mod builder;
-mod decoded_list;
-mod decoded_lists;
+mod block_reader;
+mod position_copier;
 mod dictionary;
-mod doc_map;
+mod term_ids;
 mod field_index;
-mod guesses;
-mod joint_terms;
+mod id_cache;
+mod dictionary_merge;
 mod keyword_index;
 pub mod laws;
-mod lookup;
-mod moves;
+mod binary_search;
+mod copy_postings;
 mod names;
-mod new_numbers;
+mod doc_map;
 mod number_index;
-mod occurrences;
-mod ordered;
-mod part;
+mod token_log;
+mod sorted_column;
+mod term_stream;
 mod position_lists;
 mod position_reader;
 mod positions;
 mod postings_writer;
 mod segment;
 mod segment_join;
-mod source;
+mod live_segment;
 mod sums;
 mod term_groups;
-mod term_join;
+mod term_merge;
 mod term_log;
-mod term_order;
+mod sorted_names;
 mod term_positions;
 
 pub use builder::Builder;
@@ -54,4 +54,4 @@ pub use position_reader::PositionReader;
 pub use positions::Positions;
 pub use segment::{ListId, Segment};
 pub use segment_join::join;
-pub use source::Source;
+pub use live_segment::LiveSegment;

@@ -11,7 +11,7 @@ ghost use Rattle.fts_segment.specs.ListIds.{documents_in, positions_in};
 ghost use Rattle.fts_segment.specs.NumberLogs.{NumberLog};
 ghost use Rattle.fts_segment.specs.Sums.{sums_from};
 
-use crate::lookup::find_number;
+use crate::binary_search::find_number;
 use crate::postings_writer::set_docs;
 use crate::segment::ListId;
 use crate::sums::sums_of;

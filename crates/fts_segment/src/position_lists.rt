@@ -6,26 +6,26 @@ ghost use Rattle.fts_segment.specs.PositionLists.{IsPositionList};
 ghost use Rattle.fts_segment.specs.PositionListBounds.{AreBounds};
 ghost use Rattle.fts_segment.specs.PositionListLogs.{IsPositionListLog, logged_position_lists};
 ghost use Rattle.fts_segment.specs.PositionsLeft.{positions_left};
-ghost use Rattle.fts_segment.specs.UnpackedLists.{lists_in};
+ghost use Rattle.fts_segment.specs.PositionCopiers.{lists_in};
 
-use crate::decoded_lists::UnpackedLists;
+use crate::position_copier::PositionCopier;
 use crate::positions::Positions;
 use fts_base::release;
-use fts_pack::{BLOCK, Numbers, push_gaps};
+use fts_pack::{BLOCK, PackedNumbers, push_gaps};
 use std::alloc::{AllocError, Global};
 use std::marker::Model;
 
 /// The positions of postings, a list for each. Contracts see the list of these lists.
 ///
 /// A list is found by the counts of the 128 lists of its block, which are added up once, as long as lists of this block
-/// are asked for ([`Bounds`]). No position of another list is unpacked.
+/// are asked for ([`BlockBounds`]). No position of another list is unpacked.
 pub(crate) struct PositionLists {
     /// How many positions each list has.
-    counts: Numbers,
+    counts: PackedNumbers,
     /// Where the positions of the first of each 128 lists begin.
     starts: Vec<usize>,
     /// Of each list its first position, and then how far each one is above the one before, less 1.
-    gaps: Numbers,
+    gaps: PackedNumbers,
 }
 
 impl Model for PositionLists {
@@ -73,15 +73,15 @@ impl PositionLists {
     }
 
     /// The lists, as they are moved to a log.
-    pub(crate) fn unpacked(&self) -> UnpackedLists<'_>
+    pub(crate) fn unpacked(&self) -> PositionCopier<'_>
         ensures { lists_in result ≡ self.now }
     {
-        UnpackedLists::new(&self.counts, &self.gaps)
+        PositionCopier::new(&self.counts, &self.gaps)
     }
 
     /// The list of this number, and no positions if there is none.
     #[inline(always)]
-    pub(crate) fn get(&self, number: usize, bounds: &mut Bounds) -> Positions<'_>
+    pub(crate) fn get(&self, number: usize, bounds: &mut BlockBounds) -> Positions<'_>
         requires bounds { AreBounds self.now bounds.old }
         ensures bounds { AreBounds self.now bounds.new }
         ensures positions { positions_left result ≡ slice_index_or self.now number [] }
@@ -95,7 +95,7 @@ impl PositionLists {
     }
 
     /// Looks where the lists of a block begin and end, unless that is the block that was looked at last.
-    fn enter(&self, block: usize, bounds: &mut Bounds)
+    fn enter(&self, block: usize, bounds: &mut BlockBounds)
         requires within { block < block_count (length self.now) }
         requires bounds { AreBounds self.now bounds.old }
         ensures block { bounds.new.block ≡ Some block }
@@ -112,10 +112,10 @@ impl PositionLists {
 }
 
 /// Packs numbers, and lets the buffer go that had them.
-fn packed(alloc: Global, numbers: Vec<u32>) -> Result<Numbers, AllocError>
+fn packed(alloc: Global, numbers: Vec<u32>) -> Result<PackedNumbers, AllocError>
     ensures { IfOk result (λ packed. packed ≡ numbers.items) }
 {
-    let Ok(packed) = Numbers::build(alloc, &numbers) else {
+    let Ok(packed) = PackedNumbers::build(alloc, &numbers) else {
         return Err(AllocError);
     };
     release(numbers);
@@ -139,22 +139,22 @@ fn add_up(start: usize, counts: &[u32], out: &mut [usize; 129])
 
 /// Where the lists of a block begin and end among the differences, if one was looked at.
 #[derive(Drop)]
-pub(crate) struct Bounds {
+pub(crate) struct BlockBounds {
     /// Which block it is.
     pub(crate) block: Option<usize>,
     /// Where each list of the block begins, and after these where the last one ends.
     pub(crate) at: [usize; 129],
 }
 
-impl Bounds {
+impl BlockBounds {
     ghost use Rattle.std.specs.Prelude.{List, ℕ};
     ghost use Rattle.fts_segment.specs.PositionListBounds.{AreBounds};
 
     /// Of no block.
-    pub(crate) fn new() -> Bounds
+    pub(crate) fn new() -> BlockBounds
         ensures { (lists : List (List ℕ)) → AreBounds lists result }
     {
-        Bounds {
+        BlockBounds {
             block: None,
             at: [0; 129],
         }

@@ -3,7 +3,7 @@ ghost use Rattle.std.specs.Prelude.{◌≡◌, [], slice_index_or};
 ghost use Rattle.fts_segment.specs.ListIds.{positions_of};
 ghost use Rattle.fts_segment.specs.PositionsLeft.{positions_left};
 
-use crate::position_lists::Bounds;
+use crate::position_lists::BlockBounds;
 use crate::positions::Positions;
 use crate::term_positions::TermPositionLists;
 use std::marker::Model;
@@ -14,7 +14,7 @@ use std::marker::Model;
 #[derive(Drop)]
 pub struct PositionReader<'a> {
     term: Option<TermPositionLists<'a>>,
-    bounds: Bounds,
+    bounds: BlockBounds,
 }
 
 impl<'a> Model for PositionReader<'a> {
@@ -38,7 +38,7 @@ impl<'a> PositionReader<'a> {
     {
         PositionReader {
             term,
-            bounds: Bounds::new(),
+            bounds: BlockBounds::new(),
         }
     }
 

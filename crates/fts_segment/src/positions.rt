@@ -3,13 +3,13 @@ ghost use Rattle.std.specs.Prelude.{◌≤◌, ◌<◌, ◌^◌, All, length, sl
 ghost use Rattle.fts_pack.specs.Documents.{documents_at};
 ghost use Rattle.fts_segment.specs.PositionLists.{numbers_behind};
 
-use fts_pack::Numbers;
+use fts_pack::PackedNumbers;
 
 /// The positions of a term in a document, rising.
 #[derive(Drop)]
 pub struct Positions<'a> {
     /// Where the differences lie, if there are any.
-    gaps: Option<&'a Numbers>,
+    gaps: Option<&'a PackedNumbers>,
     at: usize,
     end: usize,
     /// The least that the next position may be.
@@ -38,7 +38,7 @@ impl<'a> Positions<'a> {
 
     /// Those whose differences these numbers are.
     #[inline(always)]
-    pub(crate) fn between(gaps: &'a Numbers, start: usize, end: usize) -> Positions<'a>
+    pub(crate) fn between(gaps: &'a PackedNumbers, start: usize, end: usize) -> Positions<'a>
         requires within { end ≤ length gaps.now }
         requires fit { All (λ p. p < 2 ^ 32) (documents_at 0 (slice_range gaps.now start end)) }
         ensures { positions_left result ≡ documents_at 0 (slice_range gaps.now start end) }

@@ -8,7 +8,7 @@ ghost use Rattle.fts_segment.specs.PositionLogs.{IsPositionLog, logged_term_posi
 
 use crate::dictionary::Dictionary;
 use crate::names::{Name, Names};
-use crate::term_groups::{Place, TermGroups};
+use crate::term_groups::{DocPosition, TermGroups};
 use crate::term_positions::{PositionLog, TermPositions};
 use fts_base::release;
 use std::alloc::{AllocError, Global};
@@ -22,7 +22,7 @@ pub(crate) struct PostingsWriter {
 }
 
 /// Makes `docs` the documents of places, each once.
-pub(crate) fn set_docs(docs: &mut Vec<u32>, places: &[Place]) -> Result<(), AllocError>
+pub(crate) fn set_docs(docs: &mut Vec<u32>, places: &[DocPosition]) -> Result<(), AllocError>
     ensures { OnOk result (docs.new.items ≡ docs_in places.now) }
 {
     docs.clear();
@@ -68,7 +68,7 @@ impl PostingsWriter {
         alloc: Global,
         room: &mut Vec<u32>,
         name: &[u8],
-        places: &[Place],
+        places: &[DocPosition],
     ) -> Result<(), AllocError>
         requires rise { IsStrictlyIncreasing (docs_in places.now) }
         requires positions { All IsPositionList (position_lists_of places.now) }
@@ -145,7 +145,7 @@ pub(crate) fn put(
     alloc: Global,
     room: &mut Vec<u32>,
     name: &[u8],
-    places: &[Place],
+    places: &[DocPosition],
 ) -> Result<(), AllocError>
     requires rise { IsStrictlyIncreasing (docs_in places.now) }
     requires positions { All IsPositionList (position_lists_of places.now) }

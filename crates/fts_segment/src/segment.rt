@@ -11,15 +11,15 @@ ghost use Rattle.fts_segment.specs.FieldIndexes.{AreTerms, NumbersFit};
 ghost use Rattle.fts_segment.specs.Occurrences.{values_in};
 ghost use Rattle.fts_segment.specs.Segments.{postings, positions, column, keywords, ordinals};
 ghost use Rattle.fts_segment.specs.Between.{AreBetween, count_between};
-ghost use Rattle.fts_segment.specs.Ordered.{IsOrdered, column_in};
+ghost use Rattle.fts_segment.specs.SortedColumns.{IsOrdered, column_in};
 ghost use Rattle.fts_segment.specs.Keywords.{before, text_in_value, up_to};
 ghost use Rattle.fts_model.specs.declared.schema.Kind.TheVariants as kinds;
 ghost use Rattle.fts_segment.specs.ListIds.{documents_in, positions_in};
 
 use crate::dictionary::Dictionary;
 use crate::field_index::FieldIndex;
-use crate::lookup::equal_range;
-use crate::ordered::Ordered;
+use crate::binary_search::equal_range;
+use crate::sorted_column::SortedColumn;
 use crate::position_reader::PositionReader;
 use crate::term_positions::TermPositionLists;
 use fts_base::release;
@@ -38,15 +38,15 @@ pub struct ListId<'a> {
 }
 
 /// What a segment shares with its copies.
-pub(crate) struct Stored {
+pub(crate) struct SegmentData {
     pub(crate) schema: Schema,
     pub(crate) documents: Vec<Stamped<Document>>,
     pub(crate) indexes: Vec<FieldIndex>,
 }
 
-impl Drop for Stored {
+impl Drop for SegmentData {
     fn drop(self) {
-        let Stored {
+        let SegmentData {
             schema: _,
             documents,
             indexes: _,
@@ -55,13 +55,13 @@ impl Drop for Stored {
     }
 }
 
-impl Stored {
+impl SegmentData {
     /// The schema and the documents alone.
     pub(crate) fn into_documents(self) -> (Schema, Vec<Stamped<Document>>)
         ensures schema { result.0 ≡ self.schema }
         ensures documents { result.1.items ≡ self.documents.items }
     {
-        let Stored {
+        let SegmentData {
             schema,
             documents,
             indexes: _,
@@ -73,7 +73,7 @@ impl Stored {
 /// Documents with their stamps, numbered from 0. Contracts see its schema and the documents. A copy shares them.
 #[derive(Drop)]
 pub struct Segment {
-    pub(crate) stored: Arc<Stored>,
+    pub(crate) stored: Arc<SegmentData>,
 }
 
 impl Model for Segment {
@@ -81,7 +81,7 @@ impl Model for Segment {
 
     ghost Value = { SegmentValue };
 
-    ghost use Rattle.fts_segment.specs.Stored.{stored_value, IsStored};
+    ghost use Rattle.fts_segment.specs.SegmentData.{stored_value, IsStored};
 
     ghost view = { stored_value };
 
@@ -130,7 +130,7 @@ impl Segment {
         ensures positions { IfSome result
             (λ list. positions_in list ≡ positions self.now term.now) }
     {
-        let stored: &Stored = &self.stored;
+        let stored: &SegmentData = &self.stored;
         let index = stored.indexes.get(term.field)?;
         index.find(stored.schema.kind(term.field), &term.value)
     }
@@ -188,13 +188,13 @@ impl Segment {
     }
 
     /// The numbers of a number field in order, or the ordinals of a keyword field.
-    fn ordered(&self, field: usize) -> Ordered<'_>
+    fn ordered(&self, field: usize) -> SortedColumn<'_>
         requires { is_ordered_field self.now.schema field ≡ true }
         ensures is { IsOrdered (column_in self.now field) result }
         ensures fit { (kind : Kind) → kind_at self.now.schema field ≡ Some kind
             → NumbersFit kind field self.now.documents }
     {
-        let stored: &Stored = &self.stored;
+        let stored: &SegmentData = &self.stored;
         stored.indexes[field].ordered(stored.schema.kind(field))
     }
 
@@ -204,7 +204,7 @@ impl Segment {
         ensures { (kind : Kind) → kind_at self.now.schema field ≡ Some kind
             → AreTerms kind (values_in field self.now.documents) result.now }
     {
-        let stored: &Stored = &self.stored;
+        let stored: &SegmentData = &self.stored;
         stored.indexes[field].dictionary(stored.schema.kind(field))
     }
 

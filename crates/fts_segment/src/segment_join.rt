@@ -11,8 +11,8 @@ ghost use Rattle.fts_segment.specs.Segments.{AllFit, AreDocuments};
 ghost use Rattle.fts_segment.specs.Sources.{AreOfOneSchema, both, contents, joined_segment, live_count, schema_of};
 
 use crate::field_index::FieldIndex;
-use crate::segment::{Segment, Stored};
-use crate::source::Source;
+use crate::segment::{Segment, SegmentData};
+use crate::live_segment::LiveSegment;
 use fts_model::{Document, Refusal, Schema, Stamped};
 use fts_pack::bits::Bits;
 use std::alloc::{AllocError, Global};
@@ -42,7 +42,7 @@ fn take_document(
 }
 
 /// Takes the live documents of a source.
-fn take_live(documents: &mut Vec<Stamped<Document>>, source: &Source<'_>) -> Result<(), AllocError>
+fn take_live(documents: &mut Vec<Stamped<Document>>, source: &LiveSegment<'_>) -> Result<(), AllocError>
     ensures documents { OnOk result (documents.new.items
         ≡ documents.old.items ++ content_of source.now.segment source.now.live) }
     ensures fit { AllFit source.now.segment.schema source.now.segment.documents }
@@ -57,7 +57,7 @@ fn take_live(documents: &mut Vec<Stamped<Document>>, source: &Source<'_>) -> Res
 }
 
 /// The live documents of sources.
-fn documents_of(alloc: Global, sources: &[Source<'_>]) -> Result<Vec<Stamped<Document>>, AllocError>
+fn documents_of(alloc: Global, sources: &[LiveSegment<'_>]) -> Result<Vec<Stamped<Document>>, AllocError>
     requires { AreOfOneSchema sources.now }
     ensures documents { IfOk result (λ documents. documents.items ≡ contents sources.now) }
     ensures fit { OnOk result (AllFit (schema_of sources.now) (contents sources.now)) }
@@ -76,7 +76,7 @@ fn documents_of(alloc: Global, sources: &[Source<'_>]) -> Result<Vec<Stamped<Doc
 fn indexes_of(
     alloc: Global,
     schema: &Schema,
-    sources: &[Source<'_>],
+    sources: &[LiveSegment<'_>],
     documents: &[Stamped<Document>],
 ) -> Result<Vec<FieldIndex>, AllocError>
     requires schemas { All (λ source. source.segment.schema ≡ schema.now) sources.now }
@@ -93,7 +93,7 @@ fn indexes_of(
     Ok(indexes)
 }
 
-fn joined(alloc: Global, sources: &[Source<'_>]) -> Result<Segment, AllocError>
+fn joined(alloc: Global, sources: &[LiveSegment<'_>]) -> Result<Segment, AllocError>
     requires some { 0 < length sources.now }
     requires schemas { AreOfOneSchema sources.now }
     requires few { live_count sources.now ≤ most_merged }
@@ -102,7 +102,7 @@ fn joined(alloc: Global, sources: &[Source<'_>]) -> Result<Segment, AllocError>
     let schema = sources[0].segment().schema().clone()?;
     let documents = documents_of(alloc, sources)?;
     let indexes = indexes_of(alloc, &schema, sources, &documents)?;
-    let stored = Stored {
+    let stored = SegmentData {
         schema,
         documents,
         indexes,
@@ -114,7 +114,7 @@ fn joined(alloc: Global, sources: &[Source<'_>]) -> Result<Segment, AllocError>
 }
 
 /// Whether sources have this many documents at most.
-fn are_few(sources: &[Source<'_>], most: usize) -> bool {
+fn are_few(sources: &[LiveSegment<'_>], most: usize) -> bool {
     let mut room = most;
     for source in sources {
         let docs = source.segment().docs();
@@ -142,8 +142,8 @@ fn joined_both(
         ≡ joined_segment (both first.now first_live.now second.now second_live.now)) }
 {
     let sources = [
-        Source::new(first, first_live),
-        Source::new(second, second_live),
+        LiveSegment::new(first, first_live),
+        LiveSegment::new(second, second_live),
     ];
     let segment = joined(alloc, &sources)?;
     Ok(segment)
@@ -164,7 +164,7 @@ const MOST_AT_ONCE: usize = 16;
 
 /// One segment of the live documents of sources. Where they are many, each half is joined before, so that a term is
 /// compared with those of few others.
-fn joined_by_halves(alloc: Global, sources: &[Source<'_>]) -> Result<Segment, AllocError>
+fn joined_by_halves(alloc: Global, sources: &[LiveSegment<'_>]) -> Result<Segment, AllocError>
     requires some { 0 < length sources.now }
     requires schemas { AreOfOneSchema sources.now }
     requires few { live_count sources.now ≤ most_merged }
@@ -186,8 +186,8 @@ fn joined_by_halves(alloc: Global, sources: &[Source<'_>]) -> Result<Segment, Al
 /// One segment of the live documents of a source and of others after it, where the others are joined before.
 fn joined_in_turn(
     alloc: Global,
-    first: &Source<'_>,
-    others: &[Source<'_>],
+    first: &LiveSegment<'_>,
+    others: &[LiveSegment<'_>],
 ) -> Result<Segment, AllocError>
     requires some { 0 < length others.now }
     requires schemas { AreOfOneSchema (first.now ∷ others.now) }
@@ -203,7 +203,7 @@ fn joined_in_turn(
 /// One segment of the live documents of sources, of which there is at least one and all have one schema. The documents
 /// are in the order of the sources, and those of a source in the order of their numbers. They are handles, and the
 /// terms in them are joined of those of the sources: no text is read again.
-pub fn join(alloc: Global, sources: &[Source<'_>]) -> Result<Segment, Refusal>
+pub fn join(alloc: Global, sources: &[LiveSegment<'_>]) -> Result<Segment, Refusal>
     requires some { 0 < length sources.now }
     requires schemas { AreOfOneSchema sources.now }
     requires few { live_count sources.now ≤ most_merged }

@@ -3,10 +3,10 @@ ghost use Rattle.std.specs.Prelude.{◌≡◌, ◌<◌, length, map, All};
 ghost use Rattle.fts_segment.specs.TermLogs.{by_ordinal};
 
 use crate::dictionary::Dictionary;
-use crate::doc_map::Numbering;
+use crate::term_ids::TermIds;
 use crate::postings_writer::write_terms;
 use crate::term_groups::TermGroups;
-use crate::term_order::{SortedNames, sorted};
+use crate::sorted_names::{SortedNames, sort_names};
 use fts_base::release;
 use std::alloc::{AllocError, Global};
 use std::marker::Model;
@@ -22,7 +22,7 @@ pub(crate) struct Occurrence {
 /// The occurrences of terms, in the order in which they came. Contracts see them as a list.
 #[derive(Drop)]
 pub(crate) struct TermLog {
-    terms: Numbering,
+    terms: TermIds,
     log: Vec<Occurrence>,
 }
 
@@ -53,7 +53,7 @@ impl TermLog {
         ensures { result ≡ [] }
     {
         TermLog {
-            terms: Numbering::new(alloc),
+            terms: TermIds::new(alloc),
             log: Vec::new(alloc),
         }
     }
@@ -63,7 +63,7 @@ impl TermLog {
         ensures { OnOk result (self.new
             ≡ self.old ++ record { term = term.now; doc = doc; position = position } ∷ []) }
     {
-        let number = self.terms.number(term)?;
+        let number = self.terms.id_of(term)?;
         // 2^32 terms take over 100 GB, so a number that has no room in 32 bits is refused as memory.
         let Ok(term) = u32::try_from(number) else {
             return Err(AllocError);
@@ -86,7 +86,7 @@ impl TermLog {
     {
         let TermLog { terms, mut log } = self;
         let terms = terms.into_names();
-        let SortedNames { names, ordinals } = sorted(alloc, &terms)?;
+        let SortedNames { names, ordinals } = sort_names(alloc, &terms)?;
         put_in_order(&mut log, &ordinals);
         let groups = TermGroups::new(alloc, &log, names.len())?;
         // Log and groups are the largest of all, so each goes before more is made.

@@ -4,9 +4,9 @@ ghost use Rattle.fts_segment.specs.Positions.{position_lists_of};
 ghost use Rattle.fts_segment.specs.PositionLists.{IsPositionList};
 ghost use Rattle.fts_segment.specs.PositionListLogs.{IsPositionListLog, logged_position_lists};
 
-use crate::position_lists::{Bounds, PositionListLog, PositionLists};
+use crate::position_lists::{BlockBounds, PositionListLog, PositionLists};
 use crate::positions::Positions;
-use crate::term_groups::Place;
+use crate::term_groups::DocPosition;
 use fts_base::{release, start_of};
 use std::alloc::{AllocError, Global};
 
@@ -70,7 +70,7 @@ impl<'a> TermPositionLists<'a> {
 
     /// The positions in the document of a posting, and none if there is no such posting.
     #[inline(always)]
-    pub(crate) fn get(self, posting: usize, bounds: &mut Bounds) -> Positions<'a>
+    pub(crate) fn get(self, posting: usize, bounds: &mut BlockBounds) -> Positions<'a>
         requires bounds { AreBounds self.lists.now bounds.old }
         ensures bounds { AreBounds self.entry.lists.now bounds.new }
         ensures positions { positions_left result ≡ slice_index_or (position_lists_in self.entry) posting [] }
@@ -113,7 +113,7 @@ impl PositionLog {
     }
 
     /// Puts the positions of a term after those of the others. `list` is room for those of a posting.
-    pub(crate) fn push(&mut self, list: &mut Vec<u32>, places: &[Place]) -> Result<(), AllocError>
+    pub(crate) fn push(&mut self, list: &mut Vec<u32>, places: &[DocPosition]) -> Result<(), AllocError>
         requires is { IsPositionLog self.old }
         requires positions { All IsPositionList (position_lists_of places.now) }
         ensures is { OnOk result (IsPositionLog self.new) }
@@ -143,7 +143,7 @@ fn push_place(
     lists: &mut PositionListLog,
     list: &mut Vec<u32>,
     doc: u32,
-    place: Place,
+    place: DocPosition,
 ) -> Result<(), AllocError>
     requires is { IsPositionListLog lists.old }
     requires list { place.doc ≢ doc → IsPositionList list.old.items }
@@ -165,7 +165,7 @@ fn push_place(
 fn push_position_lists(
     lists: &mut PositionListLog,
     list: &mut Vec<u32>,
-    places: &[Place],
+    places: &[DocPosition],
 ) -> Result<(), AllocError>
     requires is { IsPositionListLog lists.old }
     requires positions { All IsPositionList (position_lists_of places.now) }

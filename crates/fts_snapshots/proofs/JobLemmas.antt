@@ -6,7 +6,7 @@ use Rattle.fts_base.specs.declared.refusal.Refusal.{Refusal}
 use Rattle.fts_base.specs.declared.refusal.Refusal.TheVariants.{Memory}
 use Rattle.fts_snapshots.specs.Entries.{EntryValue, has_live}
 use Rattle.fts_snapshots.specs.Jobs.{entry_of}
-use Rattle.fts_snapshots.specs.declared.commits.jobs.CommitJob.{CommitJob}
+use Rattle.fts_snapshots.specs.declared.commits.commit_job.CommitJob.{CommitJob}
 
 -- one job's segment more
 pub kept_in_turn : (jobs : List CommitJob) (i : ℕ) (d job : CommitJob) (entry : EntryValue) (kept : List EntryValue) → i < length jobs → job ≡ get_or jobs i d →

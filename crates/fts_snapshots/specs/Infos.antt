@@ -2,8 +2,8 @@
 use Rattle.std.specs.Prelude.{ℕ, List, [], ◌∷◌, ◌++◌, length, map, slice_get, sum_by}
 use Rattle.std.specs.Option.{option_map_or}
 use Rattle.fts_merge.specs.Levels.{candidates, candidates_by}
-use Rattle.fts_merge.specs.declared.policy.MergePolicy.{MergePolicy}
-use Rattle.fts_merge.specs.declared.policy.SegmentSize.{SegmentSize}
+use Rattle.fts_merge.specs.declared.merge_policy.MergePolicy.{MergePolicy}
+use Rattle.fts_merge.specs.declared.merge_policy.SegmentSize.{SegmentSize}
 use Rattle.fts_snapshots.specs.Entries.{EntryValue, live_count}
 use Rattle.fts_snapshots.specs.Merges.{entries_at, without}
 use Rattle.fts_snapshots.specs.Snapshots.{SnapshotValue}

@@ -6,9 +6,9 @@ use Rattle.fts_base.specs.declared.refusal.Refusal.{Refusal}
 use Rattle.fts_base.specs.declared.refusal.Refusal.TheVariants.{Memory}
 use Rattle.fts_snapshots.specs.Entries.{EntryValue}
 use Rattle.fts_snapshots.specs.Commits.{struck, fresh}
-use Rattle.fts_snapshots.specs.declared.commits.jobs.CommitJob.{CommitJob}
-use Rattle.fts_snapshots.specs.declared.commits.jobs.Task.{Task}
-use Rattle.fts_snapshots.specs.declared.commits.jobs.Task.TheVariants.{Strike, Build}
+use Rattle.fts_snapshots.specs.declared.commits.commit_job.CommitJob.{CommitJob}
+use Rattle.fts_snapshots.specs.declared.commits.commit_job.Task.{Task}
+use Rattle.fts_snapshots.specs.declared.commits.commit_job.Task.TheVariants.{Strike, Build}
 
 -- the segment that a task leaves
 abbrev pub entry_of_task : List (Stamped Op) → Task → EntryValue

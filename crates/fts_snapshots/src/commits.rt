@@ -1,13 +1,13 @@
 // A commit cuts the adds of a batch into new segments, and is a job for each, and for each old one if there is a delete.
 
-mod commit;
-mod cut;
+mod batch_jobs;
+mod segment_of_add;
 mod group;
-mod jobs;
+mod commit_job;
 mod new_segment;
 mod prepared_commit;
 
-pub(crate) use commit::entries_in_turn;
-pub use commit::push_live;
-pub use jobs::CommitJob;
+pub(crate) use batch_jobs::entries_in_turn;
+pub use batch_jobs::push_live;
+pub use commit_job::CommitJob;
 pub use prepared_commit::PreparedCommit;

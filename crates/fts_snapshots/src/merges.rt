@@ -1,13 +1,11 @@
 // A merge makes one segment of several: it is planned, begun, run in any thread and ended.
 
-mod end;
-mod job;
+mod candidates;
+pub(crate) mod end_entries;
+mod merge_job;
 mod merged_segment;
-mod plan;
-mod sources;
+pub(crate) mod named_entries;
 
-pub(crate) use end::end_entries;
-pub use job::MergeJob;
+pub(crate) use candidates::{candidates, candidates_by};
+pub use merge_job::MergeJob;
 pub use merged_segment::MergedSegment;
-pub(crate) use plan::{candidates, candidates_by};
-pub(crate) use sources::named_entries;

@@ -15,9 +15,9 @@ ghost use Rattle.fts_snapshots.specs.Snapshots.{IsBehind, IsSnapshot, GivesCommi
 
 use crate::commits::{PreparedCommit, entries_in_turn};
 use crate::entries::{EntryList, SegmentInfo};
-use crate::merges::{
-    MergeJob, MergedSegment, candidates, candidates_by, end_entries, named_entries,
-};
+use crate::merges::end_entries::end_entries;
+use crate::merges::named_entries::named_entries;
+use crate::merges::{MergeJob, MergedSegment, candidates, candidates_by};
 use fts_merge::MergePolicy;
 use fts_model::{Cut, Op, Refusal, Schema, Stamped};
 use std::alloc::{AllocError, Global};

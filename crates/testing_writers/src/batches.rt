@@ -23,7 +23,7 @@ pub fn delete(alloc: Global, tag: &str) -> Result<Op, Refusal> {
 }
 
 /// Submits operations to a round's one lane.
-fn filled(lane: Lane, ops: Vec<Op>) -> Result<LaneEnd, Refusal>
+fn submit_all(lane: Lane, ops: Vec<Op>) -> Result<LaneEnd, Refusal>
     ensures { IfOk result (λ end. SameLane lane end) }
 {
     let mut lane = lane;
@@ -41,7 +41,7 @@ pub fn batch_of(alloc: Global, writer: &mut Writer, ops: Vec<Op>) -> Result<Batc
     let Some(lane) = lanes.pop() else {
         return Err(Refusal::RoundOpen);
     };
-    let end = filled(lane, ops)?;
+    let end = submit_all(lane, ops)?;
     let ends = vec![in alloc; end]?;
     round.gather(alloc, ends).map_err(|e| e.2)
 }

@@ -4,7 +4,7 @@ ghost use Rattle.std.specs.Prelude.{◌≡◌, ◌+◌, ◌^◌, ◌<◌, ◌≤
 use fts_model::Refusal;
 use fts_pack::bits::Bits;
 use fts_pack::column::Column;
-use fts_pack::{BLOCK, Block, Blocks, List, Numbers};
+use fts_pack::{BLOCK, Block, Blocks, List, PackedNumbers};
 use std::alloc::{AllocError, Global};
 use std::process::Abort;
 
@@ -50,7 +50,7 @@ fn a_refused_block_can_be_packed_again(rt: HostRuntime) {
 }
 
 /// Each number by itself, and the blocks of them.
-fn check_numbers(rt: &impl Abort, packed: &Numbers, numbers: &[u32]) {
+fn check_numbers(rt: &impl Abort, packed: &PackedNumbers, numbers: &[u32]) {
     assert_eq!(rt; packed.len(), numbers.len());
     for index in 0..packed.len() {
         assert_eq!(rt; numbers.get(index).copied(), Some(packed.get(index)));
@@ -78,7 +78,7 @@ fn blocks_of(alloc: Global, width: u32) -> Result<Vec<u32>, AllocError> {
 fn numbers_of_every_width_come_back(rt: HostRuntime) {
     for width in 0..33u32 {
         let numbers = blocks_of(rt.alloc(), width).expect(&rt, "numbers");
-        let packed = Numbers::build(rt.alloc(), &numbers).expect(&rt, "packed numbers");
+        let packed = PackedNumbers::build(rt.alloc(), &numbers).expect(&rt, "packed numbers");
         check_numbers(&rt, &packed, &numbers);
     }
 }

@@ -11,10 +11,10 @@ ghost use Rattle.fts_index.specs.Publications.{opening, publication, published, 
 ghost use Rattle.fts_index.specs.Publications.{Follows, IsFront, IsOneCommit};
 ghost use Rattle.fts_index.specs.PublicationsHistory.{head_of};
 
-use crate::publications::history::{Append, Head, History, Nothing, Opened, SeenList};
+use crate::publications::publication_log::{Append, PublicationCount, PublicationRule, NoTrade, Opened, SeenPublications};
 use crate::publications::publication::Publication;
 use fts_model::{Schema, Stamp};
-use fts_snapshots::{Commit, Snapshot};
+use fts_snapshots::{CommitPoint, Snapshot};
 use logbook::{Offer, Seen, Start, Word};
 use std::alloc::{AllocError, Global};
 use std::marker::Model;
@@ -23,9 +23,9 @@ use std::sync::Arc;
 /// The list has no bytes, but for the number of its publications after the opening.
 #[derive(Drop)]
 pub struct Front {
-    commit: Arc<Commit>,
+    commit: Arc<CommitPoint>,
     count: u64,
-    seen: SeenList,
+    seen: SeenPublications,
 }
 
 impl Model for Front {
@@ -51,13 +51,13 @@ impl Model for Front {
 
 impl Front {
     /// The front of a new writer, and the word that it alone changes.
-    pub fn open(alloc: Global, snapshot: Snapshot) -> Result<(Front, Head), AllocError>
+    pub fn open(alloc: Global, snapshot: Snapshot) -> Result<(Front, PublicationCount), AllocError>
         requires { content_of snapshot ≡ [] }
         ensures front { IfOk result (λ r. (r.0.stamp ≡ 0) × (r.0.snapshot ≡ snapshot)) }
         ensures list { IfOk result (λ r. r.0.seen.list ≡ opening snapshot.schema ∷ []) }
         ensures head { IfOk result (λ r. r.1 ≡ head_of r.0.seen.of) }
     {
-        let commit = Arc::new(alloc, Commit { stamp: 0, snapshot })?;
+        let commit = Arc::new(alloc, CommitPoint { stamp: 0, snapshot })?;
         let schema = commit.snapshot.schema();
         let (seen, mut pens) = Seen::open_row::<Schema, Opened>(schema, Start::alone(), 1);
         let head = Word::tracked(0, &mut pens.take());
@@ -91,7 +91,7 @@ impl Front {
     }
 
     /// A copy, over a handle to the same commit.
-    pub fn over(&self, commit: Arc<Commit>) -> Front
+    pub fn over(&self, commit: Arc<CommitPoint>) -> Front
         requires stamp { (arc_value commit).stamp ≡ self.now.stamp }
         requires snapshot { (arc_value commit).snapshot ≡ self.now.snapshot }
         ensures { result ≡ self.now }
@@ -105,7 +105,7 @@ impl Front {
 
     /// The front with one publication more, by the one step on the word. It takes no memory. `None` where more was
     /// published than this front has seen, or 2^64 - 1 times, neither of which a publisher meets.
-    pub fn with(&self, head: &Head, commit: Arc<Commit>) -> Option<Front>
+    pub fn with(&self, head: &PublicationCount, commit: Arc<CommitPoint>) -> Option<Front>
         requires head { head.now ≡ head_of self.now.seen.of }
         requires follows { Follows (publication self.now.stamp self.now.snapshot)
             (publication (arc_value commit).stamp (arc_value commit).snapshot) }
@@ -119,14 +119,14 @@ impl Front {
         }
         let longer = expected + 1;
         let mut seen = self.seen.again();
-        let about: &Commit = &commit;
-        let mut offer: Offer<Publication, u64, History, Nothing> = seen.plain::<
-            Nothing,
-            Commit,
+        let about: &CommitPoint = &commit;
+        let mut offer: Offer<Publication, u64, PublicationRule, NoTrade> = seen.plain::<
+            NoTrade,
+            CommitPoint,
             Append,
         >(about);
         let mut pen = seen.no_pen();
-        let found = head.compare_exchange::<Append, Nothing>(
+        let found = head.compare_exchange::<Append, NoTrade>(
             expected, longer, &mut seen, &mut offer, &mut pen,
         );
         if found != expected {

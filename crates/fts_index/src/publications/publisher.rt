@@ -8,14 +8,14 @@ ghost use Rattle.fts_index.specs.Publications.{opening, newest, publication, pub
 ghost use Rattle.fts_index.specs.Publications.{Follows, IsFront, IsOneCommit};
 ghost use Rattle.fts_index.specs.PublicationsShown.{name_of, told_name};
 
-use crate::publications::cells::{Copies, Desk, Names};
+use crate::publications::left_right_rule::{SameWriter, FrontWriter, TellsWriter};
 use crate::publications::front::Front;
-use crate::publications::history::Head;
+use crate::publications::publication_log::PublicationCount;
 use crate::publications::reader::Reader;
 use crate::publications::searcher::{CommitSeen, Searcher};
 use core::mem::replace_with;
 use fts_model::{Refusal, Stamp};
-use fts_snapshots::{Commit, Snapshot};
+use fts_snapshots::{CommitPoint, Snapshot};
 use std::alloc::{AllocError, Global};
 use std::marker::Model;
 use std::sync::{Arc, Wait};
@@ -26,8 +26,8 @@ const MOST_READERS: usize = 64;
 /// Publishes snapshots to readers. It isn't dropped but closed. Contracts see it as its newest snapshot at its commit
 /// stamp, with the whole list of its publications. What readers are shown is always that snapshot.
 pub struct Publisher {
-    desk: Desk,
-    head: Head,
+    desk: FrontWriter,
+    head: PublicationCount,
     front: Front,
 }
 
@@ -146,7 +146,7 @@ impl Publisher {
         let Ok(mut handle) = self.desk.factory().reader() else {
             return Err(Refusal::NoReader);
         };
-        handle.learn::<Copies>(self.desk.tell::<Copies>());
+        handle.learn::<SameWriter>(self.desk.tell::<SameWriter>());
         Ok(Reader::at(handle, front))
     }
 
@@ -176,7 +176,7 @@ impl Publisher {
         ensures same { OnErr result (self.new ≡ self.old) }
         ensures memory { IsOkUnless result Refusal.Memory }
     {
-        let commit = Arc::new(alloc, Commit { stamp, snapshot })?;
+        let commit = Arc::new(alloc, CommitPoint { stamp, snapshot })?;
         let for_seen = Arc::try_clone(&commit)?;
         let Some(front) = self.front.with(&self.head, commit) else {
             return Err(Refusal::Memory);
@@ -191,11 +191,11 @@ impl Publisher {
 }
 
 /// A desk that shows a front, and has the room that each publication needs.
-fn desk_of<R: Wait>(rt: &R, alloc: Global, front: &Front) -> Result<Desk, AllocError>
+fn desk_of<R: Wait>(rt: &R, alloc: Global, front: &Front) -> Result<FrontWriter, AllocError>
     ensures shown { IfOk result (λ d. d.desk.shown.value ≡ front.now) }
     ensures seat { IfOk result (λ d. told_name d.desk.place ≡ Some (name_of front.now.seen.of)) }
 {
-    let mut desk = Desk::new(alloc, front.again()?, front.again()?, MOST_READERS)?;
+    let mut desk = FrontWriter::new(alloc, front.again()?, front.again()?, MOST_READERS)?;
     if show_twice(rt, &mut desk, front).is_err() {
         drop(desk.take(rt));
         return Err(AllocError);
@@ -204,7 +204,7 @@ fn desk_of<R: Wait>(rt: &R, alloc: Global, front: &Front) -> Result<Desk, AllocE
 }
 
 /// The first time tells the seat which writer it is of, the second makes the room.
-fn show_twice<R: Wait>(rt: &R, desk: &mut Desk, front: &Front) -> Result<(), AllocError>
+fn show_twice<R: Wait>(rt: &R, desk: &mut FrontWriter, front: &Front) -> Result<(), AllocError>
     requires { desk.old.desk.shown.value.seen.of ≡ front.now.seen.of }
     ensures shown { OnOk result (desk.new.desk.shown.value ≡ front.now) }
     ensures seat { OnOk result (told_name desk.new.desk.place ≡ Some (name_of front.now.seen.of)) }
@@ -215,7 +215,7 @@ fn show_twice<R: Wait>(rt: &R, desk: &mut Desk, front: &Front) -> Result<(), All
 
 /// Shows readers this front in place of the one before. The second time, the copy that they left takes it too, so that
 /// nothing holds what was published before but those who search it.
-fn show<R: Wait>(rt: &R, desk: &mut Desk, front: &Front)
+fn show<R: Wait>(rt: &R, desk: &mut FrontWriter, front: &Front)
     requires { desk.old.desk.shown.value.seen.of ≡ front.now.seen.of }
     ensures shown { desk.new.desk.shown.value ≡ front.now }
     ensures seat { told_name desk.new.desk.place ≡ Some (name_of front.now.seen.of) }
@@ -226,7 +226,7 @@ fn show<R: Wait>(rt: &R, desk: &mut Desk, front: &Front)
 
 /// Shows readers this front. The room was made with the desk, so no try but the first is ever needed; no clause of
 /// `left_right` says so, and the list of publications has grown already.
-fn show_once<R: Wait>(rt: &R, desk: &mut Desk, front: &Front)
+fn show_once<R: Wait>(rt: &R, desk: &mut FrontWriter, front: &Front)
     requires { desk.old.desk.shown.value.seen.of ≡ front.now.seen.of }
     ensures shown { desk.new.desk.shown.value ≡ front.now }
     ensures seat { told_name desk.new.desk.place ≡ Some (name_of front.now.seen.of) }
@@ -240,7 +240,7 @@ fn show_once<R: Wait>(rt: &R, desk: &mut Desk, front: &Front)
 }
 
 /// Shows readers this front, or leaves what they are shown.
-fn try_show<R: Wait>(rt: &R, desk: &mut Desk, front: &Front) -> Result<(), AllocError>
+fn try_show<R: Wait>(rt: &R, desk: &mut FrontWriter, front: &Front) -> Result<(), AllocError>
     requires { desk.old.desk.shown.value.seen.of ≡ front.now.seen.of }
     ensures of { desk.new.desk.shown.value.seen.of ≡ front.now.seen.of }
     ensures shown { OnOk result (desk.new.desk.shown.value ≡ front.now) }
@@ -252,7 +252,7 @@ fn try_show<R: Wait>(rt: &R, desk: &mut Desk, front: &Front) -> Result<(), Alloc
     replace_with(desk, (rt, next), |desk, (rt, next)| put(rt, desk, next))
 }
 
-fn put<R: Wait>(rt: &R, desk: Desk, front: Front) -> (Desk, Result<(), AllocError>)
+fn put<R: Wait>(rt: &R, desk: FrontWriter, front: Front) -> (FrontWriter, Result<(), AllocError>)
     requires { desk.desk.shown.value.seen.of ≡ front.seen.of }
     ensures of { result.0.desk.shown.value.seen.of ≡ front.seen.of }
     ensures shown { OnOk result.1 (result.0.desk.shown.value ≡ front) }
@@ -262,7 +262,7 @@ fn put<R: Wait>(rt: &R, desk: Desk, front: Front) -> (Desk, Result<(), AllocErro
 {
     let mut desk = desk;
     match desk.append(front) {
-        Ok(()) => desk.publish_as::<Names, R>(rt),
+        Ok(()) => desk.publish_as::<TellsWriter, R>(rt),
         Err(_) => (desk, Err(AllocError)),
     }
 }

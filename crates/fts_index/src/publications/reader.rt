@@ -4,7 +4,7 @@ ghost use mathlib.Core.List.{IsPrefix};
 ghost use Rattle.fts_index.specs.Publications.{schema_of, IsFront};
 ghost use Rattle.fts_index.specs.PublicationsShown.{name_of, told_name, Finds};
 
-use crate::publications::cells::{Names, ReadHandle};
+use crate::publications::left_right_rule::{TellsWriter, FrontReader};
 use crate::publications::front::Front;
 use crate::publications::searcher::{CommitSeen, Searcher};
 use core::mem::replace_with;
@@ -16,7 +16,7 @@ use std::marker::Model;
 /// of the writer's publications.
 #[derive(Drop)]
 pub struct Reader {
-    handle: ReadHandle,
+    handle: FrontReader,
     front: Front,
 }
 
@@ -34,7 +34,7 @@ impl Model for Reader {
 
 impl Reader {
     /// A reader that knows what the front has seen.
-    pub(crate) fn at(handle: ReadHandle, front: Front) -> Reader
+    pub(crate) fn at(handle: FrontReader, front: Front) -> Reader
         requires { told_name handle.place ≡ Some (name_of front.seen.of) }
         ensures { result ≡ front.seen }
     {
@@ -76,7 +76,7 @@ impl Reader {
 }
 
 /// Takes the front that is shown, if one is and it is newer.
-fn refresh(handle: &mut ReadHandle, front: &mut Front) -> Result<(), AllocError>
+fn refresh(handle: &mut FrontReader, front: &mut Front) -> Result<(), AllocError>
     requires { told_name handle.old.place ≡ Some (name_of front.old.seen.of) }
     ensures seat { told_name handle.new.place ≡ Some (name_of front.new.seen.of) }
     ensures of { front.new.seen.of ≡ front.old.seen.of }
@@ -90,17 +90,17 @@ fn refresh(handle: &mut ReadHandle, front: &mut Front) -> Result<(), AllocError>
 }
 
 /// The front that is shown, if one is and it is newer than what is known.
-fn look(handle: &mut ReadHandle, known: &Front) -> Result<Option<Front>, AllocError>
+fn look(handle: &mut FrontReader, known: &Front) -> Result<Option<Front>, AllocError>
     ensures { Finds (told_name handle.old.place) (told_name handle.new.place) result }
 {
     replace_with(handle, known, |handle, known| enter(handle, known))
 }
 
 /// The one step of a reader. No front is shown once the writer was closed.
-fn enter(handle: ReadHandle, known: &Front) -> (ReadHandle, Result<Option<Front>, AllocError>)
+fn enter(handle: FrontReader, known: &Front) -> (FrontReader, Result<Option<Front>, AllocError>)
     ensures { Finds (told_name handle.place) (told_name result.0.place) result.1 }
 {
-    match handle.enter_as::<Names>() {
+    match handle.enter_as::<TellsWriter>() {
         Ok(reading) => {
             let found = reading.get().if_newer(known);
             (reading.leave(), found)

@@ -10,7 +10,7 @@ use Rattle.fts_model.specs.declared.operation.Stamped.{Stamped}
 use Rattle.fts_model.specs.Documents.{DocumentValue}
 use Rattle.fts_model.specs.Operations.{has}
 use Rattle.fts_segment.specs.Segments.{SegmentValue, postings}
-use Rattle.fts_merge.specs.declared.matches.Found.{Found}
+use Rattle.fts_merge.specs.declared.term_delete.TermDelete.{TermDelete}
 
 -- an operation strikes every document of a smaller stamp than this
 abbrev pub bound_by : ℕ → Op → ℕ
@@ -34,15 +34,15 @@ abbrev pub survives_terms : List Field → List (Stamped Op) → Stamped Documen
 survives_terms schema ops document = not (list_any (λ op. strikes_by_term schema op.stamp op.value document) ops)
 
 -- a delete that was looked up stands with the documents that have its term
-abbrev pub IsFound : SegmentValue → Found → Type 0
+abbrev pub IsFound : SegmentValue → TermDelete → Type 0
 IsFound segment delete = delete.documents.now ≡ postings segment delete.term.now
 
 -- a delete that was looked up strikes a document
-abbrev pub strikes_found : List Field → Found → Stamped DocumentValue → Bool
+abbrev pub strikes_found : List Field → TermDelete → Stamped DocumentValue → Bool
 strikes_found schema delete document = nat_lt document.stamp delete.stamp && has schema document.value delete.term.now
 
 -- no delete that was looked up strikes a document
-abbrev pub survives_found : List Field → List Found → Stamped DocumentValue → Bool
+abbrev pub survives_found : List Field → List TermDelete → Stamped DocumentValue → Bool
 survives_found schema deletes document = not (list_any (λ delete. strikes_found schema delete document) deletes)
 
 -- the document of this number has a smaller stamp
@@ -55,7 +55,7 @@ abbrev pub cleared : List (Stamped DocumentValue) → ℕ → List Bool → ℕ 
 cleared documents stamp live number = if is_before documents stamp number then slice_set live number false else live
 
 -- deletes that were looked up strike of these documents what operations strike by a term
-abbrev pub StrikeAlike : List Field → List Found → List (Stamped Op) → List (Stamped DocumentValue) → Type 0
+abbrev pub StrikeAlike : List Field → List TermDelete → List (Stamped Op) → List (Stamped DocumentValue) → Type 0
 StrikeAlike schema deletes ops documents =
     All (λ d. list_any (λ delete. strikes_found schema delete d) deletes
     ≡ list_any (λ op. strikes_by_term schema op.stamp op.value d) ops) documents

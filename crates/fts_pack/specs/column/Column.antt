@@ -4,7 +4,7 @@ use Rattle.std.specs.Prelude.{None, All, Contains}
 use Rattle.std.specs.Prelude.{IfSome, length, map, max, min, if◌then◌else◌}
 use Rattle.std.specs.Option.{option_map_or}
 use Rattle.fts_pack.specs.bits.Digits.{IsWidthOf, words_of}
-use Rattle.fts_pack.specs.column.Lanes.{AreLanesOf}
+use Rattle.fts_pack.specs.column.OffsetArray.{AreLanesOf}
 
 -- the least and the greatest value, if there is one
 abbrev pub IsRangeOf : List (Option ℕ) → Option (ℕ × ℕ) → Type 0

@@ -7,16 +7,16 @@ ghost use Rattle.fts_pack.specs.bits.Bits.{number_of};
 ghost use Rattle.fts_pack.specs.bits.Digits.{IsWidthOf, numbers_in, words_of};
 ghost use Rattle.std.specs.Option.{option_map_or};
 ghost use Rattle.std.specs.Int.{bit_at};
-ghost use Rattle.fts_pack.specs.column.Blocks.{AreEndsOf, block_of, in_blocks};
+ghost use Rattle.fts_pack.specs.column.BlockRanges.{AreEndsOf, block_of, in_blocks};
 ghost use Rattle.fts_pack.specs.column.Column.{HaveOffsets, IsColumn, IsRangeOf, is_within, least_of, offsets};
 ghost use Rattle.fts_pack.specs.column.Column.{range_with};
 ghost use Rattle.fts_pack.specs.column.Column.{spread_of, values_at};
 ghost use Rattle.fts_pack.specs.column.Counts.{AreWithin, having};
-ghost use Rattle.fts_pack.specs.column.Lanes.{in_lanes};
+ghost use Rattle.fts_pack.specs.column.OffsetArray.{in_lanes};
 
 use crate::bits::{Bits, widths};
-use crate::column::blocks::Blocks;
-use crate::column::lanes::Lanes;
+use crate::column::block_ranges::BlockRanges;
+use crate::column::offset_array::OffsetArray;
 use fts_base::{Refusal, release};
 use std::alloc::{AllocError, Global};
 use std::marker::Model;
@@ -27,8 +27,8 @@ pub struct Column {
     width: u32,
     present: Bits,
     words: Vec<u64>,
-    lanes: Lanes,
-    blocks: Blocks,
+    lanes: OffsetArray,
+    blocks: BlockRanges,
 }
 
 impl Drop for Column {
@@ -87,8 +87,8 @@ impl Column {
         let width = widths::bit_length(greatest - least);
         let present = presence(alloc, values)?;
         let words = packed_offsets(alloc, width, least, values)?;
-        let lanes = Lanes::of_offsets(alloc, width, least, values)?;
-        let blocks = Blocks::of_values(alloc, width, least, values)?;
+        let lanes = OffsetArray::of_offsets(alloc, width, least, values)?;
+        let blocks = BlockRanges::of_values(alloc, width, least, values)?;
         Ok(Column {
             range,
             width,
@@ -193,7 +193,7 @@ impl Column {
             return 0;
         }
         let above = low.saturating_sub(least);
-        let marks = self.lanes.marked(from, above, high - least);
+        let marks = self.lanes.mask_within(from, above, high - least);
         marks & self.present.word(from / 64)
     }
 

@@ -133,7 +133,7 @@ fn object_of(alloc: Global, answer: &Answer, names: Option<&[Text]>) -> Result<V
 
 /// An answer as JSON: the count, and what else was asked for. There is no float in it. If there are names, only
 /// their fields are in the documents of hits.
-pub fn answer_value(
+pub fn answer_json(
     alloc: Global,
     answer: &Answer,
     names: Option<&[Text]>,

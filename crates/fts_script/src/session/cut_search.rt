@@ -14,7 +14,7 @@ ghost use Rattle.fts_script.specs.session.CutSearches.{answer_cut, find_cut, fin
 ghost use Rattle.fts_script.specs.session.Replies.{text_of};
 ghost use Rattle.fts_script.specs.session.Sessions.{Executes, ChangesAtMost};
 
-use crate::command::{Command, Search, command_of, names_of};
+use crate::command::{Command, Search, command_of, field_names_of};
 use crate::session::commands::{json_of, query_of, replied_line, request_of, search_for};
 use crate::session::reply::Reply;
 use fts_engine::EngineOver;
@@ -26,7 +26,7 @@ fn names_in(alloc: Global, line: &[u8]) -> Result<Vec<Text>, Refusal>
     ensures { Gives (λ names. names.items) result (names_in line.now) }
 {
     let json = json_of(alloc, line)?;
-    match names_of(alloc, &json)? {
+    match field_names_of(alloc, &json)? {
         Some(names) => Ok(names),
         None => Err(Refusal::BadCommand),
     }

@@ -9,7 +9,7 @@ ghost use Rattle.fts_model.specs.Operations.{op_fits, term_fits};
 ghost use Rattle.fts_model.specs.Documents.{fits};
 ghost use Rattle.fts_script.specs.command.Commands.{longest, Add, Delete, command_in};
 ghost use Rattle.fts_engine.specs.Indexes.{indexes};
-ghost use Rattle.fts_engine.specs.Pairs.{submit_two};
+ghost use Rattle.fts_engine.specs.SubmitTwo.{submit_two};
 ghost use Rattle.fts_engine.specs.Steps.{most_uncommitted};
 ghost use Rattle.fts_script.specs.session.Replaces.{addition, deletion, execute_two, lines_done, replace};
 ghost use Rattle.fts_script.specs.session.Replies.{replied, number_reply, text_of, index_after};
@@ -18,7 +18,7 @@ ghost use Rattle.fts_script.specs.session.Sessions.{Executes, ChangesAtMost};
 use crate::command::{Command, command_of};
 use crate::session::commands::{document_in, json_of, replied_line, term_in};
 use crate::session::reply::Reply;
-use fts_engine::{Engine, EngineOver, MOST_UNCOMMITTED, Pairs};
+use fts_engine::{Engine, EngineOver, MOST_UNCOMMITTED, SubmitTwo};
 use fts_model::{Document, Op, Refusal, Term};
 use serde_json::Value;
 use std::alloc::{AllocError, Global};
@@ -54,7 +54,7 @@ fn is_full<E: Engine>(engine: &E) -> bool
 }
 
 /// Takes two operations.
-fn submit_two<E: Pairs>(
+fn submit_two<E: SubmitTwo>(
     alloc: Global,
     engine: &mut E,
     first: Op,
@@ -77,7 +77,7 @@ fn submit_two<E: Pairs>(
 }
 
 /// Deletes the documents with a term, and adds one: the document is read before anything is taken.
-fn replace<E: Pairs>(
+fn replace<E: SubmitTwo>(
     alloc: Global,
     engine: &mut E,
     name: &str,
@@ -102,7 +102,7 @@ fn replace<E: Pairs>(
 }
 
 /// The outcome of a line that deletes and a line that adds.
-fn replace_whole<E: Pairs>(
+fn replace_whole<E: SubmitTwo>(
     alloc: Global,
     index: &mut Option<E>,
     delete: &[u8],
@@ -136,7 +136,7 @@ fn lines_of(done: bool) -> u64
 }
 
 /// Replies to a line that deletes and a line that adds, as one, and says how many lines were done: 2 or 0.
-pub(crate) fn answer_replace<R: AllocGlobal + Sync, E: EngineOver<R> + Pairs>(
+pub(crate) fn answer_replace<R: AllocGlobal + Sync, E: EngineOver<R> + SubmitTwo>(
     rt: &R,
     index: &mut Option<E>,
     number: u64,

@@ -9,7 +9,7 @@ ghost use Rattle.fts_script.specs.command.AnswerData.{answer_data};
 ghost use Rattle.fts_script.specs.command.Cuts.{cut_answer};
 ghost use Rattle.fts_script.specs.session.Replies.{line_of, number_reply, refusal_reply};
 
-use crate::command::answer_value;
+use crate::command::answer_json;
 use fts_model::{Answer, Refusal, Text};
 use serde_json::{Value, json};
 use std::alloc::{AllocError, Global};
@@ -76,7 +76,7 @@ impl Reply {
         ensures out { string_bytes out.new ≡ string_bytes out.old }
         ensures room { IfOk result (λ reply. string_len out.new + string_len reply.line ≤ string_capacity out.new) }
     {
-        let value = answer_value(alloc, answer, names)?;
+        let value = answer_json(alloc, answer, names)?;
         Reply::new(alloc, &value, out)
     }
 

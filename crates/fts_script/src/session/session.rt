@@ -14,9 +14,9 @@ use crate::session::commands::{answer_find, answer_whole};
 use crate::session::cut_search::answer_find_cut;
 use crate::session::replace::answer_replace;
 use crate::session::reply::Reply;
-use crate::session::text::is_blank;
-use crate::session::upkeep::Upkeep;
-use fts_engine::{Engine, EngineOver, Fork, Options, Pairs};
+use crate::session::blank::is_blank;
+use crate::session::maintenance::Maintenance;
+use fts_engine::{Engine, EngineOver, Fork, Options, SubmitTwo};
 use fts_model::Refusal;
 use std::alloc::{AllocError, Global};
 use std::marker::Model;
@@ -143,7 +143,7 @@ impl<E: Engine> Session<E> {
         out: &mut String,
     ) -> Result<(), AllocError>
     where
-        E: EngineOver<R> + Pairs,
+        E: EngineOver<R> + SubmitTwo,
         requires line_number_fits { self.old.number < 2 ^ 61 }
         requires fits_delete { length delete.now ≤ longest }
         requires fits_add { length add.now ≤ longest }
@@ -201,7 +201,7 @@ impl<E: Engine> Session<E> {
     }
 
     /// Has work done on how the index is kept, if there is one. The script goes on as if it hadn't been.
-    pub fn keep_up<W: Upkeep<E> + Drop>(&mut self, work: W) -> Option<W::Done>
+    pub fn maintain<W: Maintenance<E> + Drop>(&mut self, work: W) -> Option<W::Done>
         ensures same { self.new ≡ self.old }
         ensures done { is_none result ≡ is_none self.old.index }
     {

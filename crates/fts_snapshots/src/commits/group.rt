@@ -4,7 +4,7 @@ ghost use Rattle.fts_model.specs.Operations.{added_by, added};
 ghost use Rattle.fts_model.specs.Limits.{most_built};
 ghost use Rattle.fts_snapshots.specs.Cuts.{IsCut, place_of, put_into, dealt_from, groups_of};
 
-use crate::commits::cut::place;
+use crate::commits::segment_of_add::segment_of_add;
 use fts_base::release;
 use fts_model::{Cut, Document, Op, Stamp, Stamped};
 use std::alloc::{AllocError, Global};
@@ -101,7 +101,7 @@ fn put_added(
     };
     let value = document.clone()?;
     let stamp = op.stamp;
-    put(alloc, groups, place(cut, count), Stamped { stamp, value })?;
+    put(alloc, groups, segment_of_add(cut, count), Stamped { stamp, value })?;
     Ok(count + 1)
 }
 

@@ -12,12 +12,12 @@ use std::sync::Arc;
 /// one handle more on all of it.
 #[derive(Drop)]
 pub struct Entry {
-    shared: Arc<Shared>,
+    shared: Arc<EntryData>,
 }
 
 /// What all copies of an entry share.
 #[derive(Drop)]
-struct Shared {
+struct EntryData {
     id: u64,
     segment: Segment,
     live: Bits,
@@ -70,7 +70,7 @@ impl Entry {
         requires { IsEntry (record { id = id; segment = segment; live = live }) }
         ensures { IfOk result (λ entry. entry ≡ record { id = id; segment = segment; live = live }) }
     {
-        let shared = Arc::new(alloc, Shared { id, segment, live })?;
+        let shared = Arc::new(alloc, EntryData { id, segment, live })?;
         Ok(Entry { shared })
     }
 

@@ -35,8 +35,8 @@ impl<'a> Lookup<'a> {
         requires { IdsRise entries.now }
         ensures { IfOk result (λ lookup. lookup ≡ entries.now) }
     {
-        let numbers = numbers(alloc, entries)?;
-        Ok(Lookup { entries, numbers })
+        let numbers = ids_of_entries(alloc, entries)?;
+        Ok(Lookup { entries, ids_of_entries })
     }
 
     /// The segments.
@@ -89,7 +89,7 @@ impl<'a> Lookup<'a> {
 }
 
 /// The numbers of segments.
-pub(crate) fn numbers(alloc: Global, entries: &[Entry]) -> Result<Vec<u64>, AllocError>
+pub(crate) fn ids_of_entries(alloc: Global, entries: &[Entry]) -> Result<Vec<u64>, AllocError>
     ensures { IfOk result (λ numbers. numbers.items ≡ ids_of entries.now) }
 {
     let mut numbers = Vec::with_capacity(alloc, entries.len())?;

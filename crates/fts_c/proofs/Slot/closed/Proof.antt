@@ -18,7 +18,7 @@ use denote.Triple.Entry.{alive}
 use denote.Triple.Walked.{Stays, stay_dropped, walk_of}
 use Rattle.core.proofs.alloc.Calls.{Goes-blank}
 use Rattle.std.proofs.raw_atomic.Walks.{proved_at, leaves}
-use Rattle.fts_c.proofs.LooseValues.{both}
+use Rattle.fts_c.proofs.RawBoxValues.{both}
 use Rattle.fts_c.proofs.Values.{R, Z, null_good, alloc_out, slot_null_in}
 use Rattle.fts_c.specs.contracts.Slot.closed.{ended, clauses}
 use Rattle.fts_c.specs.contracts.Slot.closed.Key.{name as #self}

@@ -24,7 +24,7 @@ use Rattle.core.proofs.cell.Inside.{Good}
 use Rattle.core.proofs.result.Made.{Ok-of, Err-of}
 use Rattle.std.proofs.raw_atomic.Walks.{proved_at, leaves}
 use Rattle.std_alloc.proofs.ResultValues.{and_tt}
-use Rattle.fts_c.proofs.LooseValues.{both, loose_good}
+use Rattle.fts_c.proofs.RawBoxValues.{both, loose_good}
 use Rattle.std.specs.contracts.impls.GlobalAllocator.TheImpl.{ghosts}
 use Rattle.fts_c.proofs.Values.{R, Z, LZ, Handle, Slot, handle_in, held_out, null_good, slot_null_in, slot_out}
 use Rattle.fts_c.specs.contracts.Slot.handle.{ended, clauses}

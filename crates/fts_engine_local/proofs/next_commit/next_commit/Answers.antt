@@ -7,7 +7,7 @@ use Rattle.fts_snapshots.proofs.CountLemmas.{memory_alone, no_commit_fault, refu
 use Rattle.fts_snapshots.proofs.FollowLemmas.{follows_commit}
 use Rattle.fts_snapshots.proofs.SourceLemmas.{unless_ok}
 use Rattle.fts_snapshots.proofs.StampLemmas.{batch_behind, left_stamped}
-use Rattle.fts_snapshots.specs.declared.stamped.Commit.{Commit}
+use Rattle.fts_snapshots.specs.declared.commit_point.CommitPoint.{CommitPoint}
 use Rattle.fts_snapshots.proofs.ChangeLemmas.{commits_made}
 use Rattle.fts_engine_local.proofs.next_commit.next_commit.Goals as goal
 
@@ -39,8 +39,8 @@ returns-clause-commits c =
     let ops = c.args.ops.now in
     let made = c.in_ok-new.ensures.ok in
     let is = (unless_ok (commit_fault c.args.cut ops s) (after_commit c.args.cut ops s) c.in-Ok.snapshot c.in-Ok.ensures.snapshot).1 in
-    commits_made c.args.cut ops s (arc_value c.in_ok-new.field-0).snapshot (ap (λ (l : Commit). l.snapshot) made ∙ is)
-    (ap (λ (l : Commit). content_of l.snapshot) made ∙ c.in-Ok.ensures.content)
+    commits_made c.args.cut ops s (arc_value c.in_ok-new.field-0).snapshot (ap (λ (l : CommitPoint). l.snapshot) made ∙ is)
+    (ap (λ (l : CommitPoint). content_of l.snapshot) made ∙ c.in-Ok.ensures.content)
 
 pub returns-clause-follows : goal.returns-clause-follows
 returns-clause-follows c =
@@ -48,4 +48,4 @@ returns-clause-follows c =
     let ops = c.args.ops.now in
     let made = c.in_ok-new.ensures.ok in
     let is = (unless_ok (commit_fault c.args.cut ops s) (after_commit c.args.cut ops s) c.in-Ok.snapshot c.in-Ok.ensures.snapshot).1 in
-    subst (Follows s) (sym (ap (λ (l : Commit). l.snapshot) made ∙ is)) (follows_commit s c.args.cut ops)
+    subst (Follows s) (sym (ap (λ (l : CommitPoint). l.snapshot) made ∙ is)) (follows_commit s c.args.cut ops)

@@ -1,7 +1,7 @@
 -- The definitions, at the examples.
 use Rattle.std.proofs.Common.{refl}
 use Rattle.fts_pack.specs.bits.Digits.{joined, digits, word_count, words_of}
-use Rattle.fts_pack.specs.Lanes.{lane_of, woven, words_in_lanes}
+use Rattle.fts_pack.specs.FourLanes.{lane_of, woven, words_in_lanes}
 use Rattle.fts_pack.proofs.laws.blocks_of_examples.Goals as goal
 
 pub returns-clause-three : goal.returns-clause-three

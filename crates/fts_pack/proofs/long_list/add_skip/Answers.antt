@@ -1,6 +1,6 @@
 use Rattle.std.proofs.Common.{◌≡◌, ◌++◌, ℕ, List, ap, subst, ◌∙◌}
 use Rattle.fts_pack.specs.Documents.{gaps}
-use Rattle.fts_pack.specs.Packed.{IsAdded}
+use Rattle.fts_pack.specs.BlockMeta.{IsAdded}
 use Rattle.fts_pack.proofs.DocumentsLemmas.{last_is}
 use Rattle.fts_pack.proofs.long_list.add_skip.Goals as goal
 

@@ -8,16 +8,16 @@ pub give_out-requires-clause-slots : goal.give_out-requires-clause-slots
 give_out-requires-clause-slots g c κs within =
     subst (AreSlots g.J.Job.gives c.args.jobs.now) (sym c.in_ok-slots.ensures) (slots_empty g.J.Job.gives c.args.jobs.now _ (search rules))
 
-pub emptied-requires-clause-filled : goal.emptied-requires-clause-filled
-emptied-requires-clause-filled g c n below =
+pub into_results-requires-clause-filled : goal.into_results-requires-clause-filled
+into_results-requires-clause-filled g c n below =
     let len = slots_len g.J.Job.gives c.args.jobs.now c.run_from.new.slots.items c.run_from.ensures.slots in
     c.run_from.ensures.filled n (search rules)
 
-pub emptied-requires-clause-room : goal.emptied-requires-clause-room
-emptied-requires-clause-room g c =
+pub into_results-requires-clause-room : goal.into_results-requires-clause-room
+into_results-requires-clause-room g c =
     let len = slots_len g.J.Job.gives c.args.jobs.now c.run_from.new.slots.items c.run_from.ensures.slots in
     search rules
 
 pub returns-clause-ok : goal.returns-clause-ok
 returns-clause-ok g c =
-    outs_of g.J.Job.gives c.args.jobs.now c.emptied.result.items (subst (AreSlots g.J.Job.gives c.args.jobs.now) c.emptied.ensures c.run_from.ensures.slots)
+    outs_of g.J.Job.gives c.args.jobs.now c.into_results.result.items (subst (AreSlots g.J.Job.gives c.args.jobs.now) c.into_results.ensures c.run_from.ensures.slots)

@@ -1,5 +1,5 @@
 use Rattle.std.proofs.Common.{◌-◌, ◌++◌, length, take, drop, refl, sym, subst, arith}
-use Rattle.fts_segment.specs.declared.term_groups.Place.{Place}
+use Rattle.fts_segment.specs.declared.term_groups.DocPosition.{DocPosition}
 use Rattle.fts_segment.specs.PositionLists.{IsPositionList}
 use Rattle.fts_segment.specs.PositionListLogs.{logged_position_lists}
 use Rattle.fts_segment.specs.Positions.{position_lists_of}
@@ -8,14 +8,14 @@ use Rattle.fts_segment.proofs.term_positions.push_position_lists.Goals as goal
 
 pub push_place-requires-clause-list : goal.push_place-requires-clause-list
 push_place-requires-clause-list c =
-    let d : Place = record { doc = 0; position = 0 } in
+    let d : DocPosition = record { doc = 0; position = 0 } in
     let rest = take (length c.args.places.now - 1) (drop 1 c.args.places.now) in
     (ArePositionLists-step c.loop-place.doc c.loop-place.list.items _ rest c.loop-place.place-index d _ c.loop-place-test.true refl refl
     c.loop-place.invariant.1).0
 
 pub loop-place-preserved : goal.loop-place-preserved
 loop-place-preserved c =
-    let d : Place = record { doc = 0; position = 0 } in
+    let d : DocPosition = record { doc = 0; position = 0 } in
     let l = c.loop-place in
     let rest = take (length c.args.places.now - 1) (drop 1 c.args.places.now) in (
       position_lists-step (logged_position_lists c.args.lists.now ++ position_lists_of c.args.places.now) (logged_position_lists l.lists)

@@ -6,7 +6,7 @@ use Rattle.fts_snapshots.specs.MergedSegments.{merged_of}
 use Rattle.fts_snapshots.specs.Merges.{entries_at}
 use Rattle.fts_snapshots.specs.Snapshots.{merge_fault}
 use Rattle.fts_snapshots.specs.Successors.{Follows}
-use Rattle.fts_snapshots.specs.declared.stamped.Commit.{Commit}
+use Rattle.fts_snapshots.specs.declared.commit_point.CommitPoint.{CommitPoint}
 use Rattle.fts_snapshots.proofs.FollowLemmas.{follows_end}
 use Rattle.fts_snapshots.proofs.SourceLemmas.{unless_ok}
 use Rattle.fts_engine_local.proofs.merging.MergingMergeable.merge_segments.Goals as goal
@@ -21,7 +21,7 @@ returns-clause-keeps g c =
     let made = c.in_ok-self.ensures.ok in
     let is = (unless_ok (merge_fault ids s) (after_merge ids s) c.in_ok-snapshot.snapshot c.in_ok-snapshot.ensures.snapshot).1 in
     record {
-      stamp = ap (λ (l : Commit). l.stamp) made ∙ ap (λ (l : Commit). l.stamp) first;
-      follows = subst (λ (l : Commit). Follows l.snapshot (arc_value c.in_ok-self.field-0).snapshot) second
-          (subst (Follows s) (sym (ap (λ (l : Commit). l.snapshot) made ∙ is)) (follows_end s (merged_of (entries_at s.entries ids))));
+      stamp = ap (λ (l : CommitPoint). l.stamp) made ∙ ap (λ (l : CommitPoint). l.stamp) first;
+      follows = subst (λ (l : CommitPoint). Follows l.snapshot (arc_value c.in_ok-self.field-0).snapshot) second
+          (subst (Follows s) (sym (ap (λ (l : CommitPoint). l.snapshot) made ∙ is)) (follows_end s (merged_of (entries_at s.entries ids))));
     }

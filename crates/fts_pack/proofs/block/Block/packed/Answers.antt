@@ -1,5 +1,5 @@
 use Rattle.std.proofs.Common.{◌≡◌, ◌++◌, ◌∙◌, ap}
-use Rattle.fts_pack.specs.Lanes.{words_in_lanes}
+use Rattle.fts_pack.specs.FourLanes.{words_in_lanes}
 use Rattle.fts_pack.proofs.BlockLemmas.{IsBlock-packed, block_again}
 use Rattle.fts_pack.proofs.block.Block.packed.Goals as goal
 

@@ -2,7 +2,7 @@ use Rattle.std.proofs.Common.{◌≡◌, ◌<◌, ◌∙◌, ℕ, List, length, 
 use Rattle.fts_pack.specs.declared.long_list.LongList.TheInside.{Inside}
 use Rattle.fts_pack.specs.declared.skip.Skip.{Skip}
 use Rattle.fts_pack.specs.Documents.{block_at, block_count, documents_at}
-use Rattle.fts_pack.specs.Lanes.{numbers_in_lanes}
+use Rattle.fts_pack.specs.FourLanes.{numbers_in_lanes}
 use Rattle.fts_pack.specs.LongList.{IsLongList, kept_documents}
 use Rattle.fts_pack.proofs.LongListLemmas.{Reads, block_read, long_blocks}
 use Rattle.fts_pack.proofs.SumLemmas.{documents_kept}

@@ -1,6 +1,6 @@
 use Rattle.std.proofs.Common.{ap, ◌∙◌}
 use Rattle.fts_segment.specs.Between.{count_between}
-use Rattle.fts_segment.specs.Ordered.{column_in}
+use Rattle.fts_segment.specs.SortedColumns.{column_in}
 use Rattle.fts_segment.proofs.OrderedLemmas.{column_in-keyword, column_in-number}
 use Rattle.fts_segment.proofs.segment.Segment.documents_between.Goals as goal
 

@@ -5,7 +5,7 @@ use Rattle.fts_model.specs.Operations.{kind_at}
 use Rattle.fts_model.specs.Schemas.{is_ordered}
 use Rattle.fts_segment.specs.Between.{NumberColumn}
 use Rattle.fts_segment.specs.FieldIndexes.{NumbersFit}
-use Rattle.fts_segment.specs.Ordered.{IsOrdered, column_in}
+use Rattle.fts_segment.specs.SortedColumns.{IsOrdered, column_in}
 use Rattle.fts_segment.specs.Segments.{SegmentValue}
 use Rattle.fts_segment.specs.Occurrences.{values_in}
 use Rattle.fts_segment.proofs.FieldLemmas.{stored_index, numbers_fit}

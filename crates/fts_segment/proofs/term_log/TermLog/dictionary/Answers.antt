@@ -2,13 +2,13 @@ use Rattle.std.proofs.Common.{◌≡◌, ◌∙◌, ℕ, List, map, length, All,
 use Rattle.std.specs.List.Sorted.{IsStrictlyIncreasing}
 use Rattle.std.proofs.lemmas.List.{length-map, take_at}
 use Rattle.fts_segment.specs.declared.term_log.Occurrence.{Occurrence}
-use Rattle.fts_segment.specs.declared.term_groups.Place.{Place}
+use Rattle.fts_segment.specs.declared.term_groups.DocPosition.{DocPosition}
 use Rattle.fts_segment.specs.Dictionaries.{docs_in}
 use Rattle.fts_segment.specs.Occurrences.{OccurrenceValue, docs_with}
 use Rattle.fts_segment.specs.Positions.{position_lists_of, position_lists_with}
 use Rattle.fts_segment.specs.PositionLists.{IsPositionList}
 use Rattle.fts_segment.specs.TermLogs.{AreNamed, by_ordinal}
-use Rattle.fts_segment.proofs.DictionaryLemmas.{IsGrouped, IsGrouped-sorted, lists_rise, groups_have_position_lists}
+use Rattle.fts_segment.proofs.DictionaryLemmas.{IsGrouped, IsGrouped-sort_names, lists_rise, groups_have_position_lists}
 use Rattle.fts_segment.proofs.TermLogsLemmas.{Stand, AreNamed-by_ordinal}
 use Rattle.fts_segment.proofs.term_log.TermLog.dictionary.Goals as goal
 use Rattle.fts_segment.proofs.term_log.TermLog.dictionary.Goals.{After-len, After-groups-2-1}
@@ -35,7 +35,7 @@ count_of c = omega (arith, c.len.ensures, c.in_ok-names.field-0.names.ok.0, leng
 grouped_of : (c : After-groups-2-1) → IsGrouped c.self.inside.terms (sorted_in (goal.at.write_terms-requires-clause-rise c).After-len) c.self.inside.log.items
     c.in_ok-groups.groups
 grouped_of c = let a = (goal.at.write_terms-requires-clause-rise c).After-len in
-    IsGrouped-sorted c.self.inside.terms (sorted_in a) c.in_ok-names.field-0.ordinals.items c.self.inside.log.items c.deref-2.result.now c.in_ok-groups.groups
+    IsGrouped-sort_names c.self.inside.terms (sorted_in a) c.in_ok-names.field-0.ordinals.items c.self.inside.log.items c.deref-2.result.now c.in_ok-groups.groups
     c.len.result
     c.in_ok-names.ensures.ascends (stand_of a) c.self.invariant (after_of a) (count_of a) c.in_ok-groups.ensures.count c.in_ok-groups.ensures.groups
 
@@ -47,14 +47,14 @@ new-requires c =
 
 pub write_terms-requires-clause-rise : goal.write_terms-requires-clause-rise
 write_terms-requires-clause-rise c =
-    let P : List (List Place) → Type 0 = All (λ places. IsStrictlyIncreasing (docs_in places)) in
+    let P : List (List DocPosition) → Type 0 = All (λ places. IsStrictlyIncreasing (docs_in places)) in
     let Q : List OccurrenceValue → Type 0 = λ os. (q : List ℕ) → IsStrictlyIncreasing (docs_with q os) in
     subst P (sym (grouped_of c).groups_are) (lists_rise (sorted_in (goal.at.write_terms-requires-clause-rise c).After-len) _
     (subst Q (sym c.self.view_is) c.requires.rise))
 
 pub write_terms-requires-clause-positions : goal.write_terms-requires-clause-positions
 write_terms-requires-clause-positions c =
-    let P : List (List Place) → Type 0 = All (λ places. All IsPositionList (position_lists_of places)) in
+    let P : List (List DocPosition) → Type 0 = All (λ places. All IsPositionList (position_lists_of places)) in
     let Q : List OccurrenceValue → Type 0 = λ os. (q : List ℕ) → All IsPositionList (position_lists_with q os) in
     subst P (sym (grouped_of c).groups_are) (groups_have_position_lists (sorted_in (goal.at.write_terms-requires-clause-positions c).After-len) _
     (subst Q (sym c.self.view_is) c.requires.positions))

@@ -1,7 +1,7 @@
 use Rattle.std.proofs.Common.{◌≡◌, ◌+◌, ◌==◌, ◌++◌, true, [], ◌∷◌, refl, ap, sym, ◌∙◌, subst, arith, length, eq-eqb, length-append}
 use Rattle.std.specs.Prelude.{MatchBool}
 use Rattle.std.specs.Arc.{arc_value}
-use Rattle.fts_snapshots.specs.declared.stamped.Commit.{Commit}
+use Rattle.fts_snapshots.specs.declared.commit_point.CommitPoint.{CommitPoint}
 use Rattle.fts_index.specs.declared.publications.publication.Publication.{Publication}
 use Rattle.fts_index.specs.Publications.{FrontValue, newest, publication, Follows, ArePublications}
 use Rattle.fts_index.proofs.PublicationsLemmas.{published_snoc, fold_last}
@@ -9,7 +9,7 @@ use Rattle.fts_index.proofs.PublicationsStepsLemmas.{append_moves}
 use Rattle.fts_index.proofs.publications.front.Front.with.Goals as goal
 
 -- what is published by a commit
-abbrev pair : Commit → Publication
+abbrev pair : CommitPoint → Publication
 pair commit = publication commit.stamp commit.snapshot
 
 pub compare_exchange-found-requires : goal.compare_exchange-found-requires

@@ -1,7 +1,7 @@
 -- The range of a block is told by its ends above the least.
 use Rattle.std.proofs.Common.{◌+◌, Some, None, ap, sym, subst}
 use Rattle.std.proofs.Math.Facts.{Fits-of_lt}
-use Rattle.fts_pack.specs.column.Blocks.{AreEndsOf, block_of, in_blocks}
+use Rattle.fts_pack.specs.column.BlockRanges.{AreEndsOf, block_of, in_blocks}
 use Rattle.fts_pack.specs.column.Column.{IsRangeOf, least_of}
 use Rattle.fts_pack.proofs.BlocksLemmas.{block_fits, block_of_none, block_told, told_none, told_range}
 use Rattle.fts_pack.proofs.column.column.Column.block_range.Goals as goal

@@ -3,7 +3,7 @@ use Rattle.std.proofs.Math.Facts.{Fits-lt-pow}
 use Rattle.std.proofs.lemmas.List.{length-drop, take_rest}
 use Rattle.fts_pack.specs.column.Column.{IsColumn, IsRangeOf, least_of}
 use Rattle.fts_pack.specs.column.Counts.{is_value}
-use Rattle.fts_pack.specs.column.Lanes.{in_lanes}
+use Rattle.fts_pack.specs.column.OffsetArray.{in_lanes}
 use Rattle.fts_pack.proofs.ColumnLemmas.{column_length, lane_each, none_in}
 use Rattle.fts_pack.proofs.CountsLemmas.{counted_from_first, first_within, lane_within, stays, value_of_number}
 use Rattle.fts_pack.proofs.column.column.Column.count_values.Goals as goal

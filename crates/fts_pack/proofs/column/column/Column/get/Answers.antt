@@ -2,7 +2,7 @@
 use Rattle.std.proofs.Common.{◌≡◌, ◌+◌, ◌∙◌, Some, None, is_some, map, get_or, ap, sym, arith, subst}
 use Rattle.std.proofs.Math.Facts.{Fits-of_lt}
 use Rattle.fts_pack.specs.column.Column.{least_of, IsColumn, IsRangeOf}
-use Rattle.fts_pack.specs.column.Lanes.{in_lanes}
+use Rattle.fts_pack.specs.column.OffsetArray.{in_lanes}
 use Rattle.fts_pack.proofs.BitsLemmas.{set_inside}
 use Rattle.fts_pack.proofs.PackingLemmas.{length-numbers_in}
 use Rattle.fts_pack.proofs.ColumnLemmas.{column_length, lane_inside, presence-values_at, value_there, value_missing, value_fits}

@@ -1,6 +1,6 @@
 use Rattle.std.proofs.Common.{◌-◌, ◌∙◌, None, get_or, ap, subst, sym, arith}
 use Rattle.fts_pack.specs.column.Column.{is_within, least_of}
-use Rattle.fts_pack.specs.column.Lanes.{in_lanes, number_at}
+use Rattle.fts_pack.specs.column.OffsetArray.{in_lanes, number_at}
 use Rattle.fts_pack.specs.column.Interval.{IsLastWithin}
 use Rattle.fts_pack.proofs.ColumnLemmas.{lane_each}
 use Rattle.fts_pack.proofs.CountsLemmas.{value_of_number}

@@ -2,14 +2,14 @@ use Rattle.std.proofs.Common.{◌≡◌, ◌+◌, ◌-◌, ◌==◌, ◌≤◌, 
 use Rattle.std.proofs.lemmas.List.{get_or_past}
 use Rattle.std.proofs.lemmas.Nat.Bits.{bit_at-zero}
 use Rattle.fts_pack.specs.column.Column.{IsColumn, is_within, least_of}
-use Rattle.fts_pack.specs.column.Lanes.{AreMarked, in_lanes}
+use Rattle.fts_pack.specs.column.OffsetArray.{AreMarked, in_lanes}
 use Rattle.fts_pack.proofs.PackingLemmas.{length-numbers_in}
 use Rattle.fts_pack.proofs.ColumnLemmas.{column_length, lane_there, presence-values_at, stretch_inside, unwrap_least}
 use Rattle.fts_pack.proofs.LanesLemmas.{marked_values, none_below}
 use Rattle.fts_pack.proofs.column.column.Column.marks_within.Goals as goal
 
-pub marked-marks-requires : goal.marked-marks-requires
-marked-marks-requires c =
+pub mask_within-marks-requires : goal.mask_within-marks-requires
+mask_within-marks-requires c =
     let column = c.self.inside in
     let size = column_length c.args.self.now _ _ _ _ c.self.view_is in
     stretch_inside c.args.self.now column.range column.width column.words.items (in_lanes column.lanes)
@@ -42,10 +42,10 @@ returns c =
     let lanes = in_lanes column.lanes in
     let least = c.unwrap_or-least.result.0 in
     let least_is : least_of column.range ≡ least = sym (ap (λ r. r.0) c.unwrap_or-least.ensures ∙ unwrap_least column.range) in
-    let found : AreMarked (drop c.args.from lanes) (c.args.low - least) (c.args.high - least) c.marked-marks.result =
-    subst (λ n. AreMarked (drop c.args.from lanes) n (c.args.high - least) c.marked-marks.result) c.saturating_sub-above.ensures c.marked-marks.ensures in
+    let found : AreMarked (drop c.args.from lanes) (c.args.low - least) (c.args.high - least) c.mask_within-marks.result =
+    subst (λ n. AreMarked (drop c.args.from lanes) n (c.args.high - least) c.mask_within-marks.result) c.saturating_sub-above.ensures c.mask_within-marks.ensures in
     marked_values c.args.self.now column.range column.width column.words.items lanes column.present least c.args.from c.args.low c.args.high
-    c.marked-marks.result c.word.result
+    c.mask_within-marks.result c.word.result
     (subst (λ v. IsColumn v c.self.inside.range c.self.inside.width c.self.inside.words.items (in_lanes c.self.inside.lanes)) c.self.view_is
     c.self.invariant.0) (ap (map is_some) (sym c.self.view_is)
     ∙ presence-values_at _ _ _ (length-numbers_in 64 c.self.inside.width _ c.self.inside.words.items)) least_is (omega (arith, c.if-high-least.false))

@@ -1,8 +1,8 @@
 use Rattle.std.proofs.Common.{◌≡◌, ◌<◌, ◌^◌, ◌-◌, ◌∙◌, ap, subst}
 use Rattle.fts_pack.specs.bits.Digits.{words_of}
-use Rattle.fts_pack.specs.column.Blocks.{AreEndsOf, in_blocks}
+use Rattle.fts_pack.specs.column.BlockRanges.{AreEndsOf, in_blocks}
 use Rattle.fts_pack.specs.column.Column.{spread_of, least_of, offsets}
-use Rattle.fts_pack.specs.column.Lanes.{AreLanesOf, in_lanes}
+use Rattle.fts_pack.specs.column.OffsetArray.{AreLanesOf, in_lanes}
 use Rattle.fts_pack.proofs.ColumnLemmas.{HaveOffsets-range, IsColumn-built, column_values, unwrap_least, unwrap_spread}
 use Rattle.fts_pack.proofs.column.column.Column.packed.Goals as goal
 

@@ -1,6 +1,6 @@
 use Rattle.std.proofs.Common.{subst}
 use Rattle.fts_pack.specs.column.Column.{IsColumn}
-use Rattle.fts_pack.specs.column.Lanes.{in_lanes}
+use Rattle.fts_pack.specs.column.OffsetArray.{in_lanes}
 use Rattle.fts_pack.proofs.ColumnLemmas.{column_width}
 use Rattle.fts_pack.proofs.column.column.Column.width.Goals as goal
 

@@ -1,7 +1,7 @@
 use Rattle.std.proofs.Common.{◌≡◌, ◌+◌, ◌%◌, ◌^◌, ◌∙◌, ap, subst, arith}
 use Rattle.std.proofs.lemmas.List.{get_or-drop}
 use Rattle.fts_pack.specs.column.Column.{IsColumn, least_of}
-use Rattle.fts_pack.specs.column.Lanes.{in_lanes}
+use Rattle.fts_pack.specs.column.OffsetArray.{in_lanes}
 use Rattle.fts_pack.proofs.ColumnLemmas.{column_length, lane_read, nothing_past, stretch_inside, unwrap_least}
 use Rattle.fts_pack.proofs.column.column.Column.write_values.Goals as goal
 

@@ -1,0 +1,60 @@
+// How an index is merged, as work that a session hands on to its engine.
+ghost use Rattle.std.specs.Prelude.{◌≡◌, ◌+◌, ◌^◌, ◌≤◌};
+ghost use Rattle.fts_engine_local.specs.EndedMerges.{Begins, EndsMerge};
+
+use fts_engine_local::{BegunMerge, LocalEngine};
+use fts_model::Refusal;
+use fts_script::session::Maintenance;
+
+/// Limits what commits merge.
+#[derive(Drop)]
+pub(crate) struct LimitMerges {
+    pub(crate) limit: Option<u32>,
+}
+
+impl Maintenance<LocalEngine> for LimitMerges {
+    type Done = ();
+
+    fn done(self, engine: &mut LocalEngine)
+        ensures index { engine.new.index ≡ engine.old.index }
+        ensures changes { engine.new.calls ≤ engine.old.calls + 1 }
+        ensures counted { 2 ^ 61 ≤ engine.old.calls → engine.new.calls ≡ engine.old.calls }
+        ensures limited { engine.new ≡ record engine.old { limit = self.limit } }
+    {
+        engine.limit_merges(self.limit);
+    }
+}
+
+/// Begins a merge.
+#[derive(Drop)]
+pub(crate) struct BeginMerge;
+
+impl Maintenance<LocalEngine> for BeginMerge {
+    type Done = Result<Option<BegunMerge>, Refusal>;
+
+    fn done(self, engine: &mut LocalEngine) -> Result<Option<BegunMerge>, Refusal>
+        ensures index { engine.new.index ≡ engine.old.index }
+        ensures changes { engine.new.calls ≤ engine.old.calls + 1 }
+        ensures counted { 2 ^ 61 ≤ engine.old.calls → engine.new.calls ≡ engine.old.calls }
+        ensures begun { Begins engine.old engine.new result }
+    {
+        engine.begin_merge()
+    }
+}
+
+/// Ends the merge that was begun last.
+#[derive(Drop)]
+pub(crate) struct EndMerge;
+
+impl Maintenance<LocalEngine> for EndMerge {
+    type Done = Result<bool, Refusal>;
+
+    fn done(self, engine: &mut LocalEngine) -> Result<bool, Refusal>
+        ensures index { engine.new.index ≡ engine.old.index }
+        ensures changes { engine.new.calls ≤ engine.old.calls + 1 }
+        ensures counted { 2 ^ 61 ≤ engine.old.calls → engine.new.calls ≡ engine.old.calls }
+        ensures ended { EndsMerge engine.old engine.new result }
+    {
+        engine.end_merge()
+    }
+}

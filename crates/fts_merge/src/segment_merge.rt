@@ -1,0 +1,87 @@
+// Makes one segment of the live documents of several.
+ghost use Rattle.std.specs.Prelude.{◌≡◌, ◌≢◌, ◌↔◌, ◌<◌, ◌∷◌, ◌++◌, [], Err, All, IfOk, IfErr, OnOk, length, nat_lt};
+ghost use Rattle.std.specs.Prelude.{if◌then◌else◌};
+ghost use Rattle.fts_base.specs.declared.refusal.Refusal.TheVariants.{Memory, TooLarge};
+ghost use Rattle.fts_model.specs.Limits.{most_merged};
+ghost use Rattle.fts_merge.specs.Merges.{merge_of, origins_in, origins_from};
+ghost use Rattle.fts_segment.specs.Sources.{HasBits, live_count, AreOfOneSchema};
+
+use crate::origin::Origin;
+use crate::merged::Merged;
+use fts_model::{MOST_MERGED, Refusal};
+use fts_pack::bits::Bits;
+use fts_segment::{LiveSegment, join};
+use std::alloc::{AllocError, Global};
+
+/// Whether there are more live documents than a merged segment may have.
+fn is_too_large(sources: &[LiveSegment<'_>]) -> bool
+    ensures { result ≡ nat_lt most_merged (live_count sources.now) }
+{
+    let mut room = MOST_MERGED;
+    for source in sources {
+        let live = source.live().count_ones();
+        if live > room {
+            return true;
+        }
+        room -= live;
+    }
+    false
+}
+
+/// Puts the origin of a document after others, if the document is live.
+fn push_origin(origins: &mut Vec<Origin>, origin: Origin, live: bool) -> Result<(), AllocError>
+    ensures { OnOk result
+        (origins.new.items ≡ origins.old.items ++ (if live then origin ∷ [] else [])) }
+{
+    if live {
+        origins.push(origin)?;
+    }
+    Ok(())
+}
+
+/// Tells where the live documents of the source of this number come from.
+fn push_origins(origins: &mut Vec<Origin>, number: usize, live: &Bits) -> Result<(), AllocError>
+    ensures { OnOk result
+        (origins.new.items ≡ origins.old.items ++ origins_in number live.now) }
+{
+    for document in 0..live.len() {
+        let origin = Origin {
+            source: number,
+            document,
+        };
+        push_origin(origins, origin, live.get(document))?;
+    }
+    Ok(())
+}
+
+/// Where the live documents of sources come from.
+fn origins_of(alloc: Global, sources: &[LiveSegment<'_>]) -> Result<Vec<Origin>, AllocError>
+    ensures origins { IfOk result (λ origins. origins.items ≡ origins_from 0 sources.now) }
+    ensures bits { OnOk result (All HasBits sources.now) }
+{
+    let mut origins = Vec::new(alloc);
+    for (number, source) in sources.iter().enumerate() {
+        push_origins(&mut origins, number, source.live())?;
+    }
+    Ok(origins)
+}
+
+/// One segment of the live documents of sources, of which there is at least one and all have one schema. The documents
+/// are in the order of the sources, and those of a source in the order of their numbers. They are handles, and the
+/// terms in them are joined of those of the sources: no text is copied, and none is read again.
+///
+/// `TooLarge` if there are over 1,048,576 live documents; they are counted before any is taken.
+pub fn merge(alloc: Global, sources: &[LiveSegment<'_>]) -> Result<Merged, Refusal>
+    requires some { 0 < length sources.now }
+    requires schemas { AreOfOneSchema sources.now }
+    ensures ok { IfOk result (λ merged. merged ≡ merge_of sources.now) }
+    ensures large { (result ≡ Err TooLarge) ↔ (most_merged < live_count sources.now) }
+    ensures other { IfErr result (λ e. e ≢ TooLarge → e ≡ Memory) }
+{
+    if is_too_large(sources) {
+        return Err(Refusal::TooLarge);
+    }
+    let origins = origins_of(alloc, sources)?;
+    let segment = join(alloc, sources)?;
+    Ok(Merged::new(segment, origins, sources.len()))
+}

@@ -1,5 +1,0 @@
-use Rattle.fts_pack.proofs.BlocksLemmas.{block_taken}
-use Rattle.fts_pack.proofs.column.blocks.block_at.Goals as goal
-
-pub returns : goal.returns
-returns c = block_taken c.args.values.now c.args.block c.min.result c.min.ensures

@@ -1,5 +1,0 @@
-use Rattle.fts_pack.proofs.BlocksLemmas.{AreFirstEnds}
-use Rattle.fts_pack.proofs.column.blocks.words_of.Given as goal
-
-abbrev pub invariant-loop-block : goal.invariant-loop-block
-invariant-loop-block l = AreFirstEnds l.least l.values l.block l.words.items

@@ -1,7 +1,0 @@
-use Rattle.std.proofs.Common.{map, take}
-use Rattle.fts_pack.specs.column.Counts.{AreCounted}
-use Rattle.fts_pack.specs.column.Lanes.{number_at}
-use Rattle.fts_pack.proofs.column.counts.count_present.Given as goal
-
-abbrev pub invariant-loop-doc : goal.invariant-loop-doc
-invariant-loop-doc g l = AreCounted (number_at l.present (map g.L.Lane.value l.lanes)) (take l.doc-index l.docs) l.fn.counts l.counts

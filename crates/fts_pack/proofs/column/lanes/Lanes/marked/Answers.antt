@@ -1,7 +1,0 @@
-use Rattle.std.proofs.Common.{drop}
-use Rattle.fts_pack.specs.column.Lanes.{in_lanes}
-use Rattle.fts_pack.proofs.LanesLemmas.{none_between}
-use Rattle.fts_pack.proofs.column.lanes.Lanes.marked.Goals as goal
-
-pub returns-then-high-low : goal.returns-then-high-low
-returns-then-high-low c = none_between (drop c.args.from (in_lanes c.args.self.now)) c.args.low c.args.high c.if-high-low.true

@@ -1,0 +1,7 @@
+use Rattle.std.proofs.Common.{map, take}
+use Rattle.fts_pack.specs.column.Counts.{AreCounted}
+use Rattle.fts_pack.specs.column.OffsetArray.{number_at}
+use Rattle.fts_pack.proofs.column.value_counts.count_present.Given as goal
+
+abbrev pub invariant-loop-doc : goal.invariant-loop-doc
+invariant-loop-doc g l = AreCounted (number_at l.present (map g.L.OffsetInt.value l.lanes)) (take l.doc-index l.docs) l.fn.counts l.counts

@@ -1,5 +1,0 @@
-use Rattle.fts_pack.proofs.NumbersLemmas.{AreBuilt}
-use Rattle.fts_pack.proofs.numbers.Numbers.packed.Given as goal
-
-abbrev pub invariant-loop-block : goal.invariant-loop-block
-invariant-loop-block l = AreBuilt l.numbers l.block l.blocks.items l.words.items

@@ -1,0 +1,62 @@
+use Rattle.std.proofs.Common.{◌≡◌, ◌<◌, true, [], All, length, get_or, drop, ap, ap₂, sym, subst, ◌∙◌, arith}
+use Rattle.std.proofs.lemmas.List.{get_or_read}
+use Rattle.fts_segment.specs.Parts.{PartValue, begins, given, passed, moved}
+use Rattle.fts_segment.specs.Postings.{postings_of}
+use Rattle.fts_segment.specs.TermPositionLists.{position_lists_in}
+use Rattle.fts_segment.proofs.PartLemmas.{begins-within, given-here, passed-here}
+use Rattle.fts_segment.proofs.PutsLemmas.{puts-as}
+use Rattle.fts_segment.proofs.term_stream.TermStream.take_term.Goals as goal
+use Rattle.fts_segment.proofs.term_stream.TermStream.take_term.Goals.{After-get-positions}
+
+-- the term is the next name of the dictionary
+next_of : (c : After-get-positions) → let p = c.self.inside in begins c.args.term.now (drop p.at p.dictionary.now.names) ≡ true
+next_of c = ap (λ (q : PartValue). begins c.args.term.now q.names) c.self.view_is ∙ sym c.is_next.ensures ∙ c.if-is_next.true
+
+within_of : (c : After-get-positions) → c.self.inside.at < length c.self.inside.dictionary.now.names
+within_of c = begins-within c.args.term.now c.self.inside.dictionary.now.names c.self.inside.at (next_of c)
+
+-- its documents
+list_of : (c : After-get-positions) → c.index-list.result.now ≡ get_or c.self.inside.dictionary.now.lists.items c.self.inside.at []
+list_of c = let d = c.self.inside.dictionary.now in
+    get_or_read d.lists.items c.self.inside.at _ (omega (arith, within_of c, c.self.invariant.whole.listed)) c.index-list.ensures []
+
+-- and what the part gives for it
+given_of : (c : After-get-positions) → moved c.self.inside.numbers (postings_of c.index-list.result.now (position_lists_in c.get-positions.result))
+    ≡ given c.args.term.now c.args.self.now
+given_of c =
+    let p = c.self.inside in
+    ap₂ (λ list lists. moved p.numbers (postings_of list lists)) (list_of c) c.get-positions.ensures.positions
+    ∙ sym (given-here c.args.term.now p.at p.dictionary.now p.numbers c.self.invariant.whole (next_of c)) ∙ ap (given c.args.term.now) c.self.view_is
+
+pub copy_postings-requires-clause-lists : goal.copy_postings-requires-clause-lists
+copy_postings-requires-clause-lists c = c.self.invariant.lists_are ∙ sym c.get-positions.ensures.lists
+
+pub copy_postings-requires-clause-paired : goal.copy_postings-requires-clause-paired
+copy_postings-requires-clause-paired c =
+    let a = (goal.at.copy_postings-requires-clause-paired c).After-get-positions in
+    ap length (list_of a) ∙ c.self.invariant.whole.paired c.self.inside.at (within_of a) ∙ sym (ap length c.get-positions.ensures.positions)
+
+pub copy_postings-requires-clause-numbered : goal.copy_postings-requires-clause-numbered
+copy_postings-requires-clause-numbered c =
+    let a = (goal.at.copy_postings-requires-clause-numbered c).After-get-positions in
+    let p = c.self.inside in
+    subst (All (λ doc. doc < length p.numbers)) (sym (list_of a)) (c.self.invariant.whole.numbered p.at (within_of a))
+
+pub invariant_of-self : goal.invariant_of-self
+invariant_of-self c =
+    record { whole = c.self.invariant.whole; next = c.self.invariant.next; lists_are = c.copy_postings.ensures.same ∙ c.self.invariant.lists_are }
+
+pub invariant_of-self-then-is_next : goal.invariant_of-self-then-is_next
+invariant_of-self-then-is_next c =
+    record { whole = c.self.invariant.whole; next = c.term_at-self-inside.ensures; lists_are = c.copy_postings.ensures.same ∙ c.self.invariant.lists_are }
+
+pub returns-in_ok-copy_postings-clause-part : goal.returns-in_ok-copy_postings-clause-part
+returns-in_ok-copy_postings-clause-part c =
+    let a = (goal.at.returns-in_ok-copy_postings-clause-part c).After-get-positions in
+    let p = c.self.inside in
+    c.fetch.ensures
+    ∙ sym (passed-here c.args.term.now p.at p.dictionary.now p.numbers c.self.invariant.whole (next_of a)) ∙ ap (passed c.args.term.now) c.self.view_is
+
+pub returns-in_ok-copy_postings-clause-puts : goal.returns-in_ok-copy_postings-clause-puts
+returns-in_ok-copy_postings-clause-puts c =
+    let a = (goal.at.returns-in_ok-copy_postings-clause-puts c).After-get-positions in puts-as (sym (given_of a)) c.in_ok-copy_postings.ensures.puts

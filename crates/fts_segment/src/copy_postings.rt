@@ -1,0 +1,125 @@
+// Moves the postings of a term to documents of other numbers.
+ghost use Rattle.std.specs.Prelude.{◌≡◌, ◌+◌, ◌-◌, ◌<◌, ◌≤◌, ◌^◌, ◌++◌, [], All, OnOk, drop, length, map};
+ghost use Rattle.std.specs.Prelude.{slice_get, slice_index_or};
+ghost use Rattle.fts_segment.specs.Parts.{moved, placed};
+ghost use Rattle.fts_segment.specs.PositionListLogs.{IsPositionListLog};
+ghost use Rattle.fts_segment.specs.Postings.{posting_at, postings_of};
+ghost use Rattle.fts_segment.specs.Puts.{Puts};
+ghost use Rattle.fts_segment.specs.TermPositionLists.{position_lists_in};
+ghost use Rattle.fts_segment.specs.PositionCopiers.{lists_in};
+
+use crate::position_copier::PositionCopier;
+use crate::doc_map::DocMap;
+use crate::position_lists::PositionListLog;
+use crate::term_positions::TermPositionLists;
+use fts_pack::{BLOCK, Blocks, List};
+use std::alloc::AllocError;
+
+/// Puts documents after others, with a number added to each.
+fn push_shifted(docs: &mut Vec<u32>, first: u32, block: &[u32]) -> Result<(), AllocError>
+    requires { All (λ doc. first + doc < 2 ^ 32) block.now }
+    ensures { OnOk result (docs.new.items ≡ docs.old.items ++ map (λ doc. first + doc) block.now) }
+{
+    for doc in block {
+        docs.push(first + *doc)?;
+    }
+    Ok(())
+}
+
+/// Puts the documents of a list after others, with a number added to each. `room` is for a block of them.
+fn copy_shifted(
+    list: &List,
+    first: u32,
+    room: &mut [u32; BLOCK],
+    docs: &mut Vec<u32>,
+) -> Result<(), AllocError>
+    requires { All (λ doc. first + doc < 2 ^ 32) list.now }
+    ensures { OnOk result (docs.new.items ≡ docs.old.items ++ map (λ doc. first + doc) list.now) }
+{
+    let mut source = list.source();
+    for block in 0..source.blocks() {
+        let count = source.open(block, room);
+        push_shifted(docs, first, &room[..count])?;
+    }
+    Ok(())
+}
+
+/// Moves a posting whose positions are the list of this number, if its document has a new number.
+fn copy_posting(
+    doc: u32,
+    list: usize,
+    numbers: &DocMap,
+    lists: &mut PositionCopier<'_>,
+    docs: &mut Vec<u32>,
+    log: &mut PositionListLog,
+) -> Result<(), AllocError>
+    requires is { IsPositionListLog log.old }
+    requires within { list < length (lists_in lists.old) }
+    ensures same { lists_in lists.new ≡ lists_in lists.old }
+    ensures puts { let posting = posting_at doc (slice_index_or (lists_in lists.old) list []) in OnOk result
+        (Puts (placed (slice_get numbers.now doc) posting) docs.old.items log.old docs.new.items log.new) }
+{
+    match numbers.get(doc) {
+        Some(number) => {
+            docs.push(number)?;
+            lists.move_lists(list, list + 1, log)?;
+            Ok(())
+        }
+        None => Ok(()),
+    }
+}
+
+/// Moves some postings of which the first has the list of the number `start`.
+fn copy_block(
+    block: &[u32],
+    start: usize,
+    numbers: &DocMap,
+    lists: &mut PositionCopier<'_>,
+    docs: &mut Vec<u32>,
+    log: &mut PositionListLog,
+) -> Result<(), AllocError>
+    requires is { IsPositionListLog log.old }
+    requires within { length block.now ≤ length (lists_in lists.old) - start }
+    ensures same { lists_in lists.new ≡ lists_in lists.old }
+    ensures puts { OnOk result (Puts (moved numbers.now (postings_of block.now (drop start (lists_in lists.old))))
+        docs.old.items log.old docs.new.items log.new) }
+{
+    for (index, doc) in block.iter().enumerate() {
+        copy_posting(*doc, start + index, numbers, lists, docs, log)?;
+    }
+    Ok(())
+}
+
+/// Puts the postings of a term after others, by the new numbers of their documents: these after `docs`, and their
+/// positions after those of a log. `room` is for a block of documents. Where no document is dead, positions are moved
+/// as a whole.
+pub(crate) fn copy_postings(
+    list: &List,
+    positions: TermPositionLists<'_>,
+    numbers: &DocMap,
+    lists: &mut PositionCopier<'_>,
+    room: &mut [u32; BLOCK],
+    docs: &mut Vec<u32>,
+    log: &mut PositionListLog,
+) -> Result<(), AllocError>
+    requires is { IsPositionListLog log.old }
+    requires lists { lists_in lists.old ≡ positions.lists.now }
+    requires paired { length list.now ≡ length (position_lists_in positions) }
+    requires numbered { All (λ doc. doc < length numbers.now) list.now }
+    ensures same { lists_in lists.new ≡ lists_in lists.old }
+    ensures puts { OnOk result (Puts (moved numbers.now (postings_of list.now (position_lists_in positions.entry)))
+        docs.old.items log.old docs.new.items log.new) }
+{
+    if let Some(first) = numbers.first() {
+        copy_shifted(list, first, room, docs)?;
+        lists.move_lists(positions.start, positions.end, log)?;
+        return Ok(());
+    }
+    let mut source = list.source();
+    for block in 0..source.blocks() {
+        let count = source.open(block, room);
+        let start = positions.start + block * BLOCK;
+        copy_block(&room[..count], start, numbers, lists, docs, log)?;
+    }
+    Ok(())
+}

@@ -1,0 +1,157 @@
+// A dictionary that is passed term by term, as it is joined with others.
+ghost use Rattle.std.specs.Prelude.{◌≡◌, drop, slice_get, OnOk};
+ghost use Rattle.fts_segment.specs.Parts.{begins, given, passed, part_from, IsWhole};
+ghost use Rattle.fts_segment.specs.PositionListLogs.{IsPositionListLog};
+ghost use Rattle.fts_segment.specs.Puts.{Puts};
+
+use crate::position_copier::PositionCopier;
+use crate::dictionary::Dictionary;
+use crate::copy_postings::copy_postings;
+use crate::names::Name;
+use crate::doc_map::DocMap;
+use crate::position_lists::PositionListLog;
+use fts_pack::{BLOCK, List};
+use std::alloc::AllocError;
+use std::marker::Model;
+
+/// How many lists are fetched at once.
+const AHEAD: usize = 32;
+
+/// What is left of a dictionary, with new numbers of its documents. Contracts see the terms that are left with their
+/// postings, and the numbers.
+#[derive(Drop)]
+pub(crate) struct TermStream<'a> {
+    dictionary: &'a Dictionary,
+    numbers: DocMap,
+    at: usize,
+    /// The next term.
+    term: Option<Name<'a>>,
+    lists: PositionCopier<'a>,
+    /// Room for a block of documents.
+    room: [u32; BLOCK],
+    /// How many documents the lists have that were fetched last. Nothing needs it but that they are read.
+    fetched: usize,
+}
+
+impl<'a> Model for TermStream<'a> {
+    ghost use Rattle.fts_segment.specs.Parts.{PartValue, IsPartOf, part_from};
+
+    ghost Value = { PartValue };
+
+    ghost view = { λ p. part_from p.at p.dictionary.now p.numbers };
+
+    ghost invariant = { λ p. IsPartOf p.at p.dictionary.now p.numbers p.term p.lists };
+}
+
+/// The term of this number, if there is one.
+fn term_at(dictionary: &Dictionary, at: usize) -> Option<Name<'_>>
+    ensures { result ≡ slice_get (drop at dictionary.now.names) 0 }
+{
+    if at < dictionary.names.len() {
+        Some(dictionary.names.name(at))
+    } else {
+        None
+    }
+}
+
+/// How many documents lists have, modulo 2^64.
+fn documents_in(lists: &[List]) -> usize {
+    let mut documents = 0usize;
+    for list in lists {
+        documents = documents.wrapping_add(list.len());
+    }
+    documents
+}
+
+impl<'a> TermStream<'a> {
+    /// A whole dictionary.
+    pub(crate) fn new(dictionary: &'a Dictionary, numbers: DocMap) -> TermStream<'a>
+        requires { IsWhole dictionary.now numbers }
+        ensures { result ≡ part_from 0 dictionary.now numbers }
+    {
+        TermStream {
+            dictionary,
+            numbers,
+            at: 0,
+            term: term_at(dictionary, 0),
+            lists: dictionary.positions.lists.unpacked(),
+            room: [0; BLOCK],
+            fetched: 0,
+        }
+    }
+
+    /// How many terms the dictionary has, and how many positions. Nothing needs them but that there is room for both.
+    pub(crate) fn size(&self) -> (usize, usize) {
+        let Dictionary {
+            names,
+            positions,
+            ..
+        } = self.dictionary;
+        (names.len(), positions.lists.positions())
+    }
+
+    /// The next term, if one is left.
+    pub(crate) fn term(&self) -> Option<Name<'a>>
+        ensures { result ≡ slice_get self.now.names 0 }
+    {
+        match &self.term {
+            Some(term) => Some(term.again()),
+            None => None,
+        }
+    }
+
+    /// Whether a term is the next one.
+    fn is_next(&self, term: &Name<'_>) -> bool
+        ensures { result ≡ begins term.now self.now.names }
+    {
+        match &self.term {
+            Some(next) => next.is(term),
+            None => false,
+        }
+    }
+
+    /// Reads a stretch of the lists to come, so that they are fetched from memory side by side. Parts are too many arrays
+    /// for the processor to fetch ahead by itself, and a join would wait for each list when its term comes.
+    fn fetch(&mut self)
+        ensures { self.new ≡ self.old }
+    {
+        if self.at % AHEAD == 0 {
+            let count = self.dictionary.lists.len();
+            let start = self.at.min(count);
+            let end = start.saturating_add(2 * AHEAD).min(count);
+            self.fetched = documents_in(&self.dictionary.lists[start..end]);
+        }
+    }
+
+    /// Passes a term, if it is the next one, and puts its postings after others: their documents after `docs`, and
+    /// their positions after those of a log.
+    pub(crate) fn take_term(
+        &mut self,
+        term: &Name<'_>,
+        docs: &mut Vec<u32>,
+        log: &mut PositionListLog,
+    ) -> Result<(), AllocError>
+        requires { IsPositionListLog log.old }
+        ensures part { OnOk result (self.new ≡ passed term.now self.old) }
+        ensures puts { OnOk result
+            (Puts (given term.now self.old) docs.old.items log.old docs.new.items log.new) }
+    {
+        if self.is_next(term) {
+            let list = &self.dictionary.lists[self.at];
+            let positions = self.dictionary.positions.get(self.at);
+            copy_postings(
+                list,
+                positions,
+                &self.numbers,
+                &mut self.lists,
+                &mut self.room,
+                docs,
+                log,
+            )?;
+            self.at += 1;
+            self.term = term_at(self.dictionary, self.at);
+            self.fetch();
+        }
+        Ok(())
+    }
+}

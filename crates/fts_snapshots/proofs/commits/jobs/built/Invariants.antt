@@ -1,6 +1,0 @@
--- What stays true in the loop of `commits::jobs::built`.
-use Rattle.std.proofs.Common.{◌≡◌, false, take}
-use Rattle.fts_snapshots.proofs.commits.jobs.built.Given as goal
-
-abbrev pub invariant-loop-document : goal.invariant-loop-document
-invariant-loop-document l = l.builder ≡ record { segment = record { schema = l.schema; documents = take l.document-index l.documents }; merging = false }

@@ -1,0 +1,37 @@
+-- What is left of the proof of `merges::sources::named_entries`.
+use Rattle.std.proofs.Common.{◌∙◌, ◌+◌, ◌++◌, ◌∷◌, [], get_or, take, drop, nat_eq, ap, sym, subst, add-one}
+use Rattle.std.proofs.Math.Seq.{drop-cons}
+use Rattle.std.proofs.lemmas.List.{append-nil, take_more}
+use Rattle.std.proofs.lemmas.Grind.{flat_map-append}
+use Rattle.std.specs.HashSet.{contains}
+use Rattle.fts_snapshots.specs.Merges.{entry_at, entries_at, fault_behind}
+use Rattle.fts_snapshots.specs.Lookups.{TellsOf}
+use Rattle.fts_snapshots.proofs.merges.named_entries.named_entries.Goals as goal
+
+pub loop-id-preserved : goal.loop-id-preserved
+loop-id-preserved c =
+    let es = c.args.entries.now in
+    let ids = c.args.ids.now in
+    let i = c.loop-id.id-index in
+    let id = get_or ids i 0 in
+    let before = take i ids in
+    let after = drop (i + 1) ids in
+    let more = take_more ids i 0 c.loop-id-test.true in
+    let rest = drop-cons ids i 0 c.loop-id-test.true ∙ ap (λ k. id ∷ drop k ids) (sym (add-one i)) in
+    let named = c.in_ok-named.ensures in
+    let same = c.in_ok-lookup.ensures in
+    record {
+      names = subst (TellsOf (contains nat_eq c.named.new.names)) (sym more) (named.names before c.loop-id.invariant.names);
+      found =
+          c.in_ok-push.ensures.items
+          ∙ ap (λ fs. fs ++ c.in_ok-named.field-0 ∷ []) c.loop-id.invariant.found
+          ∙ ap (λ fs. entries_at es before ++ fs) (sym (ap (λ fs. entry_at fs id) (sym same) ∙ named.entry))
+          ∙ ap (λ fs. entries_at es before ++ fs) (sym (append-nil (entry_at es id)))
+          ∙ sym (ap (entries_at es) more ∙ flat_map-append (entry_at es) before (id ∷ []));
+      left =
+          ap (λ xs. fault_behind es xs after) more
+          ∙ sym (ap (λ fs. fault_behind fs before (id ∷ after)) (sym same) ∙ named.fault before after c.loop-id.invariant.names
+          ∙ ap (λ fs. fault_behind fs (before ++ id ∷ []) after) same)
+          ∙ ap (fault_behind es before) (sym rest)
+          ∙ c.loop-id.invariant.left;
+    }

@@ -1,0 +1,200 @@
+// Merges in whatever holds the last commit of an index: of all segments, and of those that a policy names.
+ghost use Rattle.std.specs.Prelude.{◌≡◌, ◌+◌, ◌^◌, ◌<◌, ◌≤◌, ◌⊎◌, ◌∷◌, [], length, map, sum_by};
+ghost use Rattle.std.specs.Prelude.{IfOk, IfErr, OnOk, OnErr, IsOkUnless, MatchOption, is_ok};
+ghost use Rattle.fts_model.specs.Limits.{most_merged};
+ghost use Rattle.fts_snapshots.specs.Candidates.{MergesAllBut, MergesDue, after_candidate, due};
+ghost use Rattle.fts_snapshots.specs.Changes.{Merges};
+ghost use Rattle.fts_snapshots.specs.Entries.{live_count};
+ghost use Rattle.fts_snapshots.specs.Infos.{candidate_ids_by};
+ghost use Rattle.fts_snapshots.specs.Snapshots.{content_of};
+
+use crate::entries::{Entry, ids_of_entries};
+use crate::snapshot::Snapshot;
+use crate::commit_point::CommitPoint;
+use fts_merge::MergePolicy;
+use fts_model::{MOST_MERGED, Refusal};
+use std::alloc::Global;
+use std::sync::Arc;
+
+/// What holds the last commit of an index, and can merge its segments, given an `R` to work with: a writer may have to
+/// wait, and needs one that can.
+pub trait Mergeable<R> {
+    ghost use Rattle.std.specs.Prelude.{◌≡◌, OnOk, OnErr};
+    ghost use Rattle.fts_base.specs.Results.{Gives, ok_unless};
+    ghost use Rattle.fts_snapshots.specs.LateMerges.{after_merge};
+    ghost use Rattle.fts_snapshots.specs.Snapshots.{SnapshotValue, content_of, merge_fault};
+
+    /// What the last commit left.
+    ghost left: { Self → SnapshotValue };
+
+    /// What merges leave as it is, beside what is found.
+    ghost keeps: { Self → Self → Type 0 };
+
+    /// What the last commit left.
+    fn last_commit(&self) -> &Snapshot
+        ensures { result.now ≡ left self.now };
+
+    /// Makes one segment of the live documents of the segments of these numbers, as [`Snapshot::merge`] does. A refusal
+    /// leaves everything as it was.
+    fn merge_segments(&mut self, rt: &R, alloc: Global, ids: &[u64]) -> Result<(), Refusal>
+        ensures snapshot { Gives (λ done. left self.new) result
+            (ok_unless (merge_fault ids.now (left self.old)) (after_merge ids.now (left self.old))) }
+        ensures content { OnOk result (content_of (left self.new) ≡ content_of (left self.old)) }
+        ensures keeps { keeps self.old self.new }
+        ensures same { OnErr result (self.new ≡ self.old) };
+
+    ghost keeps_itself: { (x : Self) → keeps x x };
+
+    ghost keeps_further: { (x y z : Self) → keeps x y → keeps y z → keeps x z };
+}
+
+impl<R> Mergeable<R> for Arc<CommitPoint> {
+    ghost use Rattle.std.specs.Prelude.{◌≡◌, refl};
+    ghost use Rattle.std.specs.Arc.{arc_value};
+    ghost use Rattle.std.proofs.Common.{◌∙◌};
+
+    ghost left = { λ commit. (arc_value commit).snapshot };
+
+    ghost keeps = { λ old new. (arc_value new).stamp ≡ (arc_value old).stamp };
+
+    fn last_commit(&self) -> &Snapshot {
+        &self.snapshot
+    }
+
+    fn merge_segments(&mut self, _rt: &R, alloc: Global, ids: &[u64]) -> Result<(), Refusal> {
+        let stamp = self.stamp;
+        let snapshot = self.snapshot.merge(alloc, ids)?;
+        *self = Arc::new(alloc, CommitPoint { stamp, snapshot })?;
+        Ok(())
+    }
+
+    ghost keeps_itself = { λ x. refl };
+
+    ghost keeps_further = { λ x y z xy yz. yz ∙ xy };
+}
+
+/// How many live documents segments have together, unless they are over 1,048,576: then no merge makes one of them.
+fn live_in(entries: &[Entry]) -> Option<usize>
+    ensures { MatchOption result (most_merged < sum_by live_count entries.now)
+        (λ live. (live ≡ sum_by live_count entries.now) × (live ≤ most_merged)) }
+{
+    let mut live = 0;
+    for entry in entries {
+        let more = entry.live_count();
+        if more > MOST_MERGED - live {
+            return None;
+        }
+        live += more;
+    }
+    Some(live)
+}
+
+/// Merges all segments into one, if there is one, and answers how many documents are live. It is refused as `TooLarge`
+/// if there are over 1,048,576.
+pub fn merge_all<R, S: Mergeable<R>>(rt: &R, alloc: Global, index: &mut S) -> Result<u64, Refusal>
+    requires { 0 < length (S.left index.old).entries → (S.left index.old).next_id + 1 ≤ 2 ^ 62 }
+    ensures merges { OnOk result (Merges 1 (S.left index.old) (S.left index.new)) }
+    ensures one { OnOk result (length (S.left index.new).entries ≤ 1) }
+    ensures keeps { S.keeps index.old index.new }
+    ensures count { IfOk result (λ n. n ≡ length (content_of (S.left index.old))) }
+    ensures few { IfOk result (λ n. n ≤ most_merged) }
+    ensures same { OnErr result (index.new ≡ index.old) }
+    ensures refused { IfErr result (λ e. (e ≡ Refusal.Memory) ⊎ ((e ≡ Refusal.TooLarge)
+        × (most_merged < length (content_of (S.left index.old))))) }
+{
+    let entries = index.last_commit().entries().to_vec(alloc)?;
+    if entries.is_empty() {
+        return Ok(0);
+    }
+    let Some(live) = live_in(&entries) else {
+        return Err(Refusal::TooLarge);
+    };
+    let ids = ids_of_entries(alloc, &entries)?;
+    index.merge_segments(rt, alloc, &ids)?;
+    Ok(live as u64)
+}
+
+/// Merges the segments of a candidate. If they can't be merged, they stay.
+fn merge_candidate<R, S: Mergeable<R>>(
+    rt: &R,
+    alloc: Global,
+    index: &mut S,
+    ids: &[u64],
+) -> Result<(), Refusal>
+    ensures merged { OnOk result (S.left index.new ≡ after_candidate ids.now (S.left index.old)) }
+    ensures same { OnErr result (index.new ≡ index.old) }
+    ensures several { 2 ≤ length ids.now → Merges 0 (S.left index.old) (S.left index.new) }
+    ensures merges { Merges 1 (S.left index.old) (S.left index.new) }
+    ensures keeps { S.keeps index.old index.new }
+    ensures memory { IsOkUnless result Refusal.Memory }
+{
+    match index.merge_segments(rt, alloc, ids) {
+        Ok(()) => Ok(()),
+        Err(Refusal::Memory) => Err(Refusal::Memory),
+        Err(_) => Ok(()),
+    }
+}
+
+/// Merges the segments of a candidate, and tells for how many memory ran out: for it, or for none.
+fn try_candidate<R, S: Mergeable<R>>(rt: &R, alloc: Global, index: &mut S, ids: &[u64]) -> usize
+    ensures merged { MergesAllBut result (ids.now ∷ []) (S.left index.old) (S.left index.new) }
+    ensures few { result ≤ 1 }
+    ensures several { 2 ≤ length ids.now → Merges 0 (S.left index.old) (S.left index.new) }
+    ensures merges { Merges 1 (S.left index.old) (S.left index.new) }
+    ensures keeps { S.keeps index.old index.new }
+{
+    match merge_candidate(rt, alloc, index, ids) {
+        Ok(()) => 0,
+        Err(_) => 1,
+    }
+}
+
+/// Merges candidates one after the other, up to the first of one segment: that takes a number for a segment which no
+/// other call gives back, and a commit has one to spare. If memory runs out for one, its segments stay, and the others
+/// are merged. Tells for how many it ran out.
+fn merge_due<R, S: Mergeable<R>>(
+    rt: &R,
+    alloc: Global,
+    index: &mut S,
+    candidates: &[Vec<u64>],
+) -> usize
+    ensures due { MergesAllBut result (due (map (λ ids. ids.items) candidates.now)) (S.left index.old)
+        (S.left index.new) }
+    ensures merges { Merges 1 (S.left index.old) (S.left index.new) }
+    ensures keeps { S.keeps index.old index.new }
+{
+    let mut refused = 0;
+    for ids in candidates {
+        refused += try_candidate(rt, alloc, index, ids);
+        if ids.len() < 2 {
+            return refused;
+        }
+    }
+    refused
+}
+
+/// Merges what a policy says of the last commit: its candidates one after the other, up to the first of one segment.
+/// One that can't be merged stays, and so does one for which memory runs out, which is refused: a later commit may
+/// merge it. The others are merged.
+pub fn merge_planned<R, S: Mergeable<R>>(
+    rt: &R,
+    alloc: Global,
+    index: &mut S,
+    policy: &MergePolicy,
+) -> Result<(), Refusal>
+    requires floor { policy.now.floor ≤ most_merged }
+    requires most { policy.now.most ≤ most_merged }
+    ensures planned { MergesDue (candidate_ids_by policy.now (S.left index.old).entries) (S.left index.old)
+        (S.left index.new) (is_ok result) }
+    ensures merges { Merges 1 (S.left index.old) (S.left index.new) }
+    ensures keeps { S.keeps index.old index.new }
+    ensures memory { IsOkUnless result Refusal.Memory }
+{
+    let Ok(candidates) = index.last_commit().plan_by(alloc, policy) else {
+        return Err(Refusal::Memory);
+    };
+    if merge_due(rt, alloc, index, &candidates) > 0 {
+        return Err(Refusal::Memory);
+    }
+    Ok(())
+}

@@ -1,0 +1,94 @@
+// A merge that was begun: it may be run in any thread, beside the writer.
+ghost use Rattle.std.specs.Prelude.{◌≡◌, ◌⊎◌, None, Some, IfOk, IfErr, OnOk, map, sum_by};
+ghost use Rattle.fts_base.specs.Results.{Gives, ok_unless};
+ghost use Rattle.fts_snapshots.specs.Entries.{live_count};
+ghost use Rattle.fts_snapshots.specs.Merges.{size_fault};
+ghost use Rattle.fts_snapshots.specs.MergedSegments.{IsJob, ids_of, merged_of};
+ghost use Rattle.fts_snapshots.specs.Sources.{source_of};
+
+use crate::entries::{Entry, ids_of_entries};
+use crate::merges::merged_segment::MergedSegment;
+use fts_merge::{LiveSegment, merge};
+use fts_model::Refusal;
+use std::alloc::{AllocError, Global};
+use std::marker::Model;
+
+/// The segments of a merge with their live bits as they were when it was begun. Contracts see it as these segments, in
+/// the order of the merge.
+#[derive(Drop)]
+pub struct MergeJob {
+    entries: Vec<Entry>,
+}
+
+impl Model for MergeJob {
+    ghost use Rattle.std.specs.Prelude.{List};
+    ghost use Rattle.fts_snapshots.specs.Entries.{EntryValue};
+    ghost use Rattle.fts_snapshots.specs.MergedSegments.{IsJob};
+
+    ghost Value = { List EntryValue };
+
+    ghost view = { λ job. job.entries.items };
+
+    ghost invariant = { λ job. IsJob job.entries.items };
+}
+
+impl MergeJob {
+    /// The job of these segments.
+    pub(crate) fn new(entries: Vec<Entry>) -> MergeJob
+        requires { IsJob entries.items }
+        ensures { result ≡ entries.items }
+    {
+        MergeJob { entries }
+    }
+
+    /// The segments.
+    pub fn entries(&self) -> &[Entry]
+        ensures entries { result.now ≡ self.now }
+        ensures job { IsJob self.now }
+    {
+        &self.entries
+    }
+
+    /// Makes one segment of the live documents, in the order of the segments. It needs no writer, and nothing is found
+    /// differently by it.
+    ///
+    /// `TooLarge` for over 1,048,576 live documents. A refusal hands the job back.
+    pub fn run(self, alloc: Global) -> Result<MergedSegment, (MergeJob, Refusal)>
+        ensures merged { IfOk result (λ merged. merged ≡ merged_of self) }
+        ensures few { OnOk result (size_fault (sum_by live_count self) ≡ None) }
+        ensures refused { IfErr result (λ e.
+            (e.1 ≡ Refusal.Memory) ⊎ (size_fault (sum_by live_count self) ≡ Some e.1)) }
+        ensures handed_back { IfErr result (λ e. e.0 ≡ self) }
+    {
+        match merged(alloc, &self.entries) {
+            Ok(merged) => Ok(merged),
+            Err(refusal) => Err((self, refusal)),
+        }
+    }
+}
+
+/// Segments as the sources of a merge.
+fn sources<'a>(alloc: Global, entries: &'a [Entry]) -> Result<Vec<LiveSegment<'a>>, AllocError>
+    ensures { IfOk result (λ sources. sources.items ≡ map source_of entries.now) }
+{
+    let mut sources = Vec::with_capacity(alloc, entries.len())?;
+    for entry in entries {
+        sources.push(LiveSegment::new(entry.segment(), entry.live()))?;
+    }
+    Ok(sources)
+}
+
+/// One segment of the live documents of segments.
+fn merged(alloc: Global, entries: &[Entry]) -> Result<MergedSegment, Refusal>
+    requires { IsJob entries.now }
+    ensures { Gives (λ merged. merged) result
+        (ok_unless (size_fault (sum_by live_count entries.now)) (merged_of entries.now)) }
+{
+    let sources = sources(alloc, entries)?;
+    let merged = match merge(alloc, &sources) {
+        Ok(merged) => merged,
+        Err(refusal) => return Err(refusal),
+    };
+    let ids = ids_of_entries(alloc, entries)?;
+    Ok(MergedSegment::new(merged, ids))
+}
