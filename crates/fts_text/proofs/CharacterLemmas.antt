@@ -1,4 +1,4 @@
--- ASCII beside the tables.
+-- ASCII characters and the Unicode tables.
 use Rattle.std.proofs.Common.{◌≡◌, ℕ, ◌<◌, refl}
 use Rattle.std.specs.Bool.{beq}
 use Rattle.std.specs.Char.{is_ascii_alphanumeric}

@@ -7,17 +7,17 @@ use Rattle.std.specs.Str.{chars, IsUtf8}
 use Rattle.unicode.specs.CaseFolding.{simple_fold}
 use Rattle.fts_text.specs.Characters.{fold_chars}
 
--- no characters are left
+-- the folding of no characters is empty
 pub fold_chars-empty : (bs : List ℕ) → length bs ≡ 0 → fold_chars (chars bs) ≡ []
 fold_chars-empty [] h = ap fold_chars chars-nil
 fold_chars-empty (b ∷ bs) h = absurd (omega arith)
 
--- the next character
+-- the folding of a text begins with that of its first character
 pub fold_chars-more : (bs rest : List ℕ) (c : ℕ) → IsUtf8 bs → bs ≡ encode_utf8 c ++ rest → fold_chars (chars bs) ≡ encode_utf8 (simple_fold c)
     ++ fold_chars (chars rest)
 fold_chars-more bs rest c text begins = ap fold_chars (chars_past_char bs rest c text begins)
 
--- what is written and what is still to come, after the next character
+-- the written folding and the remaining one join to the whole, after the next character
 pub fold_chars-step : (bs rest out new whole : List ℕ) (c d : ℕ) → IsUtf8 bs → bs ≡ encode_utf8 c ++ rest → d ≡ simple_fold c → new ≡ out ++ encode_utf8 d →
     out ++ fold_chars (chars bs) ≡ whole → new ++ fold_chars (chars rest) ≡ whole
 fold_chars-step bs rest out new whole c d text begins folds grows all =
@@ -27,7 +27,7 @@ fold_chars-step bs rest out new whole c d text begins folds grows all =
     ∙ ap (λ l. out ++ l) (sym (fold_chars-more bs rest c text begins))
     ∙ all
 
--- so the next character fits if the whole does
+-- the next character's folding fits if the whole does
 pub length-fold_chars-step : (bs rest out whole : List ℕ) (c d : ℕ) → IsUtf8 bs → bs ≡ encode_utf8 c ++ rest → d ≡ simple_fold c →
     out ++ fold_chars (chars bs) ≡ whole → length out + length (encode_utf8 d) ≤ length whole
 length-fold_chars-step bs rest out whole c d text begins folds all =
@@ -37,7 +37,7 @@ length-fold_chars-step bs rest out whole c d text begins folds all =
     let same = ap length grown in
     omega arith
 
--- what was there before stays at the front
+-- an append leaves the earlier bytes at the front
 pub begins-step : (out more new old : List ℕ) (n : ℕ) → take n out ≡ old → n ≡ length old → new ≡ out ++ more → take n new ≡ old
 begins-step out more new old n begins long grows =
     let same = ap length begins in

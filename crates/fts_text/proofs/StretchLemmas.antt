@@ -22,12 +22,12 @@ use Rattle.fts_text.proofs.FrontLemmas.{front, after, length-front}
 use Rattle.fts_text.proofs.SpanLemmas.{is_nonempty, parts, chars_of-char_indices, byte_len-char_indices, start_of-char_indices, spans-gap, spans-front}
 use Rattle.fts_text.proofs.SpanLemmas.{spans-nil, after-gap}
 
--- the characters are those of the front and those after it
+-- the front and the characters after it join to the text, by whether the first character is of the class
 front-after-at : (a b : Bool) (c : ℕ) (cs : List ℕ) → cs ≡ front a cs ++ after a cs → c ∷ cs ≡ cond b (c ∷ front a cs) [] ++ cond b (after a cs) (c ∷ cs)
 front-after-at a true c cs h = ap (λ l. c ∷ l) h
 front-after-at a false c cs h = refl
 
--- characters are a front and what is behind it
+-- characters are their front and what is after it
 front-after : (a : Bool) (cs : List ℕ) → cs ≡ front a cs ++ after a cs
 front-after a [] = refl
 front-after a (c ∷ cs) = front-after-at a (beq (is_alphanumeric c) a) c cs (front-after a cs)
@@ -42,11 +42,11 @@ pub record Stands (n at : ℕ) (cs : List ℕ) (r : ℕ × Span) : Type 0 where
   pub some : 0 < length (encodes here)
   pub numbered : r.0 ≤ n + length (encodes before)
 
--- two lists of characters are as long as both
+-- the bytes of two joined lists of characters are as many as those of both
 length-encodes-append : (xs ys : List ℕ) → length (encodes (xs ++ ys)) ≡ length (encodes xs) + length (encodes ys)
 length-encodes-append xs ys = ap length (encodes-append xs ys) ∙ length-append (encodes xs) (encodes ys)
 
--- a span of what follows others stands in the whole
+-- a span of the rest of a text is a span of the text
 Stands-later : (n at : ℕ) (cs xs rest : List ℕ) (r : ℕ × Span) → cs ≡ xs ++ rest → 0 < length (encodes xs) → Stands (n + 1) (at + length (encodes xs)) rest r →
     Stands n at cs r
 Stands-later n at cs xs rest r whole some s =
@@ -62,17 +62,17 @@ Stands-later n at cs xs rest r whole some s =
       numbered = omega (arith, s.numbered);
     }
 
--- what follows from a fact of all holds of all
+-- a property that follows from one of all members holds of all members
 AllByRecursion-weaker : {X : Type 0} (P Q : X → Type 0) (xs : List X) → ((x : X) → P x → Q x) → AllByRecursion P xs → AllByRecursion Q xs
 AllByRecursion-weaker P Q [] h all = tt
 AllByRecursion-weaker P Q (x ∷ xs) h all = (h x all.0, AllByRecursion-weaker P Q xs h all.1)
 
--- characters with a byte are some
+-- characters that take a byte are not an empty list
 length-some : (xs : List ℕ) → 0 < length (encodes xs) → 0 < length xs
 length-some [] some = absurd (omega arith)
 length-some (x ∷ xs) some = omega arith
 
--- each span stands in the characters, for characters that are at most `fuel` many
+-- each span is in a text of at most `fuel` characters
 Stands-all : (fuel n at : ℕ) (cs : List ℕ) → length cs ≤ fuel → AllByRecursion (Stands n at cs) (enumerate_from n (spans at cs))
 Stands-all zero n at [] few = let P : List Span → Type 0 = λ rs. AllByRecursion (Stands n at []) (enumerate_from n rs) in subst P (sym (spans-nil at)) tt
 Stands-all zero n at (c ∷ cs) few = absurd (omega arith)
@@ -118,30 +118,30 @@ Stands-all (suc fuel) n at cs few =
           subst P (sym (spans-gap at cs ∙ ap (spans (at + front_len false cs)) empty ∙ spans-nil (at + front_len false cs))) tt
     ]
 
--- what holds of all holds of those kept
+-- a property of all members holds of those that a filter leaves
 AllByRecursion-filter : {X : Type 0} (P : X → Type 0) (test : X → Bool) (xs : List X) → AllByRecursion P xs → AllByRecursion P (filter test xs)
 AllByRecursion-filter P test [] all = tt
 AllByRecursion-filter P test (x ∷ xs) all =
     let rest = AllByRecursion-filter P test xs all.1 in
     elim (test x) as (λ b. AllByRecursion P (cond b (x ∷ filter test xs) (filter test xs))) [ true ↦ (all.0, rest) | false ↦ rest ]
 
--- what holds of all holds of what they are mapped to
+-- a property of all members gives one of all their images
 AllByRecursion-map : {X Y : Type 0} (P : X → Type 0) (Q : Y → Type 0) (f : X → Y) (xs : List X) → ((x : X) → P x → Q (f x)) → AllByRecursion P xs →
     AllByRecursion Q (map f xs)
 AllByRecursion-map P Q f [] h all = tt
 AllByRecursion-map P Q f (x ∷ xs) h all = (h x all.0, AllByRecursion-map P Q f xs h all.1)
 
--- two functions that agree on a list's members map it alike
+-- two functions that agree on a list's members map it to the same list
 map-same : {X Y : Type 0} (P : X → Type 0) (f g : X → Y) (xs : List X) → ((x : X) → P x → f x ≡ g x) → AllByRecursion P xs → map f xs ≡ map g xs
 map-same P f g [] h all = refl
 map-same P f g (x ∷ xs) h all = λ i. h x all.0 i ∷ map-same P f g xs h all.1 i
 
--- each span that is kept stands in its text
+-- each span that is a token is in its text
 Stands-kept : (first : ℕ) (cs : List ℕ) → AllByRecursion (Stands first 0 cs) (kept first (spans 0 cs))
 unfolding kept
 Stands-kept first cs = AllByRecursion-filter (Stands first 0 cs) _ (enumerate_from first (spans 0 cs)) (Stands-all (length cs) first 0 cs (omega arith))
 
--- characters of two lists are characters of each
+-- if joined lists are of characters, each list is
 scalars-both : (xs ys : List ℕ) → scalars (xs ++ ys) ≡ true → (scalars xs ≡ true) × (scalars ys ≡ true)
 scalars-both [] ys all = (refl, all)
 scalars-both (x ∷ xs) ys all =
@@ -149,7 +149,7 @@ scalars-both (x ∷ xs) ys all =
     let rest = scalars-both xs ys parts.1 in
     (ap (λ b. b && scalars xs) parts.0 ∙ rest.0, rest.1)
 
--- a span that stands in a text, as bytes
+-- a span is in a text, as bytes
 record StandsInBytes (first : ℕ) (text : List ℕ) (r : ℕ × Span) : Type 0 where
   before : List ℕ
   here : List ℕ
@@ -164,7 +164,7 @@ record StandsInBytes (first : ℕ) (text : List ℕ) (r : ℕ × Span) : Type 0 
   some : 0 < length (encodes here)
   numbered : r.0 ≤ first + length (encodes before)
 
--- a span of a text's characters stands in its bytes
+-- a span of a text's characters is in its bytes
 StandsInBytes-from : (first : ℕ) (text : List ℕ) → IsUtf8 text → (r : ℕ × Span) → Stands first 0 (chars text) r → StandsInBytes first text r
 StandsInBytes-from first text utf8 r s =
     let all : scalars (s.before ++ (s.here ++ s.behind)) ≡ true = ap scalars (sym s.whole) ∙ scalars-chars text utf8 in
@@ -188,7 +188,7 @@ StandsInBytes-from first text utf8 r s =
       numbered = omega (arith, s.numbered);
     }
 
--- the place of a span that stands in a text stands there
+-- the place of a span that is in a text is in the text
 IsPlaceFrom-from : (first : ℕ) (text : List ℕ) (r : ℕ × Span) → StandsInBytes first text r → IsPlaceFrom first text (place_of r)
 IsPlaceFrom-from first text r s =
     let here = encodes s.here in
@@ -209,7 +209,7 @@ IsPlaceFrom-from first text r s =
       numbered = omega (arith, s.starts, s.numbered);
     }
 
--- what stands between two parts is the range between them
+-- a part between two others is the range between them
 slice_range-seam : (text before here behind : List ℕ) (a b : ℕ) → text ≡ before ++ (here ++ behind) → a ≡ length before → b ≡ a + length here →
     slice_range text a b ≡ here
 slice_range-seam text before here behind a b whole starts ends =
@@ -230,13 +230,13 @@ token_at-from first text r s =
     let spelled = ap chars bytes ∙ chars-encodes s.here s.here_text ∙ sym s.spelled in
     ap (λ cs. (r.0, fold_chars cs)) spelled
 
--- the kept spans stand in the text's bytes
+-- the spans that are tokens are in the text's bytes
 StandsInBytes-all : (first : ℕ) (text : List ℕ) → IsUtf8 text → AllByRecursion (StandsInBytes first text) (kept first (spans 0 (chars text)))
 StandsInBytes-all first text utf8 =
     AllByRecursion-weaker (Stands first 0 (chars text)) (StandsInBytes first text) (kept first (spans 0 (chars text))) (StandsInBytes-from first text utf8)
     (Stands-kept first (chars text))
 
--- each place of a text stands in it
+-- each place of a text is in it
 pub All-IsPlaceFrom : (first : ℕ) (text : List ℕ) → IsUtf8 text → All (IsPlaceFrom first text) (places_from first text)
 unfolding places_from
 All-IsPlaceFrom first text utf8 =
@@ -247,7 +247,7 @@ All-IsPlaceFrom first text utf8 =
 pub All-IsPlaceIn : (first : ℕ) (text : List ℕ) → IsUtf8 text → All (IsPlaceIn text) (places_from first text)
 All-IsPlaceIn first text utf8 = λ k d lt. (All-IsPlaceFrom first text utf8 k d lt).place
 
--- the tokens of a text are what stands at its places
+-- the tokens of a text are those at its places
 pub tokens-places : (first : ℕ) (text : List ℕ) → IsUtf8 text → map (token_at text) (places_from first text) ≡ tokens_from first text
 unfolding places_from tokens_from
 tokens-places first text utf8 =
@@ -255,12 +255,12 @@ tokens-places first text utf8 =
     ∙ map-same (StandsInBytes first text) (λ r. token_at text (place_of r)) (λ r. (r.0, fold_chars (chars_of r.1))) (kept first (spans 0 (chars text)))
     (token_at-from first text) (StandsInBytes-all first text utf8)
 
--- a list with one in front or not is no shorter, and at most one longer
+-- a list with an optional first member is no shorter, and at most one longer
 length-cond : {X : Type 0} (b : Bool) (x : X) (xs : List X) → (length xs ≤ length (cond b (x ∷ xs) xs)) × (length (cond b (x ∷ xs) xs) ≤ length xs + 1)
 length-cond true x xs = (omega arith, omega arith)
 length-cond false x xs = (omega arith, omega arith)
 
--- a character more makes at most one part more
+-- one more character adds at most one part
 length-onto_first : (p : ℕ × ℕ) (ps : List Span) → length (filter is_nonempty (onto_first p ps)) ≤ length (filter is_nonempty ps) + 1
 length-onto_first p [] = omega (arith, length-cond (is_nonempty (p ∷ [])) (p ∷ []) [])
 length-onto_first p (first ∷ rest) =
@@ -295,7 +295,7 @@ length-places first text utf8 =
     let of_places = length-map (filter short numbered) place_of in
     omega arith
 
--- the text behind begins at most one number above what the bytes come to
+-- the next text's first number is at most one above this text's first number plus its bytes
 behind-le : (first n : ℕ) → behind_spans first (first + n) ≤ first + n + 1
 behind-le first n =
     elim (nat_eq (first + n) first) as (λ b. cond b first (first + n + 1) ≤ first + n + 1) [ true ↦ omega arith | false ↦ omega arith ]
@@ -307,7 +307,7 @@ following-le first text utf8 =
     let same = ap length (encodes-chars text utf8) in
     omega (arith, behind-le first (length (spans 0 (chars text))), length-spans 0 (chars text), bytes, same)
 
--- the place that comes next, and those after it
+-- the next place is in the text, and so are those after it
 pub IsPlaceIn-first : (text : List ℕ) (token : Token) (left rest : List Token) → left ≡ token ∷ rest → All (IsPlaceIn text) left →
     IsPlaceIn text token × All (IsPlaceIn text) rest
 IsPlaceIn-first text token left rest first all =

@@ -13,15 +13,15 @@ use Rattle.ucd_category.specs.declared.GeneralCategoryGroup.TheVariants.{Number}
 unfoldable pub is_alphanumeric : ℕ → Bool
 is_alphanumeric c = is_alphabetic c || in_group Number (general_category c)
 
--- the characters, each by its simple case folding (UAX #44, Simple_Case_Folding), in UTF-8
+-- the UTF-8 of characters, each replaced by its simple case folding (UAX #44, Simple_Case_Folding)
 abbrev pub fold_chars : List ℕ → List ℕ
 fold_chars cs = encode_utf8_all (map simple_fold cs)
 
--- a text, each of its characters by its simple case folding
+-- a text with each character replaced by its simple case folding
 unfoldable pub folded : List ℕ → List ℕ
 folded text = fold_chars (chars text)
 
--- how many bytes the characters at the front take that are alphanumeric, or, at `false`, that are not
+-- the number of bytes of the longest prefix whose characters are all alphanumeric, or at `false` none
 abbrev pub front_len : Bool → List ℕ → ℕ
 front_len alphanumeric [] = 0
 front_len alphanumeric (c ∷ cs) = cond (beq (is_alphanumeric c) alphanumeric) (len_utf8 c + front_len alphanumeric cs) 0

@@ -18,8 +18,8 @@ fn fold_char(c: char) -> char
     simple_fold(c)
 }
 
-/// Appends the folding of a span, which may be longer or shorter than the span. Where a growth is
-/// refused, `out` is left as it was.
+/// Appends the case folding of a span, which may be longer or shorter than the span. If the allocator refuses a growth,
+/// `out` is unchanged.
 pub fn fold_into(span: &str, out: &mut String) -> Result<(), AllocError>
     ensures ok { OnOk result (string_bytes out.new ≡ string_bytes out.old ++ folded span.now) }
     ensures err { OnErr result (string_bytes out.new ≡ string_bytes out.old) }

@@ -1,10 +1,10 @@
-// Which characters are of a span. ASCII takes a short way past the tables.
+// Decides which characters belong to a span. ASCII takes a short way past the tables.
 ghost use Rattle.std.specs.Prelude.{◌≡◌};
 ghost use Rattle.fts_text.specs.Characters.{is_alphanumeric};
 
 use unicode::properties::{GeneralCategory, GeneralCategoryGroup, is_alphabetic};
 
-/// Whether a character is Alphabetic or a number, which is general category Nd, Nl or No.
+/// Whether a character is Alphabetic or a number (general category Nd, Nl or No).
 #[inline]
 pub fn is_alphanumeric(c: char) -> bool
     ensures { result ≡ is_alphanumeric c }

@@ -1,18 +1,17 @@
-// Goes over a text once, and finds its spans.
+// Finds the spans of a text in one pass.
 ghost use Rattle.std.specs.Prelude.{◌≡◌, ◌+◌, ◌^◌, ◌<◌, length};
 ghost use Rattle.std.specs.Str.{chars, IsUtf8};
 ghost use Rattle.fts_text.specs.Characters.{front_len};
 
 use crate::characters::is_alphanumeric;
 
-/// A span of this many bytes is too long for a token.
+/// A span of at least this many bytes is too long for a token.
 const LIMIT: usize = 40;
 
-/// Where a token of a text stands.
+/// The place of a token in a text.
 #[derive(Clone, Copy, Debug, PartialEq, Eq)]
 pub struct Token {
-    /// The number of the span, from 0 on. A span that is too long keeps its number, so the positions
-    /// may have gaps.
+    /// The number of the span, from 0. A span that is too long still takes a number, so positions may have gaps.
     pub position: usize,
     /// The byte of the text at which the span begins.
     pub start: usize,
@@ -24,7 +23,7 @@ impl Token {
     ghost use Rattle.std.specs.Prelude.{◌≡◌, slice_range};
     ghost use Rattle.fts_text.specs.Places.{IsPlaceIn};
 
-    /// The span of the text at this place, not folded.
+    /// The span at this place of the text, not folded.
     pub fn span<'a>(&self, text: &'a str) -> &'a str
         requires { IsPlaceIn text.now self.now }
         ensures { result.now ≡ slice_range text.now self.now.start self.now.end }
@@ -33,14 +32,14 @@ impl Token {
     }
 }
 
-/// The tokens of a text, in order.
+/// An iterator over the tokens of a text, in order.
 #[derive(Drop)]
 pub struct Tokens<'a> {
-    /// What is left of the text.
+    /// The text after the last span.
     rest: &'a str,
-    /// The byte of the text at which the rest begins.
+    /// The byte of the text at which `rest` begins.
     at: usize,
-    /// The number of the first span, and of the next.
+    /// The numbers of the first span and of the next one.
     first: usize,
     next_position: usize,
     ghost at_fits: { at + length rest.now < 2 ^ 64 },
@@ -52,7 +51,7 @@ impl<'a> Tokens<'a> {
     ghost use Rattle.fts_text.specs.Tokens.{following};
     ghost use Rattle.fts_text.specs.Places.{following_left, places, places_from, places_left, YieldsSpan};
 
-    /// The tokens of a text, from its first on.
+    /// Iterates over the tokens of a text, with spans numbered from 0.
     pub fn new(text: &'a str) -> Tokens<'a>
         ensures following { following_left result ≡ following 0 text.now }
         ensures tokens { places_left result ≡ places text.now }
@@ -60,7 +59,8 @@ impl<'a> Tokens<'a> {
         Tokens::over(text, 0)
     }
 
-    /// The tokens of a text whose first span has this number, as one of several texts of a field. Takes no memory.
+    /// Iterates over the tokens of a text whose spans are numbered from `first`, for one of several texts of a field.
+    /// Takes no memory.
     pub fn starting(text: &'a str, first: usize) -> Tokens<'a>
         requires { first + length text.now + 2 < 2 ^ 64 }
         ensures tokens { places_left result ≡ places_from first text.now }
@@ -69,7 +69,7 @@ impl<'a> Tokens<'a> {
         Tokens::over(text, first)
     }
 
-    /// The tokens of a text whose first span has this number.
+    /// Iterates over the tokens of a text whose spans are numbered from `first`.
     fn over(text: &'a str, first: usize) -> Tokens<'a>
         requires { first + length text.now < 2 ^ 64 }
         ensures tokens { places_left result ≡ places_from first text.now }
@@ -83,8 +83,8 @@ impl<'a> Tokens<'a> {
         }
     }
 
-    /// The number of the first span of the text after this one: two above that of the last span, long ones among them,
-    /// or the text's own first number if it has no span. What is left of the text is gone over. Takes no memory.
+    /// The number of the first span of the next text: two above that of the last span, which may be too long for a
+    /// token, or `first` if this text has no span. This reads the rest of the text and takes no memory.
     pub fn following(mut self) -> usize
         requires { following_left self < 2 ^ 64 }
         ensures { result ≡ following_left self.entry }
@@ -150,7 +150,7 @@ impl Iterator for Tokens<'_> {
     }
 }
 
-/// How many bytes the characters at the front of a text take that are alphanumeric, or that are not.
+/// The number of bytes of the longest prefix whose characters are all alphanumeric, or none if `alphanumeric` is false.
 fn front_len(text: &str, alphanumeric: bool) -> usize
     ensures len { result ≡ front_len alphanumeric (chars text.now) }
     ensures utf8 { IsUtf8 text.now }

@@ -6,7 +6,7 @@ use Rattle.fts_text.proofs.tokenizer.Tokens.following.Goals as goal
 use Rattle.std.specs.Prelude.{None}
 use Rattle.fts_text.specs.Tokens.{behind_spans}
 
--- where no span is left, what follows is known
+-- if no span is left, the next text's first number is known
 ended : (all s t : Tokens) → following_left s ≡ following_left all → YieldsSpan s None t → following_left all ≡ behind_spans t.first t.next_position
 ended all s t is h = sym is ∙ sym (following_left-none s t h) ∙ following_left-end t h.1
 
