@@ -1,4 +1,4 @@
--- Counts in a list, sums over views, and what holds of each view.
+-- Counts in a list, sums over views, and properties of every view.
 use Rattle.std.proofs.Common.{◌≡◌, ◌≢◌, ℕ, zero, suc, ◌+◌, ◌≤◌, List, [], ◌∷◌, ◌++◌, set, sym, refl, ap, subst, arith}
 use Rattle.std.proofs.lemmas.Bool.Decides.{nat_tests}
 use mathlib.Core.Option.{some, some-injective, some-ne-none}
@@ -26,13 +26,13 @@ module _ {V : Type 0} where
   total-push f [] v = omega arith
   total-push f (x ∷ xs) v = let r = total-push f xs v in omega arith
 
-  -- no view has more than all
+  -- one view has no more than all together
   pub one_le : (f : V → ℕ) (views : List V) (id : ℕ) (v : V) → get_elem? views id ≡ some v → f v ≤ total f views
   one_le f [] id v at = absurd (some-ne-none v (sym at))
   one_le f (x ∷ xs) zero v at = let is : f x ≡ f v = ap f (some-injective x v at) in omega arith
   one_le f (x ∷ xs) (suc id) v at = let r = one_le f xs id v at in omega arith
 
-  -- what holds of each view
+  -- each view has a property
   abbrev pub Each : (V → Type 0) → List V → Type 0
   Each P views = (id : ℕ) (v : V) → get_elem? views id ≡ some v → P v
 
@@ -49,7 +49,7 @@ module _ {V : Type 0} where
   each_push P (x ∷ xs) w each here zero u at = each 0 u at
   each_push P (x ∷ xs) w each here (suc j) u at = each_push P xs w (λ k v a. each (suc k) v a) here j u at
 
-  -- where a view without a share has nothing, and no view has one, there is nothing to add up
+  -- if a view without a share has nothing, and no view has a share, the total is zero
   none_left : (P : V → Type 0) (share f : V → ℕ) (idle : (v : V) → P v → share v ≡ 0 → f v ≡ 0) (views : List V) → Each P views → total share views ≡ 0 →
       total f views ≡ 0
   none_left P share f idle [] each none = refl

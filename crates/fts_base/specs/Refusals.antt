@@ -14,7 +14,7 @@ use Rattle.fts_base.specs.declared.refusal.Refusal.TheVariants.{SchemaTwice, Lin
 -- the number of a refusal, and its name, as scripts print it
 abbrev pub row_of : Refusal → ℕ × List ℕ
 row_of Memory = (0, codes "Memory")
--- of schemas, documents, terms and requests
+-- schemas, documents, terms and requests
 row_of NoFields = (1, codes "NoFields")
 row_of TooManyFields = (2, codes "TooManyFields")
 row_of BadName = (3, codes "BadName")
@@ -27,7 +27,7 @@ row_of TextTooLong = (9, codes "TextTooLong")
 row_of KeywordTooLong = (10, codes "KeywordTooLong")
 row_of BadLimit = (11, codes "BadLimit")
 row_of NotANumberField = (12, codes "NotANumberField")
--- of segments and queries
+-- segments and queries
 row_of SegmentFull = (13, codes "SegmentFull")
 row_of TooLong = (14, codes "TooLong")
 row_of (Syntax _) = (15, codes "Syntax")
@@ -36,7 +36,7 @@ row_of BadNumber = (17, codes "BadNumber")
 row_of RangeOnText = (18, codes "RangeOnText")
 row_of NoDefaultField = (19, codes "NoDefaultField")
 row_of AllNegative = (20, codes "AllNegative")
--- of merges, rounds and commits
+-- merges, rounds and commits
 row_of TooLarge = (21, codes "TooLarge")
 row_of RoundOpen = (22, codes "RoundOpen")
 row_of StampsUsedUp = (23, codes "StampsUsedUp")
@@ -44,12 +44,12 @@ row_of LaneFull = (24, codes "LaneFull")
 row_of (LaneMissing _) = (25, codes "LaneMissing")
 row_of StaleBatch = (26, codes "StaleBatch")
 row_of (OtherSchema _) = (27, codes "OtherSchema")
--- of segments that are named
+-- segments by number
 row_of (UnknownSegment _) = (28, codes "UnknownSegment")
 row_of (SegmentTwice _) = (29, codes "SegmentTwice")
 row_of NoSegments = (30, codes "NoSegments")
 row_of (SourceGone _) = (31, codes "SourceGone")
--- of lines and of readers
+-- lines and readers
 row_of BadJson = (32, codes "BadJson")
 row_of BadCommand = (33, codes "BadCommand")
 row_of NoSchema = (34, codes "NoSchema")

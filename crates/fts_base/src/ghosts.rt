@@ -1,10 +1,10 @@
-// What contracts alone read: a count, and the bytes of a stream. Neither takes a byte.
+// Values that only contracts read: a count, and the bytes of a stream. Neither takes a byte.
 ghost use Rattle.std.specs.Prelude.{◌≡◌, ◌+◌, ◌++◌, ℕ, List, []};
 ghost use Rattle.std.specs.Borrow.{ftrue};
 
 use std::marker::Model;
 
-/// A list of bytes, as those that a stream gave. It takes no bytes itself.
+/// A zero-sized list of bytes visible only to contracts, such as those read from a stream.
 #[derive(Drop)]
 pub struct GhostBytes {
     pub ghost bytes: { List ℕ },
@@ -15,14 +15,14 @@ impl Model for GhostBytes {
 }
 
 impl GhostBytes {
-    /// There were none yet.
+    /// An empty list.
     pub fn none() -> GhostBytes
         ensures { result.bytes ≡ [] }
     {
         GhostBytes {}
     }
 
-    /// These bytes came after them.
+    /// This list with `more` appended.
     pub fn and(&self, more: &[u8]) -> GhostBytes
         ensures { result.bytes ≡ self.now.bytes ++ more.now }
     {
@@ -30,13 +30,13 @@ impl GhostBytes {
     }
 }
 
-// It owns nothing that a thread could have.
+// It has no data, so any thread may have it.
 unsafe impl Send for GhostBytes {}
 
-/// A whole number, as of calls, for which contracts take it. It takes no bytes.
+/// A zero-sized counter visible only to contracts.
 #[derive(Drop)]
 pub struct GhostCount {
-    /// As many bytes as were counted.
+    /// A list with as many bytes as were counted.
     units: GhostBytes,
 }
 
@@ -49,7 +49,7 @@ impl Model for GhostCount {
 }
 
 impl GhostCount {
-    /// None were counted yet.
+    /// A count of zero.
     pub fn zero() -> GhostCount
         ensures { result ≡ 0 }
     {
@@ -58,7 +58,7 @@ impl GhostCount {
         }
     }
 
-    /// One more was counted.
+    /// This count plus one.
     pub fn and_one(&self) -> GhostCount
         ensures { result ≡ self.now + 1 }
     {

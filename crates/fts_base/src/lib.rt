@@ -1,9 +1,9 @@
-//! What every crate stands on: why a call is refused, and what contracts alone count.
+//! What every crate builds on: refusals, and values visible only to contracts.
 //!
-//! [`Refusal`] is the one enum of all refusals of the index; its `specs/` also say how what a call answers stands to
-//! what a definition says (`Gives`: that, or if memory runs out nothing). Crates that know no document stand on this
-//! crate alone. [`piece`] reads one of several lists that come one after the other in a buffer, and [`release`] lets a
-//! large buffer go.
+//! [`Refusal`] is the one enum of all refusals of the index. `specs/` also relates a call's result to what a definition
+//! says: `Gives` is that result, or `Memory` if the allocator refuses a growth. Crates that need no document depend on
+//! this crate alone. [`piece`] reads one of several lists that are concatenated in a buffer, and [`release`] frees a
+//! large buffer.
 #![tactic(auto)]
 
 mod buffers;

@@ -1,14 +1,13 @@
-// What a call of the index refuses, each cause with its number and its name.
+// The causes for which a call of the index is refused, each with its number and its name.
 ghost use Rattle.std.specs.Prelude.{◌≡◌, List, ℕ};
 ghost use Rattle.fts_base.specs.Refusals.{name_of, number_of};
 ghost use Rattle.fts_base.specs.declared.refusal.Refusal.TheVariants.{Memory};
 
 use std::alloc::{AllocError, AllocFailed};
 
-/// Why a call was refused. A refused call leaves everything that it was lent as it was.
+/// Why a call was refused. A refused call leaves all that it borrowed as it was.
 ///
-/// The numbers and the names are part of the format: scripts print the names, and neither ever
-/// changes.
+/// The numbers and the names are part of the format: scripts print the names, and neither ever changes.
 #[derive(Clone, Copy, Debug, PartialEq, Eq)]
 pub enum Refusal {
     /// 0: the allocator refused a growth.
@@ -35,7 +34,7 @@ pub enum Refusal {
     KeywordTooLong,
     /// 11: the length of a top list isn't within 1..=10,000.
     BadLimit,
-    /// 12: groups are wanted by a text field, or a top list by a text or keyword field.
+    /// 12: groups are requested for a text field, or a top list for a text or keyword field.
     NotANumberField,
     /// 13: the builder holds 65,536 documents.
     SegmentFull,
@@ -47,13 +46,13 @@ pub enum Refusal {
     TooDeep,
     /// 17: a literal or a bound of a number field is no number of its kind.
     BadNumber,
-    /// 18: a range or a comparison on a text field.
+    /// 18: a text field has a range or a comparison.
     RangeOnText,
-    /// 19: a literal without a field, and the schema has no default field.
+    /// 19: a literal has no field, and the schema has no default field.
     NoDefaultField,
-    /// 20: a Boolean node of must-nots alone.
+    /// 20: a Boolean node has only must-nots.
     AllNegative,
-    /// 21: more than 1,048,576 live documents to merge.
+    /// 21: more than 1,048,576 live documents are to be merged.
     TooLarge,
     /// 22: a round is open already.
     RoundOpen,
@@ -61,7 +60,7 @@ pub enum Refusal {
     StampsUsedUp,
     /// 24: the lane holds as many operations as it may.
     LaneFull,
-    /// 25: the end of this lane isn't there.
+    /// 25: this lane has not ended.
     LaneMissing(usize),
     /// 26: no round is open, or the batch isn't of the open round.
     StaleBatch,
@@ -69,25 +68,25 @@ pub enum Refusal {
     OtherSchema(u64),
     /// 28: no segment of the snapshot has this number.
     UnknownSegment(u64),
-    /// 29: this segment stands earlier in the same list.
+    /// 29: this segment occurs earlier in the list.
     SegmentTwice(u64),
     /// 30: the list of segments is empty.
     NoSegments,
-    /// 31: this source of a merge is gone, and the merge can't take its sources' place.
+    /// 31: this source of a merge is gone, so the merged segment can't replace the sources.
     SourceGone(u64),
     /// 32: the line isn't JSON, or isn't UTF-8, or nests more than 127 deep.
     BadJson,
     /// 33: the line is JSON and no command.
     BadCommand,
-    /// 34: a command other than the schema before a schema was taken.
+    /// 34: a command other than the schema comes before any schema.
     NoSchema,
-    /// 35: a second schema.
+    /// 35: the line has a second schema.
     SchemaTwice,
     /// 36: the line has more than 4,194,304 bytes before its end.
     LineTooLong,
     /// 37: the writer has as many readers as it may.
     NoReader,
-    /// 38: a list of more than 1,024 texts.
+    /// 38: a list has more than 1,024 texts.
     TooManyTexts,
 }
 
@@ -121,7 +120,7 @@ impl Refusal {
     {
         match self {
             Refusal::Memory => (0, "Memory"),
-            // of schemas, documents, terms and requests
+            // schemas, documents, terms and requests
             Refusal::NoFields => (1, "NoFields"),
             Refusal::TooManyFields => (2, "TooManyFields"),
             Refusal::BadName => (3, "BadName"),
@@ -134,7 +133,7 @@ impl Refusal {
             Refusal::KeywordTooLong => (10, "KeywordTooLong"),
             Refusal::BadLimit => (11, "BadLimit"),
             Refusal::NotANumberField => (12, "NotANumberField"),
-            // of segments and queries
+            // segments and queries
             Refusal::SegmentFull => (13, "SegmentFull"),
             Refusal::TooLong => (14, "TooLong"),
             Refusal::Syntax(_) => (15, "Syntax"),
@@ -143,21 +142,21 @@ impl Refusal {
             Refusal::RangeOnText => (18, "RangeOnText"),
             Refusal::NoDefaultField => (19, "NoDefaultField"),
             Refusal::AllNegative => (20, "AllNegative"),
-            // of rounds and their lanes
+            // rounds and their lanes
             Refusal::LaneMissing(_) => (25, "LaneMissing"),
             Refusal::LaneFull => (24, "LaneFull"),
             Refusal::RoundOpen => (22, "RoundOpen"),
             Refusal::StaleBatch => (26, "StaleBatch"),
             Refusal::OtherSchema(_) => (27, "OtherSchema"),
-            // of merges and stamps
+            // merges and stamps
             Refusal::TooLarge => (21, "TooLarge"),
             Refusal::StampsUsedUp => (23, "StampsUsedUp"),
-            // of segments that are named
+            // segments by number
             Refusal::UnknownSegment(_) => (28, "UnknownSegment"),
             Refusal::SegmentTwice(_) => (29, "SegmentTwice"),
             Refusal::NoSegments => (30, "NoSegments"),
             Refusal::SourceGone(_) => (31, "SourceGone"),
-            // of lines and of readers
+            // lines and readers
             Refusal::BadJson => (32, "BadJson"),
             Refusal::BadCommand => (33, "BadCommand"),
             Refusal::NoSchema => (34, "NoSchema"),

@@ -1,4 +1,4 @@
--- It owns nothing, so any thread may have it.
+-- It has no data, so any thread may have it.
 use denote.Param.Send.{IsSend}
 use Rattle.fts_base.specs.contracts.ghosts.GhostBytes.{the_row}
 

@@ -1,4 +1,4 @@
--- `and` makes the empty struct, with the bytes before and those of the slice.
+-- `and` makes the empty struct, with the earlier bytes and those of the slice.
 use Rattle.std.proofs.Common.{◌++◌, ◌<◌, ◌^◌, length}
 use mathlib.Core.Path.{refl}
 use mathlib.Core.List.{[], ◌∷◌}
