@@ -16,22 +16,22 @@ use Rattle.fts_base.specs.Results.{first_of, error_if_err}
 use Rattle.fts_model.specs.Schemas.{is_name, is_named, field_fault, first_fault, schema_fault}
 use Rattle.fts_model.specs.Documents.{value_in, fault_in_field, member_fault, members_fault}
 
--- where the first of two faults is none, neither is there
+-- if the first of two faults is none, each of them is none
 pub none_of_two : (x y : Option Refusal) → first_of x y ≡ None → (x ≡ None) × (y ≡ None)
 none_of_two None y h = (refl, h)
 none_of_two (Some e) y h = cc
 
--- a field without a fault passed the second test
+-- a field without a fault has no name of an earlier field
 second_test : (a b : Bool) (r : Option Refusal) → cond (not a) (Some BadName) (cond b (Some NameTwice) r) ≡ None → b ≡ false
 second_test true true r h = cc
 second_test true false r h = refl
 second_test false b r h = cc
 
--- no field before has the name of a field without a fault
+-- no earlier field has the name of a field without a fault
 pub not_taken : (before : List Field) (field : Field) → field_fault before field ≡ None → list_any (is_named field.name) before ≡ false
 not_taken before field h = second_test (is_name field.name) (list_any (is_named field.name) before) _ h
 
--- no member of a list with one more passes where none of the list does, and not the one
+-- if no member of a list with one more passes, none of the list passes, and the one does not
 pub none_of_more : (p : Field → Bool) (xs : List Field) (y : Field) → list_any p (xs ++ y ∷ []) ≡ false → (list_any p xs ≡ false) × (p y ≡ false)
 none_of_more p [] y h = (refl, (or_parts (p y) false h).0)
 none_of_more p (x ∷ xs) y h =
@@ -39,7 +39,7 @@ none_of_more p (x ∷ xs) y h =
     let rest = none_of_more p xs y here.1 in
     (or_from (p x) (list_any p xs) here.0 rest.0, rest.1)
 
--- no field before those without a fault has the name of one of them
+-- no earlier field has the name of one of the fields without a fault
 pub others_before : (before fields : List Field) → first_fault before fields ≡ None →
     (k : ℕ) (field : Field) → slice_get fields k ≡ Some field → list_any (is_named field.name) before ≡ false
 others_before before [] h k field e = cc
@@ -65,7 +65,7 @@ found_itself before (f ∷ fs) h (suc k) field e =
     let other = (none_of_more (is_named field.name) before f (others_before (before ++ f ∷ []) fs (none_of_two _ _ h).1 k field e)).1 in
     ap (λ b. cond b (Some f) (find (is_named field.name) fs)) other ∙ found_itself (before ++ f ∷ []) fs (none_of_two _ _ h).1 k field e
 
--- a schema's fields are not too many
+-- a schema's fields are at most 32
 no_fault_left : (b : Bool) (r : Option Refusal) → cond b (Some TooManyFields) r ≡ None → r ≡ None
 no_fault_left true r h = cc
 no_fault_left false r h = h
@@ -80,7 +80,7 @@ pub find_by_name : (fields : List Field) → schema_fault fields ≡ None →
     (k : ℕ) (field : Field) → slice_get fields k ≡ Some field → find (is_named field.name) fields ≡ Some field
 find_by_name fields h = found_itself [] fields (no_field_fault fields h)
 
--- a member that is found has no fault, however its name stands to the first one's
+-- a member that is found has no fault, by the order of its name and the first one's
 member_at : (fields : List Field) (name key : List ℕ) (value found : Data) (rest : Option Data) (o : Ordering) →
     slice_cmp nat_cmp name key ≡ o → match_ordering o rest (Some value) rest ≡ Some found →
     member_fault fields key value ≡ None → (rest ≡ Some found → member_fault fields name found ≡ None) →
@@ -101,7 +101,7 @@ member_without_fault fields (member key other ms) h name value e =
     member_at fields name key other value (get_member name ms) (slice_cmp nat_cmp name key) refl e both.0
     (λ r. member_without_fault fields ms both.1 name value r)
 
--- what an object without a fault has at a field's name is a value of the field
+-- the value of the member with a field's name, in an object without a fault, is a value of the field
 pub value_without_fault : (fields : List Field) (ms : Members) → schema_fault fields ≡ None → members_fault fields ms ≡ None →
     (k : ℕ) (field : Field) (value : Data) → slice_get fields k ≡ Some field → get_member field.name ms ≡ Some value →
     error_if_err (value_in field.kind value) ≡ None

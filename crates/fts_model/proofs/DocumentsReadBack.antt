@@ -1,4 +1,4 @@
--- A document as JSON is the document again, under the schema that it was made under.
+-- A document is read back from its JSON, under the schema that it was made under.
 use Rattle.std.proofs.Common.{◌≡◌, ℕ, suc, zero, true, false, true≢false, pos, negsuc, cond, List, [], ◌∷◌, ◌++◌, map, Ok, Err, Option, Some, None, refl, sym}
 use Rattle.std.proofs.Common.{ap, ◌∙◌, option_map, Ordering, Less, Equal, Greater, nat_cmp, bytes_eq}
 use Rattle.std.proofs.lemmas.Bool.{false_from_ne_true, or_parts, or_from}
@@ -32,7 +32,7 @@ strings_back : (texts : List (List ℕ)) → strings_in (items_of (map string te
 strings_back [] = refl
 strings_back (text ∷ texts) = ap (option_map (λ ts. text ∷ ts)) (strings_back texts)
 
--- so is a list that a text field can have
+-- a list that a text field can have is read from its JSON
 list_back : (text : List ℕ) (texts : List (List ℕ)) → (not (nat_lt 1024 (length (text ∷ texts))) && nat_le (bytes_of (text ∷ texts)) 1048576) ≡ true →
     texts_in (text ∷ texts) ≡ Ok (Some (values.Texts (text ∷ texts)))
 list_back text texts h =
@@ -62,27 +62,27 @@ value_back kinds.Keyword (values.Number n) h = cc
 value_back kinds.U64 (values.Number (numbers.I64 z)) h = cc
 value_back kinds.I64 (values.Number (numbers.U64 n)) h = cc
 
--- what a field can have is read from its JSON, if there is any
+-- a value that a field can have is read from its JSON, if there is one
 at_back : (field : Field) (value : Option FieldValue) → CanHave field.kind value →
     option_and_then (λ d. option_and_then (λ v. v) (value_if_ok (value_in field.kind d))) (option_map data_of value) ≡ value
 at_back field None h = refl
 at_back field (Some v) h = ap (λ r. option_and_then (λ w. w) (value_if_ok r)) (value_back field.kind v h)
 
--- names that are not equal byte by byte are two
+-- names that differ in a byte are different
 apart : (name other : List ℕ) → bytes_eq other name ≡ false → name ≡ other → ⊥
 apart name other h e = true≢false (sym ((bytes_eq-Decides other name).1 (sym e)) ∙ h)
 
--- equal byte by byte is the same turned round
+-- equality by bytes is symmetric
 turned : (name other : List ℕ) → bytes_eq name other ≡ false → bytes_eq other name ≡ false
 turned name other h = false_from_ne_true (bytes_eq other name) (λ e. apart other name h ((bytes_eq-Decides other name).0 e))
 
--- a field of another name puts nothing at a name
+-- a field of another name adds no member of a given name
 put_elsewhere : (name : List ℕ) (ms : Members) (field : Field) (value : Option FieldValue) → is_named name field ≡ false →
     get_member name (with_value ms field value) ≡ get_member name ms
 put_elsewhere name ms field None h = refl
 put_elsewhere name ms field (Some v) h = get_member-put_other name field.name (data_of v) ms (apart name field.name h)
 
--- nor do fields of other names
+-- fields of other names add no member of a given name
 all_elsewhere : (name : List ℕ) (ms : Members) (fields : List Field) (vs : List (Option FieldValue)) → list_any (is_named name) fields ≡ false →
     get_member name (with_values ms fields vs) ≡ get_member name ms
 all_elsewhere name ms [] vs h = refl
@@ -91,13 +91,13 @@ all_elsewhere name ms (field ∷ fields) (v ∷ vs) h =
     let both = or_parts (is_named name field) (list_any (is_named name) fields) h in
     all_elsewhere name (with_value ms field v) fields vs both.1 ∙ put_elsewhere name ms field v both.0
 
--- a field puts its value at its name, where nothing was
+-- a field adds its value at its name, if no member has that name
 put_here : (ms : Members) (field : Field) (value : Option FieldValue) → get_member field.name ms ≡ None →
     get_member field.name (with_value ms field value) ≡ option_map data_of value
 put_here ms field None h = h
 put_here ms field (Some v) h = get_member-put field.name (data_of v) ms
 
--- no field has a name, where each has another
+-- no field has a name, if each has another
 none_named : (field : Field) (fields : List Field) → ((k : ℕ) (other : Field) → slice_get fields k ≡ Some other → is_named other.name field ≡ false) →
     list_any (is_named field.name) fields ≡ false
 none_named field [] h = refl
@@ -106,25 +106,25 @@ none_named field (other ∷ fields) h =
     (turned field.name other.name (h zero other refl))
     (none_named field fields (λ k g e. h (suc k) g e))
 
--- no field behind one has its name, where they have no fault
+-- no later field has the name of an earlier one, if the fields have no fault
 none_behind : (before : List Field) (field : Field) (fields : List Field) → first_fault (before ++ field ∷ []) fields ≡ None →
     list_any (is_named field.name) fields ≡ false
 none_behind before field fields h =
     none_named field fields
     (λ k other e. (none_of_more (is_named other.name) before field (others_before (before ++ field ∷ []) fields h k other e)).1)
 
--- the members have no names but those of the fields
+-- the members have only names of the fields
 OnlyOf : List Field → Members → Type 0
 OnlyOf fields ms = (name : List ℕ) → list_any (is_named name) fields ≡ false → get_member name ms ≡ None
 
--- one more field puts no name but its own
+-- one more field adds no name but its own
 one_more_name : (before : List Field) (ms : Members) (field : Field) (value : Option FieldValue) → OnlyOf before ms →
     OnlyOf (before ++ field ∷ []) (with_value ms field value)
 unfolding OnlyOf
 one_more_name before ms field value h =
     λ name e. let both = none_of_more (is_named name) before field e in put_elsewhere name ms field value both.1 ∙ h name both.0
 
--- the fields' values are read from the members that they put
+-- the fields' values are read from the members that they add
 values_back : (ms : Members) (before fields : List Field) (vs : List (Option FieldValue)) → first_fault before fields ≡ None → OnlyOf before ms →
     AreValuesOf fields vs → map (value_at (with_values ms fields vs)) fields ≡ vs
 unfolding OnlyOf
@@ -145,7 +145,7 @@ values_back ms before (field ∷ fields) (v ∷ vs) h only can =
 neither : (x y : Option Refusal) → x ≡ None → y ≡ None → first_of x y ≡ None
 neither x y e f = ap (λ z. first_of z y) e ∙ f
 
--- one without a fault is put among members without one, however its name stands to the first one's
+-- a member without a fault is inserted among members without a fault, by the order of its name and the first one's
 put_at : (fields : List Field) (o : Ordering) (name other : List ℕ) (d e : Data) (ms : Members) → slice_cmp nat_cmp name other ≡ o →
     member_fault fields name d ≡ None → member_fault fields other e ≡ None → members_fault fields ms ≡ None → members_fault fields (put name d ms) ≡ None →
     members_fault fields (match_ordering o (member name d (member other e ms)) (member other d ms) (member other e (put name d ms))) ≡ None
@@ -154,7 +154,7 @@ put_at fields Equal name other d e ms c one there rest later =
     neither _ _ (ap (λ k. member_fault fields k d) (sym (exact_bytes name other c)) ∙ one) rest
 put_at fields Greater name other d e ms c one there rest later = neither _ _ there later
 
--- members without a fault have none where one without a fault is put
+-- members without a fault have none after a member without a fault is inserted
 put_without_fault : (fields : List Field) (name : List ℕ) (d : Data) (ms : Members) → member_fault fields name d ≡ None →
     members_fault fields ms ≡ None → members_fault fields (put name d ms) ≡ None
 put_without_fault fields name d no_members one h = neither _ _ one refl
@@ -162,7 +162,7 @@ put_without_fault fields name d (member other e ms) one h =
     let both = none_of_two (member_fault fields other e) (members_fault fields ms) h in
     put_at fields (slice_cmp nat_cmp name other) name other d e ms refl one both.0 both.1 (put_without_fault fields name d ms one both.1)
 
--- members without a fault have none with a field's value
+-- members without a fault have none after a field's value is inserted
 one_without_fault : (fields : List Field) (ms : Members) (field : Field) (value : Option FieldValue) →
     find (is_named field.name) fields ≡ Some field → CanHave field.kind value → members_fault fields ms ≡ None →
     members_fault fields (with_value ms field value) ≡ None
@@ -171,7 +171,7 @@ one_without_fault fields ms field (Some v) found can h =
     put_without_fault fields field.name (data_of v) ms
     (ap (λ there. fault_in_field there (data_of v)) found ∙ ap error_if_err (value_back field.kind v can)) h
 
--- nor where fields put what they can have
+-- members without a fault have none after fields insert values that they can have
 all_without_fault : (fields : List Field) (ms : Members) (some : List Field) (vs : List (Option FieldValue)) →
     ((k : ℕ) (field : Field) → slice_get some k ≡ Some field → find (is_named field.name) fields ≡ Some field) →
     AreValuesOf some vs → members_fault fields ms ≡ None →

@@ -4,7 +4,7 @@ use Rattle.serde_json.specs.Data.{Items, no_items, item}
 use Rattle.serde_json.specs.View.{view, items_view}
 use Rattle.serde_json.specs.declared.value.Value.{Value}
 
--- what values are, in front of others
+-- the items of JSON values, in front of others
 abbrev pub items_before : List Value → Items → Items
 items_before [] rest = rest
 items_before (v ∷ vs) rest = item (view v) (items_before vs rest)

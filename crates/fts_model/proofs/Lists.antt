@@ -5,19 +5,19 @@ use Rattle.std.proofs.Common.{length, get_or}
 use Rattle.std.proofs.lemmas.List.{take_more}
 use Rattle.std.specs.List.{range_with_len}
 
--- the pairs behind the first member
+-- the pairs of a list without its first member are in relation
 pub pairs_behind : {X : Type 0} (R : X → X → Type 0) (x : X) (xs : List X) → AllPairs R (x ∷ xs) → AllPairs R xs
 pairs_behind R x xs h i j d lt within = h (suc i) (suc j) d (omega (arith, lt)) (omega (arith, within))
 
--- the pairs of the first member
+-- the first member is in relation with each later one
 pub pairs_front : {X : Type 0} (R : X → X → Type 0) (x : X) (xs : List X) → AllPairs R (x ∷ xs) → All (R x) xs
 pairs_front R x xs h k d within = h 0 (suc k) d (omega arith) (omega (arith, within))
 
--- no list has no pairs
+-- an empty list has no pairs
 pub pairs_none : {X : Type 0} (R : X → X → Type 0) → AllPairs R []
 pairs_none R i j d lt within = absurd (omega (arith, within))
 
--- a member is the first or one behind it
+-- a member is the first or a later one
 pub Contains-cases : {X : Type 0} (y : X) (ys : List X) (z : X) → Contains (y ∷ ys) z → (y ≡ z) ⊎ Contains ys z
 Contains-cases y ys z (zero, within, e) = inl e
 Contains-cases y ys z (suc k, within, e) = inr (k, omega (arith, within), e)
@@ -26,7 +26,7 @@ Contains-cases y ys z (suc k, within, e) = inr (k, omega (arith, within), e)
 pub Contains-first : {X : Type 0} (y : X) (ys : List X) (z : X) → y ≡ z → Contains (y ∷ ys) z
 Contains-first y ys z e = (0, omega arith, e)
 
--- a member behind the first is one
+-- a member of the rest is a member
 pub Contains-behind : {X : Type 0} (y : X) (ys : List X) (z : X) → Contains ys z → Contains (y ∷ ys) z
 Contains-behind y ys z h = (suc h.0, omega (arith, h.1), h.2)
 
@@ -46,7 +46,7 @@ first_is R one_way x y xs ys p q h l =
     (Contains-cases x xs y l))
     (Contains-cases y ys x h)
 
--- the members behind the first of one list stand behind that of the other
+-- if two lists in one strict order begin alike, the members of the one's rest are members of the other's rest
 others_behind : {X : Type 0} (R : X → X → Type 0) → ((a b : X) → R a b → R b a → ⊥) → (x y : X) (xs ys : List X) → AllPairs R (x ∷ xs) → x ≡ y →
     ((z : X) → Contains (x ∷ xs) z → Contains (y ∷ ys) z) → (z : X) → Contains xs z → Contains ys z
 others_behind {X} R one_way x y xs ys p same h z at =
@@ -59,7 +59,7 @@ others_behind {X} R one_way x y xs ys p same h z at =
     (λ (later : Contains ys z). later)
     (Contains-cases y ys z (h z (Contains-behind x xs z at)))
 
--- two lists in one strict order that have the same members are one
+-- two lists in one strict order that have the same members are equal
 pub one_order : {X : Type 0} (R : X → X → Type 0) → ((a b : X) → R a b → R b a → ⊥) → (xs ys : List X) → AllPairs R xs → AllPairs R ys →
     ((z : X) → Contains xs z → Contains ys z) → ((z : X) → Contains ys z → Contains xs z) → xs ≡ ys
 one_order R one_way [] [] p q h l = refl
@@ -71,7 +71,7 @@ one_order R one_way (x ∷ xs) (y ∷ ys) p q h l =
     (others_behind R one_way x y xs ys p same h) (others_behind R one_way y x ys xs q (sym same) l) in
     ap (λ z. z ∷ xs) same ∙ ap (λ zs. y ∷ zs) rest
 
--- what a filter keeps is a member that passes, whether the first passes or not
+-- a member of a filtered list is a member that passes, by whether the first passes
 kept_cases : {X : Type 0} (p : X → Bool) (x : X) (xs : List X) (b : Bool) (z : X) → p x ≡ b → (Contains (filter p xs) z → Contains xs z × (p z ≡ true)) →
     Contains (cond b (x ∷ filter p xs) (filter p xs)) z → Contains (x ∷ xs) z × (p z ≡ true)
 kept_cases p x xs true z e rest h =
@@ -80,12 +80,12 @@ kept_cases p x xs true z e rest h =
     (Contains-cases x (filter p xs) z h)
 kept_cases p x xs false z e rest h = let r = rest h in (Contains-behind x xs z r.0, r.1)
 
--- what a filter keeps is a member that passes
+-- a member of a filtered list is a member that passes
 pub Contains-from_filter : {X : Type 0} (p : X → Bool) (xs : List X) (z : X) → Contains (filter p xs) z → Contains xs z × (p z ≡ true)
 Contains-from_filter p [] z h = absurd (Contains-none z h)
 Contains-from_filter p (x ∷ xs) z h = kept_cases p x xs (p x) z refl (Contains-from_filter p xs z) h
 
--- a filter keeps a member that passes, whether the first passes or not
+-- a filtered list has each member that passes, by whether the first passes
 keeps : {X : Type 0} (p : X → Bool) (x : X) (xs : List X) (b : Bool) (z : X) → p x ≡ b → p z ≡ true → (x ≡ z) ⊎ Contains (filter p xs) z →
     Contains (cond b (x ∷ filter p xs) (filter p xs)) z
 keeps p x xs true z e passes h =
@@ -93,7 +93,7 @@ keeps p x xs true z e passes h =
 keeps p x xs false z e passes h =
     ⊎_elim (λ (same : x ≡ z). let no : true ≡ false = sym passes ∙ ap p (sym same) ∙ e in cc) (λ (later : Contains (filter p xs) z). later) h
 
--- a filter keeps each member that passes
+-- a filtered list has each member that passes
 pub Contains-filter : {X : Type 0} (p : X → Bool) (xs : List X) (z : X) → Contains xs z → p z ≡ true → Contains (filter p xs) z
 Contains-filter p [] z h passes = absurd (Contains-none z h)
 Contains-filter p (x ∷ xs) z h passes =
@@ -104,7 +104,7 @@ Contains-filter p (x ∷ xs) z h passes =
 pub taken : {X : Type 0} (xs : List X) (i : ℕ) (x : X) → i < length xs → x ≡ get_or xs i x → take (i + 1) xs ≡ take i xs ++ x ∷ []
 taken xs i x within is = take_more xs i x within ∙ ap (λ y. take i xs ++ y ∷ []) (sym is)
 
--- so many numbers and the next one
+-- a range of numbers with one more
 pub range_with_len-push : (first n : ℕ) → range_with_len first (suc n) ≡ range_with_len first n ++ (first + n) ∷ []
 range_with_len-push first zero = ap (λ k. k ∷ []) (omega arith)
 range_with_len-push first (suc n) =

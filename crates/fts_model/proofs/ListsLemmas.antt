@@ -14,7 +14,7 @@ use Rattle.fts_model.specs.declared.value.FieldValue.TheVariants as values
 use Rattle.fts_model.specs.Documents.{bytes_of, is_value_of, list_in, some_texts, strings_in, texts_in}
 use Rattle.fts_model.specs.Internals.Lists.{bytes_behind}
 
--- the bytes of texts behind others
+-- the bytes of texts that follow others
 pub bytes_behind-is : (n : ℕ) (items : Items) → n < 2 ^ 64 → bytes_behind n items ≡ option_map (λ ts. min (n + bytes_of ts) (2 ^ 64 - 1)) (strings_in items)
 bytes_behind-is n no_items h = ap Some (omega arith)
 bytes_behind-is n (item null items) h = refl
@@ -48,7 +48,7 @@ pub strings_count : (vs : List Value) (ts : List (List ℕ)) → strings_in (ite
 strings_count [] ts h = let none : [] ≡ ts = cc in ap length (sym none)
 strings_count (v ∷ vs) ts h = strings_count-at (view v) (items_view vs) (length vs) ts (strings_count vs) h
 
--- one text more was read
+-- the texts that are read, with one more
 pub texts_step : (old new : List (List ℕ)) (d : Data) (items : Items) (ts : List (List ℕ)) → option_map (λ rest. old ++ rest) (strings_in (item d items))
     ≡ Some ts →
     ((text : List ℕ) → d ≡ string text → new ≡ old ++ text ∷ []) → option_map (λ rest. new ++ rest) (strings_in items) ≡ Some ts
@@ -63,13 +63,13 @@ texts_step old new (string text) items ts h is =
       | Some us ↦ λ g. ap (λ xs. Some (xs ++ us)) (is text refl) ∙ ap Some (append_assoc old (text ∷ []) us) ∙ g
     ] h
 
--- what is wrong with an array of a text field: a member that is no text
+-- a JSON array in a text field has a fault if a member is no text
 pub list_none : (o : Option (List (List ℕ))) → None ≡ option_map (λ ts. min (0 + bytes_of ts) (2 ^ 64 - 1)) o →
     Some WrongKind ≡ error_if_err (list_in kinds.Text o)
 list_none None h = refl
 list_none (Some ts) h = cc
 
--- too many
+-- a JSON array in a text field has a fault if it has too many texts
 pub list_many : (o : Option (List (List ℕ))) (bytes count : ℕ) → Some bytes ≡ option_map (λ ts. min (0 + bytes_of ts) (2 ^ 64 - 1)) o →
     ((ts : List (List ℕ)) → o ≡ Some ts → length ts ≡ count) →
     1024 < count → Some TooManyTexts ≡ error_if_err (list_in kinds.Text o)
@@ -78,7 +78,7 @@ list_many (Some ts) bytes count h long many =
     let most : nat_lt 1024 (length ts) ≡ true = lt-ltb 1024 (length ts) (omega (arith, long ts refl, many)) in
     ap (λ b. error_if_err (cond b (Err TooManyTexts) (cond (nat_le (bytes_of ts) 1048576) (Ok (some_texts ts)) (Err TextTooLong)))) (sym most)
 
--- too many bytes
+-- a JSON array in a text field has a fault if its texts have too many bytes
 pub list_long : (o : Option (List (List ℕ))) (bytes count : ℕ) → Some bytes ≡ option_map (λ ts. min (0 + bytes_of ts) (2 ^ 64 - 1)) o →
     ((ts : List (List ℕ)) → o ≡ Some ts → length ts ≡ count) →
     count ≤ 1024 → 1048576 < bytes → Some TextTooLong ≡ error_if_err (list_in kinds.Text o)
@@ -90,7 +90,7 @@ list_long (Some ts) bytes count h counted few long =
     sym (ap (λ b. error_if_err (cond b (Err TooManyTexts) (cond (nat_le (bytes_of ts) 1048576) (Ok (some_texts ts)) (Err TextTooLong)))) most
     ∙ ap (λ b. error_if_err (cond b (Ok (some_texts ts)) (Err TextTooLong))) over)
 
--- or nothing
+-- a JSON array in a text field has no fault otherwise
 pub list_fine : (o : Option (List (List ℕ))) (bytes count : ℕ) → Some bytes ≡ option_map (λ ts. min (0 + bytes_of ts) (2 ^ 64 - 1)) o →
     ((ts : List (List ℕ)) → o ≡ Some ts → length ts ≡ count) →
     count ≤ 1024 → bytes ≤ 1048576 → None ≡ error_if_err (list_in kinds.Text o)

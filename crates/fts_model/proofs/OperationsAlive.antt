@@ -1,4 +1,4 @@
--- What is alive after operations that come in two parts.
+-- The documents alive after operations that come in two parts.
 use Rattle.std.proofs.Common.{◌≡◌, ℕ, Bool, true, false, cond, ◌||◌, not, List, [], ◌∷◌, ◌++◌, filter, refl, sym, ap, ◌∙◌, append_assoc, All, AllPairs}
 use Rattle.std.specs.List.{list_any}
 use Rattle.std.proofs.lemmas.List.Elements.{All-nil, All-cons, All-head, All-tail, filter-append, filter_agree}
@@ -12,18 +12,18 @@ use Rattle.fts_model.specs.declared.operation.Stamped.{Stamped}
 use Rattle.fts_model.specs.Documents.{DocumentValue}
 use Rattle.fts_model.specs.Operations.{strikes, is_struck, left_by, alive, adds}
 
--- those of the documents that none of these operations strikes
+-- the documents that none of these operations deletes
 abbrev pub spared : List Field → List (Stamped Op) → List (Stamped DocumentValue) → List (Stamped DocumentValue)
 spared schema later documents = filter (λ d. not (is_struck schema later d.value)) documents
 
--- a document that is left is filtered as one that was not struck
+-- an optional document is filtered as one that is not deleted
 one_spared : (a b : Bool) (d : Stamped DocumentValue) (keep : Stamped DocumentValue → Bool) → keep d ≡ not b →
     cond (a || b) [] (d ∷ []) ≡ filter keep (cond a [] (d ∷ []))
 one_spared true b d keep e = refl
 one_spared false true d keep e = ap (λ k. cond k (d ∷ []) []) (sym e)
 one_spared false false d keep e = ap (λ k. cond k (d ∷ []) []) (sym e)
 
--- what an operation leaves before more operations: what these spare of what it left before
+-- the documents that an operation leaves before more operations: those that it left before and that these do not delete
 left_by-append : (schema : List Field) (stamp : ℕ) (op : Op) (ops later : List (Stamped Op)) →
     left_by schema stamp op (ops ++ later) ≡ spared schema later (left_by schema stamp op ops)
 left_by-append schema stamp (Add document) ops later =
@@ -33,7 +33,8 @@ left_by-append schema stamp (Add document) ops later =
 left_by-append schema stamp (Delete term) ops later = refl
 left_by-append schema stamp DeleteAll ops later = refl
 
--- what is alive after more operations: what they spare of what was, and what they leave themselves
+-- the documents alive after more operations: those that were alive and are not deleted, and those that the operations
+-- leave
 pub alive-append : (schema : List Field) (ops later : List (Stamped Op)) → alive schema (ops ++ later) ≡ spared schema later (alive schema ops)
     ++ alive schema later
 alive-append schema [] later = refl
@@ -44,18 +45,18 @@ alive-append schema (op ∷ ops) later =
     ∙ ap (λ xs. xs ++ alive schema later)
     (sym (filter-append (λ d. not (is_struck schema later d.value)) (left_by schema op.stamp op.value ops) (alive schema ops)))
 
--- adds strike nothing
+-- adds delete nothing
 adds_spare : (schema : List Field) (documents : List (Stamped DocumentValue)) (document : DocumentValue) → is_struck schema (adds documents) document ≡ false
 adds_spare schema [] document = refl
 adds_spare schema (d ∷ ds) document = adds_spare schema ds document
 
--- of adds each document is alive
+-- after adds alone each added document is alive
 alive-adds : (schema : List Field) (documents : List (Stamped DocumentValue)) → alive schema (adds documents) ≡ documents
 alive-adds schema [] = refl
 alive-adds schema (d ∷ ds) =
     ap (λ b. cond b [] (d ∷ []) ++ alive schema (adds ds)) (adds_spare schema ds d.value) ∙ ap (λ xs. d ∷ xs) (alive-adds schema ds)
 
--- what is alive stands for the operations before
+-- the documents alive can replace the operations that left them
 pub alive-history : (schema : List Field) (before later : List (Stamped Op)) →
     alive schema (before ++ later) ≡ alive schema (adds (alive schema before) ++ later)
 alive-history schema before later =
@@ -63,7 +64,7 @@ alive-history schema before later =
     ∙ ap (λ xs. spared schema later xs ++ alive schema later) (sym (alive-adds schema (alive schema before)))
     ∙ sym (alive-append schema (adds (alive schema before)) later)
 
--- what holds of a document and of others holds where it is kept, and where it isn't
+-- a property of a document and of others holds whether the document is in the list or not
 All-if_kept : (b : Bool) (P : Stamped DocumentValue → Type 0) (d : Stamped DocumentValue) (ds : List (Stamped DocumentValue)) →
     P d → All P ds → All P (cond b [] (d ∷ []) ++ ds)
 All-if_kept true P d ds p ps = ps
@@ -82,13 +83,13 @@ All-alive P schema (op ∷ ops) h =
       | DeleteAll ↦ behind
     ]
 
--- how the stamps of documents stand to each other, with one in front that is kept or not
+-- a relation of the stamps of documents, with one in front that may be there
 pairs_if_kept : (R : ℕ → ℕ → Type 0) (b : Bool) (d : Stamped DocumentValue) (ds : List (Stamped DocumentValue)) →
     All (λ e. R d.stamp e.stamp) ds → AllPairs (λ x y. R x.stamp y.stamp) ds → AllPairs (λ x y. R x.stamp y.stamp) (cond b [] (d ∷ []) ++ ds)
 pairs_if_kept R true d ds others pairs = pairs
 pairs_if_kept R false d ds others pairs = AllPairs-cons (λ x y. R x.stamp y.stamp) d ds others pairs
 
--- how the stamps of the operations stand to each other, so do those of what is alive
+-- a relation of the stamps of the operations is one of the stamps of what is alive
 pub alive-pairs : (R : ℕ → ℕ → Type 0) (schema : List Field) (ops : List (Stamped Op)) → AllPairs (λ x y. R x.stamp y.stamp) ops →
     AllPairs (λ x y. R x.stamp y.stamp) (alive schema ops)
 alive-pairs R schema [] h = pairs_none (λ x y. R x.stamp y.stamp)
@@ -101,22 +102,22 @@ alive-pairs R schema (op ∷ ops) h =
       | DeleteAll ↦ pairs
     ]
 
--- a test that all pass keeps all
+-- a filter that all pass leaves the whole list
 filter-whole : {X : Type 0} (xs : List X) → filter (λ x. true) xs ≡ xs
 filter-whole [] = refl
 filter-whole (x ∷ xs) = ap (λ ys. x ∷ ys) (filter-whole xs)
 
--- a test that none passes keeps none
+-- a filter that none passes leaves nothing
 filter-nothing : {X : Type 0} (xs : List X) → filter (λ x. false) xs ≡ []
 filter-nothing [] = refl
 filter-nothing (x ∷ xs) = filter-nothing xs
 
--- a test beside nothing
+-- a disjunction with false
 or_nothing : (b : Bool) → not (b || false) ≡ not b
 or_nothing true = refl
 or_nothing false = refl
 
--- what is alive after one more operation
+-- the documents alive after one more operation
 pub alive-one : (schema : List Field) (ops : List (Stamped Op)) (op : Stamped Op) →
     alive schema (ops ++ op ∷ []) ≡ filter (λ d. not (strikes schema op.value d.value)) (alive schema ops) ++ alive schema (op ∷ [])
 alive-one schema ops op =
@@ -125,7 +126,7 @@ alive-one schema ops op =
     (filter_agree (λ (d : Stamped DocumentValue). not (is_struck schema (op ∷ []) d.value)) (λ d. not (strikes schema op.value d.value))
     (λ d. or_nothing (strikes schema op.value d.value)) (alive schema ops))
 
--- what is alive after one more add
+-- the documents alive after one more add
 pub alive-add : (schema : List Field) (op : Stamped Op) (document : DocumentValue) (documents : List (Stamped DocumentValue)) → op.value ≡ Add document →
     filter (λ (d : Stamped DocumentValue). not (strikes schema op.value d.value)) documents ++ alive schema (op ∷ []) ≡ documents
     ++ record { stamp = op.stamp; value = document } ∷ []

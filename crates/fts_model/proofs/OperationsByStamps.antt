@@ -1,4 +1,4 @@
--- What is alive after operations whose stamps rise: what they add and none of a later stamp strikes.
+-- The documents alive after operations whose stamps rise: those that are added and not deleted by a later stamp.
 use Rattle.std.proofs.Common.{◌≡◌, ◌↔◌, ℕ, ◌<◌, ◌&&◌, ◌||◌, nat_lt, Bool, true, false, cond, not, List, [], ◌∷◌, ◌++◌, filter, refl, sym, ap, subst, ◌∙◌}
 use Rattle.std.proofs.Common.{⊎_elim, arith, All, Contains, append_assoc}
 use Rattle.std.specs.List.{list_any}
@@ -15,14 +15,14 @@ use Rattle.fts_model.specs.Operations.{strikes, is_struck, left_by, alive, Stamp
 use Rattle.fts_model.proofs.Lists.{pairs_behind, pairs_front, Contains-cases, Contains-first, Contains-behind, Contains-none, Contains-filter}
 use Rattle.fts_model.proofs.Lists.{Contains-from_filter}
 
--- two tests that agree on a list's members keep the same
+-- two tests that agree on a list's members filter it alike
 filter_agree_on : {X : Type 0} (p q : X → Bool) (xs : List X) → All (λ x. p x ≡ q x) xs → filter p xs ≡ filter q xs
 filter_agree_on p q [] h = refl
 filter_agree_on p q (x ∷ xs) h =
     ap (λ b. cond b (x ∷ filter p xs) (filter p xs)) (All-head (λ x. p x ≡ q x) x xs h)
     ∙ ap (λ ys. cond (q x) (x ∷ ys) ys) (filter_agree_on p q xs (All-tail (λ x. p x ≡ q x) x xs h))
 
--- among operations of later stamps those strike a document that do so by their test
+-- of operations with later stamps, those delete a document that do so by the test with stamps
 struck_by_later : (schema : List Field) (d : Stamped DocumentValue) (ops : List (Stamped Op)) → All (λ op. d.stamp < op.stamp) ops →
     list_any (λ op. strikes_later schema op d) ops ≡ is_struck schema ops d.value
 struck_by_later schema d [] later = refl
@@ -32,12 +32,12 @@ struck_by_later schema d (op ∷ ops) later =
     ap (λ b. (b && strikes schema op.value d.value) || list_any (λ op. strikes_later schema op d) ops) e
     ∙ ap (λ b. strikes schema op.value d.value || b) (struck_by_later schema d ops (All-tail (λ (op : Stamped Op). d.stamp < op.stamp) op ops later))
 
--- an operation of a stamp that is not later strikes nothing
+-- an operation whose stamp is not later deletes nothing
 survives-earlier : (schema : List Field) (op : Stamped Op) (ops : List (Stamped Op)) (d : Stamped DocumentValue) → nat_lt d.stamp op.stamp ≡ false →
     survives schema (op ∷ ops) d ≡ survives schema ops d
 survives-earlier schema op ops d e = ap (λ b. not ((b && strikes schema op.value d.value) || list_any (λ op. strikes_later schema op d) ops)) e
 
--- what holds of the stamps of an operation and of documents holds with what it adds in front
+-- a property of the stamps of an operation and of documents holds with the added document in front
 All-added_by : (P : ℕ → Type 0) (stamp : ℕ) (op : Op) (ds : List (Stamped DocumentValue)) → P stamp → All (λ d. P d.stamp) ds →
     All (λ d. P d.stamp) (added_by stamp op ++ ds)
 All-added_by P stamp (Add document) ds p ps = All-cons (λ d. P d.stamp) (record { stamp = stamp; value = document }) ds p ps
@@ -50,12 +50,12 @@ All-added P [] ps = All-nil (λ d. P d.stamp)
 All-added P (op ∷ ops) ps =
     All-added_by P op.stamp op.value (added ops) (All-head (λ op. P op.stamp) op ops ps) (All-added P ops (All-tail (λ op. P op.stamp) op ops ps))
 
--- a document is left unless it is struck
+-- a document is left unless it is deleted
 left_or_not : (b : Bool) (d : Stamped DocumentValue) → cond b [] (d ∷ []) ≡ cond (not b) (d ∷ []) []
 left_or_not true d = refl
 left_or_not false d = refl
 
--- what an operation leaves is what it adds and survives
+-- an operation leaves what it adds and what survives
 left_by-survives : (schema : List Field) (op : Stamped Op) (value : Op) (ops : List (Stamped Op)) → All (λ later. op.stamp < later.stamp) ops →
     left_by schema op.stamp value ops ≡ filter (survives schema (op ∷ ops)) (added_by op.stamp value)
 left_by-survives schema op (Add document) ops later =
@@ -66,7 +66,7 @@ left_by-survives schema op (Add document) ops later =
 left_by-survives schema op (Delete term) ops later = refl
 left_by-survives schema op DeleteAll ops later = refl
 
--- what is alive is what is added and survives
+-- the documents alive are those that are added and survive
 pub alive-survives : (schema : List Field) (ops : List (Stamped Op)) → StampsRise ops → alive schema ops ≡ filter (survives schema ops) (added ops)
 alive-survives schema [] rise = refl
 alive-survives schema (op ∷ ops) rise =
@@ -84,7 +84,7 @@ alive-survives schema (op ∷ ops) rise =
 abbrev add_of : Stamped DocumentValue → Stamped Op
 add_of d = record { stamp = d.stamp; value = Add d.value }
 
--- what is added is what an operation adds, by the first one's kind
+-- a document is added if an operation adds it, by the first operation's kind
 added_at : (stamp : ℕ) (value : Op) (ops : List (Stamped Op)) (d : Stamped DocumentValue) → (Contains (added ops) d → Contains ops (add_of d)) →
     Contains (added_by stamp value ++ added ops) d → Contains (record { stamp = stamp; value = value } ∷ ops) (add_of d)
 added_at stamp (Add document) ops d rest at =
@@ -96,7 +96,7 @@ added_at stamp (Add document) ops d rest at =
 added_at stamp (Delete term) ops d rest at = Contains-behind (record { stamp = stamp; value = Delete term }) ops (add_of d) (rest at)
 added_at stamp DeleteAll ops d rest at = Contains-behind (record { stamp = stamp; value = DeleteAll }) ops (add_of d) (rest at)
 
--- what an operation adds is added, by the first one's kind
+-- a document that an operation adds is added, by the first operation's kind
 add_at : (stamp : ℕ) (value : Op) (ops : List (Stamped Op)) (d : Stamped DocumentValue) → (Contains ops (add_of d) → Contains (added ops) d) →
     Contains (record { stamp = stamp; value = value } ∷ ops) (add_of d) → Contains (added_by stamp value ++ added ops) d
 add_at stamp (Add document) ops d rest at =
@@ -124,17 +124,17 @@ add_at stamp DeleteAll ops d rest at =
     (λ (later : Contains ops (add_of d)). rest later)
     (Contains-cases op ops (add_of d) at)
 
--- what is added is what an operation adds
+-- a document is added exactly if an operation adds it
 Contains-added : (ops : List (Stamped Op)) (d : Stamped DocumentValue) → Contains (added ops) d ↔ Contains ops (add_of d)
 Contains-added [] d = (λ h. absurd (Contains-none d h), λ h. absurd (Contains-none (add_of d) h))
 Contains-added (op ∷ ops) d =
     let rest = Contains-added ops d in (added_at op.stamp op.value ops d rest.0, add_at op.stamp op.value ops d rest.1)
 
--- no operation of a later stamp strikes the document
+-- no operation of a later stamp deletes the document
 abbrev IsSpared : List Field → List (Stamped Op) → Stamped DocumentValue → Type 0
 IsSpared schema ops d = All (λ op. d.stamp < op.stamp → strikes schema op.value d.value ≡ false) ops
 
--- where none strikes by the test, each of a later stamp doesn't
+-- if the test finds no operation that deletes, each of a later stamp does not
 none_strikes : (schema : List Field) (ops : List (Stamped Op)) (d : Stamped DocumentValue) → list_any (λ op. strikes_later schema op d) ops ≡ false →
     IsSpared schema ops d
 none_strikes schema [] d h = All-nil (λ op. d.stamp < op.stamp → strikes schema op.value d.value ≡ false)
@@ -144,7 +144,7 @@ none_strikes schema (op ∷ ops) d h =
     (λ below. let e : nat_lt d.stamp op.stamp ≡ true = grind (arith, nat_tests) in ap (λ b. b && strikes schema op.value d.value) (sym e) ∙ both.0)
     (none_strikes schema ops d both.1)
 
--- an operation that doesn't strike if it is later passes the test
+-- an operation that would not delete at a later stamp passes the test
 spared_now : (schema : List Field) (op : Stamped Op) (d : Stamped DocumentValue) → (d.stamp < op.stamp → strikes schema op.value d.value ≡ false) →
     strikes_later schema op d ≡ false
 spared_now schema op d h =
@@ -153,7 +153,7 @@ spared_now schema op d h =
     (λ (not_later : nat_lt d.stamp op.stamp ≡ false). ap (λ b. b && strikes schema op.value d.value) not_later)
     (cases_Bool (nat_lt d.stamp op.stamp))
 
--- where each of a later stamp doesn't strike, none does by the test
+-- if no operation of a later stamp deletes, the test finds none
 all_spare : (schema : List Field) (ops : List (Stamped Op)) (d : Stamped DocumentValue) → IsSpared schema ops d →
     list_any (λ op. strikes_later schema op d) ops ≡ false
 all_spare schema [] d h = refl
@@ -161,7 +161,7 @@ all_spare schema (op ∷ ops) d h =
     let P : Stamped Op → Type 0 = λ op. d.stamp < op.stamp → strikes schema op.value d.value ≡ false in
     ap (λ b. b || list_any (λ op. strikes_later schema op d) ops) (spared_now schema op d (All-head P op ops h)) ∙ all_spare schema ops d (All-tail P op ops h)
 
--- a document is alive where an operation adds it and none of a later stamp strikes it
+-- a document is alive exactly if an operation adds it and none of a later stamp deletes it
 pub Contains-alive : (schema : List Field) (ops : List (Stamped Op)) (d : Stamped DocumentValue) → StampsRise ops →
     Contains (alive schema ops) d ↔ (Contains ops (add_of d) × IsSpared schema ops d)
 Contains-alive schema ops d rise =
@@ -173,12 +173,12 @@ Contains-alive schema ops d rise =
       λ h. subst P (sym e) (Contains-filter (survives schema ops) (added ops) d ((Contains-added ops d).1 h.0) (ap not (all_spare schema ops d h.1))),
     )
 
--- what the adds of documents add are these
+-- the adds of documents add these documents
 pub added-adds : (documents : List (Stamped DocumentValue)) (ops : List (Stamped Op)) → added (adds documents ++ ops) ≡ documents ++ added ops
 added-adds [] ops = refl
 added-adds (d ∷ documents) ops = ap (λ ds. d ∷ ds) (added-adds documents ops)
 
--- one more operation
+-- the documents added by one more operation
 pub added-push : (ops : List (Stamped Op)) (op : Stamped Op) → added (ops ++ op ∷ []) ≡ added ops ++ added_by op.stamp op.value
 added-push [] op = append-nil (added_by op.stamp op.value)
 added-push (o ∷ ops) op =

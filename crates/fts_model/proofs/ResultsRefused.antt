@@ -1,4 +1,4 @@
--- Which refusal is the one that a definition gives.
+-- The refusal that a definition gives.
 use Rattle.std.proofs.Common.{◌≡◌, Result, Ok, Err, IsErrOf, List, Some, map, sym, ap, ◌∙◌}
 use Rattle.serde_json.specs.Data.{Members, object}
 use Rattle.fts_base.specs.declared.refusal.Refusal.{Refusal}
@@ -14,7 +14,7 @@ one_error {X} {Y} {E} wanted e f h k =
     let as_error : E → Result X E = λ g. Err g in
     ap as_error same
 
--- what follows on a result has its error
+-- a further step on an error gives that error
 pub and_then_error : {X Y E : Type 0} (f : X → Result Y E) (r : Result X E) (e : E) → Some e ≡ error_if_err r → result_and_then f r ≡ Err e
 and_then_error f (Ok x) e h = cc
 and_then_error f (Err g) e h = let same : g ≡ e = cc in ap Err same

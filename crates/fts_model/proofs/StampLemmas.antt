@@ -1,4 +1,4 @@
--- The stamps of operations, one more each.
+-- The stamps of a list of operations with one more.
 use Rattle.std.proofs.Common.{◌≡◌, ◌+◌, ℕ, suc, List, [], ◌∷◌, ◌++◌, length, refl, sym, ap, ◌∙◌, arith}
 use Rattle.std.specs.List.{range_with_len}
 use Rattle.std.proofs.lemmas.List.{length-append, map-append}
@@ -10,7 +10,7 @@ use Rattle.fts_model.proofs.Lists.{range_with_len-push}
 pub stamps_of-push : (xs ys : List (Stamped Op)) (x : Stamped Op) → ys ≡ xs ++ x ∷ [] → stamps_of ys ≡ stamps_of xs ++ x.stamp ∷ []
 stamps_of-push xs ys x e = ap stamps_of e ∙ map-append (λ (s : Stamped Op). s.stamp) xs (x ∷ [])
 
--- one operation more has the next stamp
+-- one more operation has the next stamp
 pub numbered-push : (first : ℕ) (ops : List (Stamped Op)) (op : Stamped Op) → stamps_of ops ≡ range_with_len first (length ops) →
     op.stamp ≡ first + length ops →
     stamps_of (ops ++ op ∷ []) ≡ range_with_len first (length (ops ++ op ∷ []))

@@ -1,4 +1,4 @@
--- Texts that come one after the other, each between two characters.
+-- Concatenated texts, each of which ends between two characters.
 use Rattle.std.proofs.Common.{◌≡◌, ℕ, suc, ◌+◌, ◌<◌, ◌≤◌, ◌&&◌, true, false, List, [], ◌∷◌, ◌++◌, length, get_or, drop, refl, sym, ap, subst, ◌∙◌, ⊎_elim}
 use Rattle.std.proofs.Common.{arith, length-append}
 use Rattle.std.specs.Prelude.{slice_index}
@@ -12,7 +12,7 @@ use Rattle.fts_base.specs.Pieces.{AreEnds}
 use Rattle.fts_base.proofs.PiecesLemmas.{AreEnds-push}
 use Rattle.fts_model.specs.Internals.Joined.{AreTextEnds}
 
--- what is between two characters of a text stays so with a text behind it
+-- a boundary between two characters stays one after a text is appended
 pub boundary-append : (bytes more : List ℕ) (i : ℕ) → IsUtf8 more → IsCharBoundary bytes i → IsCharBoundary (bytes ++ more) i
 boundary-append bytes more i utf8 h =
     ⊎_elim
@@ -25,7 +25,7 @@ boundary-append bytes more i utf8 h =
     subst (IsCharBoundary (bytes ++ more)) at (IsCharBoundary-at_seam (bytes ++ more) bytes more refl utf8))
     (cases_lt i (length bytes))
 
--- one more text
+-- the ends of texts with one more text
 pub AreTextEnds-push : (bytes text : List ℕ) (ends : List ℕ) (end : ℕ) → end ≡ length (bytes ++ text) → IsUtf8 text → AreTextEnds bytes ends →
     AreTextEnds (bytes ++ text) (ends ++ end ∷ [])
 AreTextEnds-push bytes text ends end is utf8 h =
@@ -38,13 +38,13 @@ AreTextEnds-push bytes text ends end is utf8 h =
           (All-cons B end [] (subst B (sym is) (IsCharBoundary-end (bytes ++ text))) (All-nil B));
     }
 
--- two lists from a place on are the same where the texts there are, and those behind them
+-- two lists are equal from an index on if the texts there are, and those after them
 pub pointwise-step : (xs ys : List (List ℕ)) (n : ℕ) → n < length xs → n < length ys →
     pointwise bytes_eq (drop n xs) (drop n ys) ≡ bytes_eq (get_or xs n []) (get_or ys n []) && pointwise bytes_eq (drop (n + 1) xs) (drop (n + 1) ys)
 pointwise-step xs ys n h l = ap (λ us. pointwise bytes_eq us (drop n ys)) (drop_more xs n [] h) ∙ ap (pointwise bytes_eq (get_or xs n [] ∷ drop (n + 1) xs))
     (drop_more ys n [] l)
 
--- lists of other lengths are not
+-- lists of different lengths differ
 pub pointwise-lengths : (xs ys : List (List ℕ)) → (length xs ≡ length ys → ⊥) → false ≡ pointwise bytes_eq xs ys
 pointwise-lengths [] [] h = absurd (h refl)
 pointwise-lengths [] (y ∷ ys) h = refl

@@ -1,4 +1,4 @@
--- What a document is: a value, or none, for each field of a schema, and what a JSON value says of it.
+-- Documents: a value or none for each field of a schema, and how a JSON value becomes one.
 use Rattle.std.specs.Prelude.{◌≡◌, ℕ, ◌^◌, ℤ, pos, negsuc, ◌&&◌, nat_le, nat_lt, Bool, true, false, List, [], ◌∷◌}
 use Rattle.std.specs.Prelude.{length, map, Result, Ok, Err, Option, Some, None, IfSome, AllPairs, drop, if◌then◌else◌}
 use Rattle.std.specs.Prelude.{not, option_map, option_and_then, slice_get, sum_by}
@@ -29,7 +29,7 @@ pub record DocumentValue : Type 0 where
   pub schema : List Field
   pub values : List (Option FieldValue)
 
--- whether such a value is a term of fields of this kind, or a bound
+-- whether the value can be a term or a bound in a field of this kind
 abbrev pub is_term_of : Kind → FieldValue → Bool
 is_term_of kinds.Text (values.Text text) = true
 is_term_of kinds.Keyword (values.Text text) = true
@@ -40,7 +40,7 @@ is_term_of kinds.Keyword value = false
 is_term_of kinds.U64 value = false
 is_term_of kinds.I64 value = false
 
--- whether a field of this kind holds such a value: a text field holds lists of texts too
+-- whether a field of this kind can hold the value: a text field holds lists of texts too
 abbrev pub is_of_kind : Kind → FieldValue → Bool
 is_of_kind kinds.Text (values.Texts texts) = true
 is_of_kind kinds.Text value = is_term_of kinds.Text value
@@ -48,42 +48,42 @@ is_of_kind kinds.Keyword value = is_term_of kinds.Keyword value
 is_of_kind kinds.U64 value = is_term_of kinds.U64 value
 is_of_kind kinds.I64 value = is_term_of kinds.I64 value
 
--- the value that a JSON string is in a field of this kind: a text of at most 1,048,576 bytes, a keyword of at most 256
+-- the value of a field of this kind for a JSON string: a text of at most 1,048,576 bytes, or a keyword of at most 256
 abbrev pub text_in : Kind → List ℕ → Result (Option FieldValue) Refusal
 text_in kinds.Text text = if nat_le (length text) 1048576 then Ok (Some (values.Text text)) else Err TextTooLong
 text_in kinds.Keyword text = if nat_le (length text) 256 then Ok (Some (values.Text text)) else Err KeywordTooLong
 text_in kinds.U64 text = Err WrongKind
 text_in kinds.I64 text = Err WrongKind
 
--- the value that a JSON number is there: a whole number in the range of the kind
+-- the value of a field of this kind for a JSON number: a whole number in the range of the kind
 abbrev pub number_in : Kind → Num → Result (Option FieldValue) Refusal
 number_in kinds.Text n = Err WrongKind
 number_in kinds.Keyword n = Err WrongKind
 number_in kinds.U64 n = ok_or (option_map (λ x. Some (values.Number (numbers.U64 x))) (as_u64 n)) WrongKind
 number_in kinds.I64 n = ok_or (option_map (λ x. Some (values.Number (numbers.I64 x))) (as_i64 n)) WrongKind
 
--- the texts that the members of a JSON array are, if each is one
+-- the texts of a JSON array, if each member is a text
 abbrev pub strings_in : Items → Option (List (List ℕ))
 strings_in no_items = Some []
 strings_in (item (string text) items) = option_map (λ texts. text ∷ texts) (strings_in items)
 strings_in (item value items) = None
 
--- the bytes of texts together
+-- the total bytes of texts
 abbrev pub bytes_of : List (List ℕ) → ℕ
 bytes_of texts = sum_by length texts
 
--- a list of texts as a value; an empty one is none
+-- a list of texts as a value; an empty list is none
 abbrev pub some_texts : List (List ℕ) → Option FieldValue
 some_texts [] = None
 some_texts (text ∷ texts) = Some (values.Texts (text ∷ texts))
 
--- the value that a list of texts is in a text field: at most 1,024 texts, of at most 1,048,576 bytes together
+-- the value of a text field for a list of texts: at most 1,024 texts, of at most 1,048,576 bytes together
 abbrev pub texts_in : List (List ℕ) → Result (Option FieldValue) Refusal
 texts_in texts =
     if nat_lt 1024 (length texts) then Err TooManyTexts
     else if nat_le (bytes_of texts) 1048576 then Ok (some_texts texts) else Err TextTooLong
 
--- the value that a JSON array is in a field of this kind
+-- the value of a field of this kind for a JSON array
 abbrev pub list_in : Kind → Option (List (List ℕ)) → Result (Option FieldValue) Refusal
 list_in kinds.Text (Some texts) = texts_in texts
 list_in kinds.Text None = Err WrongKind
@@ -91,7 +91,7 @@ list_in kinds.Keyword texts = Err WrongKind
 list_in kinds.U64 texts = Err WrongKind
 list_in kinds.I64 texts = Err WrongKind
 
--- the value that a JSON value is there; null is no value
+-- the value of a field of this kind for a JSON value; null is no value
 abbrev pub value_in : Kind → Data → Result (Option FieldValue) Refusal
 value_in kind null = Ok None
 value_in kind (string text) = text_in kind text
@@ -100,12 +100,12 @@ value_in kind (boolean b) = Err WrongKind
 value_in kind (array items) = list_in kind (strings_in items)
 value_in kind (object ms) = Err WrongKind
 
--- what is wrong with a value of a field, if there is such a field
+-- the fault of a JSON value in a field; a field that does not exist is a fault
 abbrev pub fault_in_field : Option Field → Data → Option Refusal
 fault_in_field None value = Some UnknownField
 fault_in_field (Some field) value = error_if_err (value_in field.kind value)
 
--- what is wrong with one member of an object
+-- the fault of one member of an object
 abbrev pub member_fault : List Field → List ℕ → Data → Option Refusal
 member_fault fields name value = fault_in_field (find (is_named name) fields) value
 
@@ -118,19 +118,19 @@ member_names (member name value members) = name ∷ member_names members
 abbrev pub NamesRise : Members → Type 0
 NamesRise members = AllPairs (λ a b. slice_cmp nat_cmp a b ≡ Less) (member_names members)
 
--- what is wrong with the members of an object: the first fault, in their order, which is in the order of their names
+-- the first fault of the members of an object, in the order of their names
 abbrev pub members_fault : List Field → Members → Option Refusal
 members_fault fields no_members = None
 members_fault fields (member name value members) =
     first_of (member_fault fields name value) (members_fault fields members)
 
--- the value of a field: what the members have at its name
+-- the value of a field: the value of the member with its name
 abbrev pub value_at : Members → Field → Option FieldValue
 value_at members field =
     option_and_then (λ value. option_and_then (λ v. v) (value_if_ok (value_in field.kind value)))
     (get_member field.name members)
 
--- the document that a JSON value is under a schema, or the first refusal
+-- the document of a JSON value under a schema, or the first refusal
 abbrev pub document_of : List Field → Data → Result DocumentValue Refusal
 document_of fields (object ms) =
     ok_unless (members_fault fields ms) (record { schema = fields; values = map (value_at ms) fields })
@@ -147,12 +147,12 @@ data_of (values.Texts texts) = array (items_of (map string texts))
 data_of (values.Number (numbers.U64 n)) = number (unsigned n)
 data_of (values.Number (numbers.I64 z)) = number (of_integer z)
 
--- the members, with a field that has a value
+-- the members with a field's value added, if it has one
 abbrev pub with_value : Members → Field → Option FieldValue → Members
 with_value ms field None = ms
 with_value ms field (Some v) = put field.name (data_of v) ms
 
--- the members, with those fields that have a value
+-- the members with the values of those fields that have one added
 abbrev pub with_values : Members → List Field → List (Option FieldValue) → Members
 with_values ms [] vs = ms
 with_values ms (field ∷ fields) [] = ms
@@ -162,7 +162,7 @@ with_values ms (field ∷ fields) (v ∷ vs) = with_values (with_value ms field 
 abbrev pub json_of : DocumentValue → Data
 json_of document = object (with_values no_members document.schema document.values)
 
--- whether a number is one of 64 bits with a sign
+-- whether a number is in the range of signed 64-bit integers
 abbrev pub fits_i64 : ℤ → Bool
 fits_i64 (pos n) = nat_lt n (2 ^ 63)
 fits_i64 (negsuc n) = nat_lt n (2 ^ 63)
@@ -181,7 +181,7 @@ is_value_of kinds.Keyword value = false
 is_value_of kinds.U64 value = false
 is_value_of kinds.I64 value = false
 
--- what a field of this kind can have: no value, or one of its own
+-- a field of this kind can have no value, or one of its kind
 abbrev pub CanHave : Kind → Option FieldValue → Type 0
 CanHave kind value = IfSome value (λ v. is_value_of kind v ≡ true)
 
@@ -189,11 +189,11 @@ CanHave kind value = IfSome value (λ v. is_value_of kind v ≡ true)
 abbrev pub AreValuesOf : List Field → List (Option FieldValue) → Type 0
 AreValuesOf fields vs = AllZip (λ field value. CanHave field.kind value) fields vs
 
--- what holds of every document: its fields are a schema, and each has no value or one that it can have
+-- every document has a schema as its fields, and for each field no value or one that the field can have
 abbrev pub IsDocument : DocumentValue → Type 0
 IsDocument document = (schema_fault document.schema ≡ None) × AreValuesOf document.schema document.values
 
--- whether a value of a field may be in another, if there is one: the names are one and it is of that kind
+-- whether a value of one field may be in another: the names are equal, and the other's kind allows the value
 abbrev pub may_stand : Option Field → Field → Option FieldValue → Bool
 may_stand there field None = true
 may_stand None field (Some v) = false

@@ -1,4 +1,4 @@
--- What only the inside of types is told by: no reader of a public contract meets it.
+-- Definitions of the layout of private types; public contracts name none of them.
 pub mod Stored
 pub mod Joined
 pub mod Lists

@@ -1,4 +1,4 @@
--- How many documents a segment has at most.
+-- The greatest numbers of documents of a segment.
 use Rattle.std.specs.Prelude.{ℕ}
 
 -- the most documents of a segment that is built of adds

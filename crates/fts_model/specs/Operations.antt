@@ -1,4 +1,4 @@
--- What operations do to documents.
+-- The effect of operations on documents.
 use Rattle.std.specs.Prelude.{◌≢◌, ℕ, ◌==◌, ◌<◌, ◌&&◌, not, nat_lt, Bool, true, false, List, [], ◌∷◌, ◌++◌, Option}
 use Rattle.std.specs.Prelude.{Some, None, Result, Ok, Err, if◌then◌else◌, slice_get, map, option_map, AllPairs}
 use Rattle.std.specs.Ordering.{int_eq}
@@ -27,11 +27,11 @@ use Rattle.fts_model.specs.Documents.{DocumentValue, value_in, value_in_field, i
 abbrev pub kind_at : List Field → ℕ → Option Kind
 kind_at schema field = option_map (λ f. f.kind) (slice_get schema field)
 
--- the value that a JSON value is in a field of this kind, where null is none
+-- the value of a keyword or number field for a JSON value; null is refused
 abbrev pub some_value_in : Kind → Data → Result FieldValue Refusal
 some_value_in kind value = result_and_then (λ v. ok_or v WrongKind) (value_in kind value)
 
--- the value of a term there: in a text field a token of any length, and else a value of the field
+-- the value of a term in a field of this kind: in a text field a token of any length, and else a value of the field
 abbrev pub term_value : Kind → Data → Result FieldValue Refusal
 term_value kinds.Text (string token) = Ok (values.Text token)
 term_value kinds.Text value = Err WrongKind
@@ -39,13 +39,13 @@ term_value kinds.Keyword value = some_value_in kinds.Keyword value
 term_value kinds.U64 value = some_value_in kinds.U64 value
 term_value kinds.I64 value = some_value_in kinds.I64 value
 
--- the term that a JSON value is in the field of this number
+-- the term of a JSON value in the field of this number
 abbrev pub term_at : List Field → ℕ → Data → Result Term Refusal
 term_at schema field value =
     option_map_or (λ kind. result_map (λ v. record { field = field; value = v }) (term_value kind value))
     (kind_at schema field) (Err UnknownField)
 
--- the term that a JSON value is in the field of this name
+-- the term of a JSON value in the field of this name
 abbrev pub term_of : List Field → List ℕ → Data → Result Term Refusal
 term_of schema name value =
     option_map_or (λ field. term_at schema field value) (field_named name schema) (Err UnknownField)
@@ -64,12 +64,12 @@ op_fits schema (Add document) = fits schema document
 op_fits schema (Delete term) = term_fits schema term
 op_fits schema DeleteAll = true
 
--- one of these tokens, which are after their numbers, is this one
+-- some numbered token has this text
 abbrev pub has_token : List (ℕ × List ℕ) → List ℕ → Bool
 has_token ts token = list_any (λ t. bytes_eq t.1 token) ts
 
--- a value of a field of this kind has a term: a text or a list of texts has it as a token, a keyword is it, a number is
--- it
+-- a value of a field of this kind has a term: a text or a list of texts contains it as a token, a keyword or a number
+-- equals it
 abbrev pub value_has : Kind → FieldValue → FieldValue → Bool
 value_has kinds.Text (values.Text text) (values.Text token) = has_token (tokens text) token
 value_has kinds.Text (values.Texts texts) (values.Text token) = has_token (tokens_of_texts 0 texts) token
@@ -81,13 +81,13 @@ value_has kinds.Keyword value term = false
 value_has kinds.U64 value term = false
 value_has kinds.I64 value term = false
 
--- the value of a field has a term, if there is the field and it has a value
+-- the value of a field has a term, if there is such a field and it has a value
 abbrev pub field_has : Option Field → Option FieldValue → FieldValue → Bool
 field_has None value term = false
 field_has (Some field) None term = false
 field_has (Some field) (Some value) term = value_has field.kind value term
 
--- a document has a term: its text or one of its list has the token, its keyword is the text, its number is the number
+-- a document has a term: a text of its field contains the token, or its keyword or number equals it
 abbrev pub has : List Field → DocumentValue → Term → Bool
 has schema document term = field_has (slice_get schema term.field) (value_in_field document term.field) term.value
 
@@ -97,18 +97,20 @@ strikes schema (Add added) document = false
 strikes schema (Delete term) document = has schema document term
 strikes schema DeleteAll document = true
 
--- some operation of these strikes a document
+-- some of the operations delete a document
 abbrev pub is_struck : List Field → List (Stamped Op) → DocumentValue → Bool
 is_struck schema later document = list_any (λ op. strikes schema op.value document) later
 
--- what an operation leaves, where these come later: the document that it adds, unless one of them strikes it
+-- the document that an operation leaves if later operations follow: the one that it adds, unless one of these deletes
+-- it
 abbrev pub left_by : List Field → ℕ → Op → List (Stamped Op) → List (Stamped DocumentValue)
 left_by schema stamp (Add document) later =
     if is_struck schema later document then [] else record { stamp = stamp; value = document } ∷ []
 left_by schema stamp (Delete term) later = []
 left_by schema stamp DeleteAll later = []
 
--- the documents that operations leave, in the order of their stamps: what is added and not deleted by a later operation
+-- the documents that operations leave, in the order of their stamps: each that is added and not deleted by a later
+-- operation
 abbrev pub alive : List Field → List (Stamped Op) → List (Stamped DocumentValue)
 alive schema [] = []
 alive schema (op ∷ ops) = left_by schema op.stamp op.value ops ++ alive schema ops
@@ -125,7 +127,7 @@ HasEachStampOnce stamped = AllPairs (λ x y. x.stamp ≢ y.stamp) stamped
 abbrev pub StampsRise : {X : Type 0} → List (Stamped X) → Type 0
 StampsRise stamped = AllPairs (λ x y. x.stamp < y.stamp) stamped
 
--- an operation of a later stamp strikes a document
+-- an operation of a later stamp deletes a document
 abbrev pub strikes_later : List Field → Stamped Op → Stamped DocumentValue → Bool
 strikes_later schema op document = nat_lt document.stamp op.stamp && strikes schema op.value document.value
 

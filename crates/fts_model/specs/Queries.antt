@@ -1,4 +1,4 @@
--- Which documents a query matches, and what may be asked of those.
+-- The documents that a query matches, and what may be asked of them.
 use Rattle.std.specs.Prelude.{◌≡◌, ℕ, ◌+◌, ◌==◌, ℤ, pos, ◌+ℤ◌, ◌&&◌, ◌||◌, not, nat_lt, nat_le, int_lt, Bool, true}
 use Rattle.std.specs.Prelude.{false, List, [], ◌∷◌, Option, Some, None, Result, Ok, Err, if◌then◌else◌, All, Contains}
 use Rattle.std.specs.Ordering.{nat_cmp, is_lt, is_le}
@@ -29,33 +29,33 @@ use Rattle.fts_model.specs.Operations.{has, kind_at, term_fits}
 use Rattle.fts_model.specs.QueryValues.{QueryValue, every, nothing, term, phrase, range, boolean, QueryValues}
 use Rattle.fts_model.specs.QueryValues.{no_queries, queries}
 
--- where a member of a pattern is a token, another member is one as far after it as their offsets are apart
+-- if one member of a pattern is a certain token, another member is a token as far after it as their offsets differ
 abbrev pub stands_with : List (ℕ × List ℕ) → ℕ × List ℕ → ℕ × List ℕ → ℕ × List ℕ → Bool
 stands_with ts member token other = list_any (λ t. (t.0 + member.0 == token.0 + other.0) && bytes_eq t.1 other.1) ts
 
--- a token is the first member of a pattern, and the others stand with it
+-- a token is the first member of a pattern, and the others are at their offsets from it
 abbrev pub leads : List (ℕ × List ℕ) → ℕ × List ℕ → List (ℕ × List ℕ) → ℕ × List ℕ → Bool
 leads ts first others token = bytes_eq token.1 first.1 && list_all (stands_with ts first token) others
 
--- a phrase stands among tokens: some token leads its pattern
+-- a phrase occurs among tokens: some token is the first member of its pattern, and the others are at their offsets
 abbrev pub phrase_in : List (ℕ × List ℕ) → List (ℕ × List ℕ) → Bool
 phrase_in ts [] = true
 phrase_in ts (first ∷ others) = list_any (leads ts first others) ts
 
--- for some whole number, below 0 or not, each member is a token whose position is that number and the member's offset
--- together
+-- a phrase occurs at some whole number, possibly below 0: each member is a token whose position is that number plus the
+-- member's offset
 abbrev pub PhraseIn : List (ℕ × List ℕ) → List (ℕ × List ℕ) → Type 0
 PhraseIn ts pattern =
     (shift : ℤ) ×
     All (λ m. (position : ℕ) × (pos position ≡ shift +ℤ pos m.0) × Contains ts (position, m.1)) pattern
 
--- a value has a phrase
+-- a value contains a phrase
 abbrev pub value_has_phrase : List (ℕ × List ℕ) → FieldValue → Bool
 value_has_phrase pattern (values.Text text) = phrase_in (tokens text) pattern
 value_has_phrase pattern (values.Texts texts) = phrase_in (tokens_of_texts 0 texts) pattern
 value_has_phrase pattern (values.Number n) = false
 
--- one number is below another of its kind, or not above it
+-- a number is less than another of its kind (`number_lt`), or not greater (`number_le`)
 abbrev pub number_lt : Number → Number → Bool
 number_lt (U64 n) (U64 m) = nat_lt n m
 number_lt (I64 n) (I64 m) = int_lt n m
@@ -66,14 +66,14 @@ number_le (U64 n) (U64 m) = nat_le n m
 number_le (I64 n) (I64 m) = not (int_lt m n)
 number_le a b = false
 
--- one text is before another in the order of their bytes, where a beginning is before what it begins; or not after it
+-- a text is before another by their bytes, a prefix before what it begins (`text_lt`), or not after it (`text_le`)
 abbrev pub text_lt : List ℕ → List ℕ → Bool
 text_lt a b = is_lt (slice_cmp nat_cmp a b)
 
 abbrev pub text_le : List ℕ → List ℕ → Bool
 text_le a b = is_le (slice_cmp nat_cmp a b)
 
--- one value is below another of its kind, or not above it: a number, or a text in the order of bytes
+-- a value is before another of its kind, by number or by bytes (`value_lt`), or not after it (`value_le`)
 abbrev pub value_lt : FieldValue → FieldValue → Bool
 value_lt (values.Text a) (values.Text b) = text_lt a b
 value_lt (values.Number n) (values.Number m) = number_lt n m
@@ -100,7 +100,7 @@ abbrev pub is_nonempty : {X : Type 0} → List X → Bool
 is_nonempty [] = false
 is_nonempty (x ∷ xs) = true
 
--- whether there are queries
+-- whether a list of queries has a member
 abbrev pub are_some : QueryValues → Bool
 are_some no_queries = false
 are_some (queries q qs) = true
@@ -138,7 +138,7 @@ holds_phrases kinds.Keyword = false
 holds_phrases kinds.U64 = false
 holds_phrases kinds.I64 = false
 
--- whether a bound is one of a field of this kind
+-- whether a bound is possible for a field of this kind
 abbrev pub is_bound_of : Kind → Bound FieldValue → Bool
 is_bound_of kind (Included bound) = is_term_of kind bound
 is_bound_of kind (Excluded bound) = is_term_of kind bound
@@ -148,8 +148,8 @@ is_bound_of kind Unbounded = true
 abbrev pub is_range_of : Bound FieldValue → Bound FieldValue → Kind → Bool
 is_range_of lower upper kind = is_ordered kind && is_bound_of kind lower && is_bound_of kind upper
 
--- whether a query fits a schema: a term's value is of its field's kind, a phrase is of a text field and has a member, a
--- range is of a field whose values have an order and so are its bounds; whether all of some queries do
+-- whether a query fits a schema: a term's value is of its field's kind; a phrase is of a text field and not empty; a
+-- range is of a field whose values have an order, and so are its bounds; and whether every query of a list does
 abbrev mutual
   pub query_fits : List Field → QueryValue → Bool
   query_fits schema every = true
@@ -169,7 +169,7 @@ abbrev mutual
 abbrev pub is_number_field : List Field → ℕ → Bool
 is_number_field schema field = option_map_or holds_numbers (kind_at schema field) false
 
--- a field is there, and its values have an order
+-- a field exists and its values have an order
 abbrev pub is_ordered_field : List Field → ℕ → Bool
 is_ordered_field schema field = option_map_or is_ordered (kind_at schema field) false
 
@@ -178,13 +178,13 @@ abbrev pub is_limit : ℕ → Bool
 is_limit k = nat_le 1 k && nat_le k 10000
 
 -- whether a request fits a schema: its groups are by a field whose values have an order, its top list is by a number
--- field, and its limit is one
+-- field, and its limit is within 1 to 10,000
 abbrev pub request_fits : List Field → Request → Bool
 request_fits schema request =
     option_map_or (is_ordered_field schema) request.groups true
     && option_map_or (λ top. is_number_field schema top.by && is_limit top.k) request.top true
 
--- the number of the field of this name, if it is one of these
+-- the number of the field of this name, if the field passes a test
 abbrev pub field_of : (ℕ → Bool) → List Field → List ℕ → Result ℕ Refusal
 field_of is_one schema name =
     option_map_or (λ field. if is_one field then Ok field else Err NotANumberField)
@@ -198,12 +198,12 @@ number_field_named schema name = field_of (is_number_field schema) schema name
 abbrev pub ordered_field_named : List Field → List ℕ → Result ℕ Refusal
 ordered_field_named schema name = field_of (is_ordered_field schema) schema name
 
--- the field of the groups that are asked for, if they are
+-- the field of the requested groups, if there are any
 abbrev pub groups_of : List Field → Option (List ℕ) → Result (Option ℕ) Refusal
 groups_of schema None = Ok None
 groups_of schema (Some name) = result_map Some (ordered_field_named schema name)
 
--- the top list that is asked for, if it is
+-- the requested top list, if there is one
 abbrev pub top_of : List Field → Option (List ℕ × ℕ × Order) → Result (Option Top) Refusal
 top_of schema None = Ok None
 top_of schema (Some (name, k, order)) =

@@ -1,4 +1,4 @@
--- What a query is, without where it is in memory.
+-- Queries as values, independent of memory.
 use Rattle.std.specs.Prelude.{ℕ, List, [], ◌∷◌}
 use Rattle.std.specs.declared.ops.Bound.{Bound}
 use Rattle.fts_model.specs.declared.value.FieldValue.{FieldValue}
@@ -6,8 +6,8 @@ use Rattle.fts_model.specs.declared.operation.Term.{Term}
 use Rattle.fts_model.specs.declared.query.Query.{Query, fold-Query}
 use Rattle.fts_model.specs.declared.query.Query.TheOpen.{Query-F}
 
--- every document, none, those with a term, those with a phrase in a field, those with a value of a field within bounds,
--- and those that musts, must-nots and shoulds leave
+-- a query: every document, none, those with a term, those with a phrase in a field, those with a value of a field
+-- within bounds, or those that a combination of musts, must-nots and shoulds selects
 mutual
   pub data QueryValue : Type 0 where
     every : QueryValue
@@ -25,7 +25,7 @@ abbrev pub query_list : List QueryValue → QueryValues
 query_list [] = no_queries
 query_list (q ∷ qs) = queries q (query_list qs)
 
--- a query, where each query in it is seen so already
+-- the value of a query whose own queries are already values
 abbrev pub value_by_parts : Query-F QueryValue → QueryValue
 value_by_parts Query-F.All = every
 value_by_parts Query-F.None = nothing
@@ -35,6 +35,6 @@ value_by_parts (Query-F.Range field lower upper) = range field lower upper
 value_by_parts (Query-F.Bool must must_not should) =
     boolean (query_list must.items) (query_list must_not.items) (query_list should.items)
 
--- a query of the code, without where it is in memory
+-- the value of a query of the code
 abbrev pub query_value : Query → QueryValue
 query_value = fold-Query QueryValue value_by_parts

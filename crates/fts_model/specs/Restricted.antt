@@ -1,4 +1,4 @@
--- Documents cut to some of their fields.
+-- Documents restricted to some of their fields.
 use Rattle.std.specs.Prelude.{ℕ, Bool, List, [], ◌∷◌, Option, None, if◌then◌else◌}
 use Rattle.std.specs.List.{list_any}
 use Rattle.std.specs.Str.{bytes_eq}
@@ -10,16 +10,16 @@ use Rattle.fts_model.specs.Documents.{DocumentValue}
 abbrev pub is_among : List (List ℕ) → Field → Bool
 is_among names field = list_any (bytes_eq field.name) names
 
--- a value of a field of these names, or none
+-- the value of a field, if the field has one of these names
 abbrev pub value_among : List (List ℕ) → Field → Option FieldValue → Option FieldValue
 value_among names field value = if is_among names field then value else None
 
--- the values of the fields of these names, and none for the others
+-- the values of the fields that have one of these names, and none for the others
 abbrev pub values_among : List (List ℕ) → List Field → List (Option FieldValue) → List (Option FieldValue)
 values_among names [] vs = []
 values_among names (field ∷ fields) [] = []
 values_among names (field ∷ fields) (v ∷ vs) = value_among names field v ∷ values_among names fields vs
 
--- a document cut to the fields of these names
+-- a document restricted to the fields of these names
 abbrev pub restrict : List (List ℕ) → DocumentValue → DocumentValue
 restrict names d = record { schema = d.schema; values = values_among names d.schema d.values }

@@ -1,4 +1,4 @@
--- What a schema is: a list of 1 to 32 fields, each with a name of its own.
+-- Schemas: lists of 1 to 32 fields with distinct names.
 use Rattle.std.specs.Prelude.{ℕ, ◌==◌, ◌&&◌, ◌||◌, not, nat_le, nat_lt, Bool, false, true, List, [], ◌∷◌, ◌++◌, length}
 use Rattle.std.specs.Prelude.{codes, Option, Some, None, if◌then◌else◌, position}
 use Rattle.std.specs.Char.{is_ascii_alphabetic, is_ascii_alphanumeric}
@@ -19,16 +19,16 @@ starts_name b = is_ascii_alphabetic b || b == 95
 abbrev pub goes_on_name : ℕ → Bool
 goes_on_name b = is_ascii_alphanumeric b || b == 95
 
--- a word that the query language keeps for itself
+-- a word that is reserved by the query language
 abbrev pub is_reserved : List ℕ → Bool
 is_reserved name = bytes_eq name (codes "AND") || bytes_eq name (codes "OR") || bytes_eq name (codes "NOT")
 
--- whether a name may begin so
+-- whether a name begins with a letter or an underscore
 abbrev pub has_name_start : List ℕ → Bool
 has_name_start [] = false
 has_name_start (b ∷ bs) = starts_name b
 
--- `[A-Za-z_][A-Za-z0-9_]*` of at most 32 bytes, and not reserved
+-- a name: `[A-Za-z_][A-Za-z0-9_]*` of at most 32 bytes, and not reserved
 abbrev pub is_name : List ℕ → Bool
 is_name name = has_name_start name && list_all goes_on_name name && nat_le (length name) 32 && not (is_reserved name)
 
@@ -39,7 +39,7 @@ holds_numbers Keyword = false
 holds_numbers U64 = true
 holds_numbers I64 = true
 
--- whether the values of fields of this kind have an order, by which ranges go
+-- whether the values of fields of this kind have an order, so that ranges are possible
 abbrev pub is_ordered : Kind → Bool
 is_ordered Text = false
 is_ordered Keyword = true
@@ -50,7 +50,7 @@ is_ordered I64 = true
 abbrev pub is_named : List ℕ → Field → Bool
 is_named name field = bytes_eq field.name name
 
--- what is wrong with a field after others
+-- the fault of a field that follows other fields
 abbrev pub field_fault : List Field → Field → Option Refusal
 field_fault before field =
     if not (is_name field.name) then Some BadName
@@ -58,12 +58,12 @@ field_fault before field =
     else if field.default && holds_numbers field.kind then Some BadDefault
     else None
 
--- the first fault of these fields, which are after others
+-- the first fault of fields that follow other fields
 abbrev pub first_fault : List Field → List Field → Option Refusal
 first_fault before [] = None
 first_fault before (field ∷ fields) = first_of (field_fault before field) (first_fault (before ++ field ∷ []) fields)
 
--- the first thing wrong with a list of fields, if there is one: a schema is a list with none
+-- the first fault of a list of fields, if there is one: a schema is a list with none
 abbrev pub schema_fault : List Field → Option Refusal
 schema_fault [] = Some NoFields
 schema_fault (field ∷ fields) =

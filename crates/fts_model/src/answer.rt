@@ -1,4 +1,4 @@
-// What a search answers.
+// The answer to a search.
 use crate::document::Document;
 use crate::operation::Stamp;
 use crate::value::{GroupValue, Number};
@@ -8,7 +8,7 @@ use std::marker::Model;
 #[derive(Drop)]
 pub struct Hit {
     pub stamp: Stamp,
-    /// Its value in the field by which the list is ordered.
+    /// The hit's value in the field by which the list is ordered.
     pub value: Number,
     pub document: Document,
 }
@@ -18,9 +18,9 @@ pub struct Hit {
 pub struct Answer {
     /// The number of hits.
     pub count: u64,
-    /// Each value that a hit has, rising, with the number of hits that have it.
+    /// Each value that a hit has in the field of the groups, rising, with the number of hits that have it.
     pub groups: Option<Vec<(GroupValue, u64)>>,
-    /// The first hits that have a value, by value and then by stamp.
+    /// The first hits that have a value, ordered by value and then by stamp.
     pub top: Option<Vec<Hit>>,
 }
 

@@ -1,10 +1,11 @@
-// How the adds of a commit are cut into segments.
+// The two ways to divide the adds of a commit among segments.
 
-/// How the adds of a commit are cut into segments.
+/// The rule by which the adds of a commit are divided among new segments.
 #[derive(Clone, Copy, Debug, PartialEq, Eq)]
 pub enum Cut {
-    /// This many adds fill a segment, 1 to 65,536, then the next begins.
+    /// A segment takes the next 1 to 65,536 adds, as given here, then the next segment begins.
     Runs(usize),
-    /// This many builders, 1 to 64, take the adds in turn. One that holds 65,536 documents begins another segment.
+    /// The adds are dealt in turn to 1 to 64 builders, as given here. A builder that holds 65,536 documents begins
+    /// another segment.
     Deal(usize),
 }

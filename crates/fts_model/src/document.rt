@@ -1,4 +1,4 @@
-// Documents: a value, or none, for each field of a schema.
+// Documents: a value or none for each field of a schema.
 ghost use Rattle.std.specs.Prelude.{◌≡◌, ◌<◌, ◌≤◌, List, ℕ, Some, None, Ok, Err, IfSome, IfOk, IfErr, IsErrOf, OnOk};
 ghost use Rattle.std.specs.Prelude.{◌++◌, ◌∷◌, [], map, length, slice_get, unwrap_or, option_map, option_copied};
 ghost use Rattle.std.specs.Arc.{arc_value};
@@ -36,7 +36,7 @@ const MOST_TEXTS: usize = 1_024;
 /// The most bytes of a keyword.
 const LONGEST_KEYWORD: usize = 256;
 
-/// How many bytes the texts of a list have together, if each of its members is a text.
+/// The total bytes of the texts of a JSON array, if each item is a text.
 fn bytes_of(items: &[Value]) -> Option<usize>
     ensures { result ≡ bytes_behind 0 (items_view items.now) }
 {
@@ -47,7 +47,7 @@ fn bytes_of(items: &[Value]) -> Option<usize>
     Some(bytes)
 }
 
-/// What is wrong with a JSON array in a text field.
+/// The fault of a JSON array in a text field, if it has one.
 fn fault_of_list(items: &[Value]) -> Option<Refusal>
     ensures { result ≡ error_if_err (list_in Kind.Text (strings_in (items_view items.now))) }
 {
@@ -63,7 +63,7 @@ fn fault_of_list(items: &[Value]) -> Option<Refusal>
     None
 }
 
-/// What is wrong with a JSON value in a field of this kind.
+/// The fault of a JSON value in a field of this kind, if it has one.
 pub(crate) fn fault_of_value(kind: Kind, json: &Value) -> Option<Refusal>
     ensures { result ≡ error_if_err (value_in kind (view json.now)) }
 {
@@ -96,7 +96,7 @@ pub(crate) fn fault_of_value(kind: Kind, json: &Value) -> Option<Refusal>
     if fits { None } else { Some(Refusal::WrongKind) }
 }
 
-/// The texts of a JSON array of texts, in one block of memory.
+/// The texts of a JSON array of texts, in one allocation.
 fn texts_of(alloc: Global, items: &[Value]) -> Result<Texts, AllocError>
     ensures { IfOk result (λ texts. (ts : List (List ℕ)) →
         strings_in (items_view items.now) ≡ Some ts → texts ≡ ts) }
@@ -109,7 +109,7 @@ fn texts_of(alloc: Global, items: &[Value]) -> Result<Texts, AllocError>
     Ok(texts)
 }
 
-/// Puts a JSON string after other texts.
+/// Appends a JSON string to the texts.
 fn push_text(texts: &mut Texts, json: &Value) -> Result<(), AllocError>
     ensures { OnOk result ((text : List ℕ) → view json.now ≡ string text →
         texts.new ≡ texts.old ++ text ∷ []) }
@@ -120,7 +120,7 @@ fn push_text(texts: &mut Texts, json: &Value) -> Result<(), AllocError>
     }
 }
 
-/// The value that a JSON array without a fault is in a text field.
+/// The value of a text field for a JSON array without a fault.
 fn list_of(alloc: Global, items: &[Value]) -> Result<Option<FieldValue>, AllocError>
     requires { error_if_err (list_in Kind.Text (strings_in (items_view items.now))) ≡ None }
     ensures value { IfOk result (λ value. list_in Kind.Text (strings_in (items_view items.now)) ≡ Ok value) }
@@ -132,7 +132,7 @@ fn list_of(alloc: Global, items: &[Value]) -> Result<Option<FieldValue>, AllocEr
     Ok(Some(FieldValue::Texts(texts_of(alloc, items)?)))
 }
 
-/// The value that a JSON value is in a field of this kind.
+/// The value of a field of this kind for a JSON value.
 pub(crate) fn value_of(
     alloc: Global,
     kind: Kind,
@@ -167,7 +167,7 @@ pub(crate) fn field_of<'a>(fields: &'a [Field], name: &str) -> Option<&'a Field>
     fields.iter().find(|field| field.name.as_str() == name)
 }
 
-/// What is wrong with a member of an object.
+/// The fault of a member of a JSON object, if it has one.
 fn fault_of_member(schema: &Schema, name: &str, json: &Value) -> Option<Refusal>
     ensures { result ≡ member_fault schema.now name.now (view json.now) }
 {
@@ -177,7 +177,7 @@ fn fault_of_member(schema: &Schema, name: &str, json: &Value) -> Option<Refusal>
     }
 }
 
-/// What is wrong with the members of an object: the first fault, in the order of their names.
+/// The first fault of the members of a JSON object, in the order of their names.
 fn fault_of_members(schema: &Schema, members: &Map<String, Value>) -> Option<Refusal>
     ensures { result ≡ members_fault schema.now (members_view members.now.entries) }
 {
@@ -189,7 +189,7 @@ fn fault_of_members(schema: &Schema, members: &Map<String, Value>) -> Option<Ref
     None
 }
 
-/// The values that an object without a fault has in the fields of a schema.
+/// The values of a schema's fields for a JSON object without a fault.
 fn values_of(
     alloc: Global,
     fields: &[Field],
@@ -214,7 +214,7 @@ fn values_of(
     Ok(values)
 }
 
-/// What a document shares with its copies.
+/// The data that copies of a document share.
 #[derive(Drop)]
 struct DocumentData {
     schema: Schema,
@@ -242,8 +242,7 @@ fn store(
     Ok(Arc::new(alloc, DocumentData { schema, values })?)
 }
 
-/// A document: at most one value for each field of the schema that it was made under. A copy shares
-/// it.
+/// A document: at most one value for each field of the schema that it was made under. A copy shares the data.
 #[derive(Drop)]
 pub struct Document {
     stored: Arc<DocumentData>,
@@ -262,14 +261,13 @@ impl Model for Document {
 }
 
 impl Document {
-    /// The document that a JSON value is under a schema.
+    /// Makes a document of a JSON value under a schema.
     ///
-    /// It is refused as `NotAnObject`, or else by the first fault of its members, which are looked
-    /// at in the order of their names' bytes: `UnknownField`, `WrongKind` (a text or keyword field
-    /// takes a string, a text field also a list of strings, a `u64` or `i64` field a whole number in
-    /// its range; any takes null, which is no value, as is an empty list), `TooManyTexts` (over 1,024
-    /// in a list), `TextTooLong` (over 1,048,576 bytes, those of a list together) or `KeywordTooLong`
-    /// (over 256 bytes).
+    /// It is refused as `NotAnObject`, or else by the first fault of its members in the order of their names' bytes:
+    /// `UnknownField`, `WrongKind` (a text or keyword field takes a string, a text field also a list of strings, a
+    /// `u64` or `i64` field a whole number in its range; any field takes null, which is no value, as is an empty list),
+    /// `TooManyTexts` (over 1,024 in a list), `TextTooLong` (over 1,048,576 bytes, those of a list together) or
+    /// `KeywordTooLong` (over 256 bytes).
     pub fn from_json(alloc: Global, schema: &Schema, json: &Value) -> Result<Document, Refusal>
         ensures document { Gives (λ document. document) result
             (document_of schema.now (view json.now)) }
@@ -286,9 +284,8 @@ impl Document {
         Ok(Document { stored })
     }
 
-    /// The fields that have a value, as a JSON object with the names in the order of their bytes.
-    /// `from_json` reads the same document from it, under the schema that the document was made
-    /// under.
+    /// The fields that have a value, as a JSON object with the names in the order of their bytes. Under the schema that
+    /// the document was made under, `from_json` reads the same document from it.
     pub fn to_json(&self, alloc: Global) -> Result<Value, Refusal>
         ensures json { IfOk result (λ json. view json ≡ json_of self.now) }
         ensures reads_back { IfOk result
@@ -299,8 +296,8 @@ impl Document {
         Ok(Value::Object(members_of(alloc, fields, &self.stored.values)?))
     }
 
-    /// The fields of these names that have a value, as a JSON object with the names in the order of their bytes. No
-    /// other field is copied.
+    /// The named fields that have a value, as a JSON object with the names in the order of their bytes. No other field
+    /// is copied.
     pub fn to_json_of(&self, alloc: Global, names: &[Text]) -> Result<Value, AllocError>
         ensures { IfOk result (λ json. view json ≡ json_of (restrict names.now self.now)) }
     {
@@ -309,8 +306,8 @@ impl Document {
         Ok(Value::Object(members))
     }
 
-    /// Whether each field that has a value is in the schema, at the same number and under the
-    /// same name, and is of a kind that holds such a value.
+    /// Whether each field that has a value is in the schema, at the same number and under the same name, and its kind
+    /// allows the value.
     pub fn fits(&self, schema: &Schema) -> bool
         ensures { result ≡ fits schema.now self.now }
     {
@@ -321,8 +318,8 @@ impl Document {
         )
     }
 
-    /// The schema that it was made under. The document has a value or none for each of its fields, and
-    /// each value is one that its field can have.
+    /// The schema that the document was made under. The document has a value or none for each of its fields, and each
+    /// value is one that its field can have.
     pub fn schema(&self) -> &Schema
         ensures schema { result.now ≡ self.now.schema }
         ensures values { IsDocument self.now }
@@ -330,7 +327,7 @@ impl Document {
         &self.stored.schema
     }
 
-    /// The value of the field of this number, if it has one.
+    /// The value of a field by its number, if it has one.
     pub fn value(&self, field: usize) -> Option<&FieldValue>
         ensures value { option_copied result ≡ value_in_field self.now field }
         ensures short { IfSome result (λ v. IsShort v.now) }
@@ -379,7 +376,7 @@ pub(crate) fn json_of_value(alloc: Global, value: &FieldValue) -> Result<Value, 
     })
 }
 
-/// Puts the value of a field among the members of an object, if there is one.
+/// Adds the value of a field to the members of an object, if there is one.
 fn put_value(
     alloc: Global,
     members: &mut Map<String, Value>,
@@ -396,7 +393,7 @@ fn put_value(
     Ok(())
 }
 
-/// The members of an object for the fields that have a value.
+/// The members of a JSON object for the fields that have a value.
 fn members_of(
     alloc: Global,
     fields: &[Field],
@@ -421,7 +418,7 @@ fn is_among(names: &[Text], field: &Field) -> bool
         .any(|name| field.name.as_str() == name.as_str())
 }
 
-/// Puts the value of a field of these names among the members of an object, if there is one.
+/// Adds the value of a field to the members of an object, if the field is among the names and has a value.
 fn put_among(
     alloc: Global,
     members: &mut Map<String, Value>,
@@ -438,7 +435,7 @@ fn put_among(
     Ok(())
 }
 
-/// The members of an object for the fields of these names that have a value.
+/// The members of a JSON object for those fields among the names that have a value.
 fn members_among(
     alloc: Global,
     names: &[Text],
@@ -455,7 +452,7 @@ fn members_among(
     Ok(members)
 }
 
-/// Whether a value of one field may be in another.
+/// Whether a value of `field` may be a value of the field `there`.
 fn may_stand(there: Option<&Field>, field: &Field, value: &Option<FieldValue>) -> bool
     ensures { result ≡ may_stand (option_copied there.entry) field.now value.now }
 {
@@ -468,7 +465,7 @@ fn may_stand(there: Option<&Field>, field: &Field, value: &Option<FieldValue>) -
     }
 }
 
-/// Whether values fit a schema, each of a field of another.
+/// Whether the values of other fields fit the fields of a schema, by number.
 fn values_fit(schema: &[Field], fields: &[Field], values: &[Option<FieldValue>]) -> bool
     ensures { result ≡ fits_fields schema.now fields.now values.now }
 {

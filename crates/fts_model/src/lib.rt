@@ -1,15 +1,13 @@
-//! What the index is about: schemas, documents, operations, queries and answers, with what they
-//! mean.
+//! The types of the index with their meaning: schemas, documents, operations, queries and answers.
 //!
-//! Every other crate speaks of these types, and every theorem of what they mean here:
+//! Every other crate uses these types, and every theorem is about the definitions here:
 //!
-//! - the types. A [`Schema`] and a [`Document`] never change once made, and a copy shares them,
-//!   since each document of an index has the same schema and each answer hands documents out. What
-//!   is built from input is checked as it is made, and `fits` tells whether it belongs under a
-//!   schema, so that nothing further in has to look again;
-//! - the definitions: `specs/` says which documents are alive after operations, which of them a
-//!   query matches and what the answer is. They name no segment, posting or thread. `fts_scan` has
-//!   the laws that tie them to each other, and the search that looks at every document.
+//! - the types. A [`Schema`] and a [`Document`] never change once made, and a copy shares the data, since each document
+//!   of an index has the same schema and each answer hands documents out. Input is checked as it is read, and `fits`
+//!   says whether a value belongs under a schema, so that nothing further in has to check again;
+//! - the definitions: `specs/` says which documents are alive after operations, which of them a query matches, and what
+//!   the answer is. They name no segment, posting or thread. `fts_scan` has the laws that tie them to each other, and
+//!   the search that scans every document.
 //!
 //! ```text
 //! let json = Value::from_str(alloc, "{\"title\":\"Rust book\",\"price\":30}")?;

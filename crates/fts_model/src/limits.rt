@@ -1,4 +1,4 @@
-// How many documents a segment has at most.
+// The greatest numbers of documents of a segment.
 
 /// The most documents of a segment that is built of adds.
 pub const MOST_BUILT: usize = 65_536;

@@ -1,4 +1,4 @@
-// What is done to an index: documents are added, and those with a term are deleted.
+// Operations on an index: a document is added, or the documents with a term are deleted.
 ghost use Rattle.std.specs.Prelude.{◌≡◌, ◌≢◌, Err, IsErrOf, option_copied};
 ghost use Rattle.serde_json.specs.View.{view};
 ghost use Rattle.fts_base.specs.Results.{Gives};
@@ -13,17 +13,17 @@ use fts_base::Refusal;
 use serde_json::Value;
 use std::alloc::Global;
 
-/// A place in the order of all operations and commits. The first operation has stamp 1.
+/// A position in the order of all operations and commits. The first operation has stamp 1.
 pub type Stamp = u64;
 
-/// The kind of the field of this number, if there is one.
+/// The kind of a field by its number, if there is one.
 pub(crate) fn kind_at(schema: &Schema, field: usize) -> Option<Kind>
     ensures { result ≡ kind_at schema.now field }
 {
     Some(schema.fields().get(field)?.kind)
 }
 
-/// The value that a JSON value is in a keyword or number field, where null is none.
+/// The value of a keyword or number field for a JSON value; null is refused.
 fn some_value_of(alloc: Global, kind: Kind, json: &Value) -> Result<FieldValue, Refusal>
     requires { kind ≢ kinds.Text }
     ensures value { Gives (λ value. value) result (some_value_in kind (view json.now)) }
@@ -42,7 +42,7 @@ fn some_value_of(alloc: Global, kind: Kind, json: &Value) -> Result<FieldValue, 
     }
 }
 
-/// A token of any length.
+/// A token of any length, from a JSON string.
 fn token(alloc: Global, json: &Value) -> Result<FieldValue, Refusal>
     ensures value { Gives (λ value. value) result (term_value Kind.Text (view json.now)) }
     ensures refused { (fault : Refusal) →
@@ -55,7 +55,7 @@ fn token(alloc: Global, json: &Value) -> Result<FieldValue, Refusal>
     Ok(FieldValue::Text(Text::new(token)))
 }
 
-/// The value of a term in a field of this kind.
+/// The value of a term in a field of this kind, from a JSON value.
 fn term_value(alloc: Global, kind: Kind, json: &Value) -> Result<FieldValue, Refusal>
     ensures value { Gives (λ value. value) result (term_value kind (view json.now)) }
     ensures refused { (fault : Refusal) →
@@ -67,9 +67,8 @@ fn term_value(alloc: Global, kind: Kind, json: &Value) -> Result<FieldValue, Ref
     }
 }
 
-/// What a delete or a query looks for in a field: a token of a text field, the whole text of a
-/// keyword field, or the number of a number field. It isn't analysed: a token is given as it is
-/// folded.
+/// What a delete or a query looks for in a field: a token of a text field, the whole text of a keyword field, or the
+/// number of a number field. It isn't analysed, so a token must be given folded.
 #[derive(Clone, Debug, Drop, PartialEq, Eq)]
 pub struct Term {
     /// The number of the field.
@@ -83,11 +82,11 @@ impl Term {
     ghost use Rattle.fts_base.specs.Results.{Gives};
     ghost use Rattle.fts_model.specs.Operations.{term_of, term_fits};
 
-    /// The term that a JSON value is in the field of this name.
+    /// Makes the term of a JSON value in the field of this name.
     ///
-    /// It is refused as `UnknownField`, or else as `WrongKind` (a text or keyword field takes a
-    /// string, a `u64` or `i64` field a whole number in its range; none takes null) or
-    /// `KeywordTooLong` (over 256 bytes). A text field takes a string of any length.
+    /// It is refused as `UnknownField`, or else as `WrongKind` (a text or keyword field takes a string, a `u64` or
+    /// `i64` field a whole number in its range; none takes null) or `KeywordTooLong` (over 256 bytes). A text field
+    /// takes a string of any length.
     pub fn new(alloc: Global, schema: &Schema, name: &str, json: &Value) -> Result<Term, Refusal>
         ensures term { Gives (λ term. term) result (term_of schema.now name.now (view json.now)) }
         ensures refused { (fault : Refusal) →
@@ -103,7 +102,7 @@ impl Term {
         Ok(Term { field, value })
     }
 
-    /// Whether the value is a term of its field's kind.
+    /// Whether the term's value is of its field's kind.
     pub fn fits(&self, schema: &Schema) -> bool
         ensures { result ≡ term_fits schema.now self.now }
     {

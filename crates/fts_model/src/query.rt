@@ -1,4 +1,4 @@
-// What a search asks for.
+// Queries and requests: what a search asks for.
 ghost use Rattle.std.specs.Prelude.{◌≡◌, option_map, option_copied};
 ghost use Rattle.std.specs.List.{list_all};
 ghost use Rattle.fts_base.specs.Results.{Gives};
@@ -16,7 +16,7 @@ use fts_base::Refusal;
 use std::cmp::Ordering;
 use std::ops::Bound;
 
-/// Whether fields of this kind hold phrases.
+/// Whether fields of this kind can be searched for phrases.
 fn holds_phrases(kind: Kind) -> bool
     ensures { result ≡ holds_phrases kind }
 {
@@ -26,7 +26,7 @@ fn holds_phrases(kind: Kind) -> bool
     }
 }
 
-/// Whether a bound is one of a field of this kind.
+/// Whether a bound is possible for a field of this kind.
 fn bound_fits(kind: Kind, bound: &Bound<FieldValue>) -> bool
     ensures { result ≡ is_bound_of kind bound.now }
 {
@@ -52,20 +52,19 @@ pub enum Query {
     None,
     /// The documents that have the term.
     Term(Term),
-    /// The documents with these tokens of a text field, each at its offset from some one position.
+    /// The documents in which each of these tokens of a text field occurs at its offset from one common position.
     Phrase {
         field: usize,
         pattern: Vec<(u32, Text)>,
     },
-    /// The documents with a value of a keyword or number field within the bounds: keywords go by their bytes, numbers
-    /// by their values.
+    /// The documents with a value of a keyword or number field within the bounds. Keywords are ordered by their bytes,
+    /// numbers by their values.
     Range {
         field: usize,
         lower: Bound<FieldValue>,
         upper: Bound<FieldValue>,
     },
-    /// The documents that match all of `must`, none of `must_not`, and, if `must` is empty, one
-    /// of `should`.
+    /// The documents that match all of `must`, none of `must_not`, and, if `must` is empty, at least one of `should`.
     Bool {
         must: Vec<Query>,
         must_not: Vec<Query>,
@@ -74,8 +73,8 @@ pub enum Query {
 }
 
 impl Query {
-    /// Whether the query fits the schema: a term's value is of its field's kind, a phrase is of a
-    /// text field and has a member, a range is of a keyword or number field and so are its bounds.
+    /// Whether the query fits the schema: a term's value is of its field's kind; a phrase is of a text field and not
+    /// empty; a range is of a keyword or number field, and so are its bounds.
     #[cycle(query_fits)]
     pub fn fits(&self, schema: &Schema) -> bool
         ensures { result ≡ query_fits schema.now (query_value self.now) }
@@ -103,7 +102,7 @@ impl Query {
     }
 }
 
-/// Whether each of these fits the schema.
+/// Whether every query fits the schema.
 #[cycle(query_fits)]
 fn all_fit(queries: &[Query], schema: &Schema) -> bool
     ensures { result ≡ list_all (λ q. query_fits schema.now (query_value q)) queries.now }
@@ -116,7 +115,7 @@ fn all_fit(queries: &[Query], schema: &Schema) -> bool
     true
 }
 
-/// The order of a top list. Equal values are in the order of their stamps in both.
+/// The order of a top list, by value. In both orders, equal values are in the order of their stamps.
 #[derive(Clone, Copy, Debug, PartialEq, Eq)]
 pub enum Order {
     Rising,
@@ -124,7 +123,7 @@ pub enum Order {
 }
 
 impl Order {
-    /// How a number stands to another in a top list.
+    /// The order of two numbers in a top list.
     pub fn compare(self, a: Number, b: Number) -> Ordering
         ensures { result ≡ cmp_by self a b }
     {
@@ -145,7 +144,7 @@ pub struct Top {
     pub order: Order,
 }
 
-/// What is told of the hits besides their number.
+/// What a search returns besides the number of hits.
 #[derive(Clone, Copy, Debug, PartialEq, Eq)]
 pub struct Request {
     /// The keyword or number field by whose values the hits are counted in groups.
@@ -166,7 +165,7 @@ fn is_number_field(schema: &Schema, field: usize) -> bool
     }
 }
 
-/// Whether the field of this number holds values that have an order.
+/// Whether the values of the field of this number have an order.
 fn is_ordered_field(schema: &Schema, field: usize) -> bool
     ensures { result ≡ is_ordered_field schema.now field }
 {
@@ -209,7 +208,7 @@ fn ordered_field(schema: &Schema, name: &str) -> Result<usize, Refusal>
     Ok(field)
 }
 
-/// The field of the groups that are asked for.
+/// The field of the requested groups.
 fn groups_in(schema: &Schema, groups: Option<&str>) -> Result<Option<usize>, Refusal>
     ensures { result ≡ groups_of schema.now (option_copied groups.entry) }
 {
@@ -219,7 +218,7 @@ fn groups_in(schema: &Schema, groups: Option<&str>) -> Result<Option<usize>, Ref
     }
 }
 
-/// The top list that is asked for.
+/// The requested top list.
 fn top_in(schema: &Schema, top: Option<(&str, u64, Order)>) -> Result<Option<Top>, Refusal>
     ensures { result ≡ top_of schema.now (option_map (λ t. (t.0.now, t.1, t.2)) top.entry) }
 {
@@ -237,8 +236,7 @@ impl Request {
     ghost use Rattle.std.specs.Prelude.{◌≡◌, option_map, option_copied};
     ghost use Rattle.fts_model.specs.Queries.{request_of, request_fits};
 
-    /// The request for groups by the field of a name, and for a top list of this many hits by the
-    /// field of a name.
+    /// Makes a request for groups by a named field, and for a top list of up to `k` hits by a named field.
     ///
     /// It is refused by its groups as `UnknownField` or, for a text field, `NotANumberField`, or else by its top list
     /// as `UnknownField`, for a text or keyword field `NotANumberField`, or `BadLimit` (not within 1..=10,000).
@@ -255,8 +253,8 @@ impl Request {
         Ok(Request { groups, top })
     }
 
-    /// Whether its groups are by a keyword or number field of the schema, its top list by a number field, and its limit
-    /// is one.
+    /// Whether the groups are by a keyword or number field of the schema, the top list is by a number field, and its
+    /// limit is within 1..=10,000.
     pub fn fits(&self, schema: &Schema) -> bool
         ensures { result ≡ request_fits schema.now self.now }
     {

@@ -23,7 +23,7 @@ pub enum Kind {
     Text,
     /// A text that is one term as a whole.
     Keyword,
-    /// A whole number from 0 on, of 64 bits.
+    /// An unsigned whole number of 64 bits.
     U64,
     /// A signed whole number of 64 bits.
     I64,
@@ -42,8 +42,8 @@ impl Kind {
         }
     }
 
-    /// Whether the values of fields of this kind have an order, so that there are ranges of them: keywords go by their
-    /// bytes, numbers by their values.
+    /// Whether the values of fields of this kind have an order, so that ranges are possible: keywords are ordered by
+    /// their bytes, numbers by their values.
     pub fn is_ordered(self) -> bool
         ensures { result ≡ is_ordered self }
     {
@@ -53,7 +53,7 @@ impl Kind {
         }
     }
 
-    /// Whether a field of this kind holds such values.
+    /// Whether a field of this kind can hold the value.
     pub fn holds(self, value: &FieldValue) -> bool
         ensures { result ≡ is_of_kind self value.now }
     {
@@ -63,7 +63,7 @@ impl Kind {
         }
     }
 
-    /// Whether such values are terms of fields of this kind, or bounds: lists of texts are neither.
+    /// Whether the value can be a term or a bound in a field of this kind. A list of texts can be neither.
     pub fn has_term(self, value: &FieldValue) -> bool
         ensures { result ≡ is_term_of self value.now }
     {
@@ -80,7 +80,7 @@ impl Kind {
 pub struct Field {
     pub name: Text,
     pub kind: Kind,
-    /// Whether a literal of a query that names no field is looked for here too.
+    /// Whether a query literal that names no field is looked for in this field.
     pub default: bool,
 }
 
@@ -166,7 +166,7 @@ fn fault_of(fields: &[Field]) -> Option<Refusal>
     None
 }
 
-/// The fields of an index, in order: 1 to 32, each with a name of its own. A copy shares them.
+/// The fields of an index, in order: 1 to 32, with distinct names. A copy shares them.
 #[derive(Drop)]
 pub struct Schema {
     fields: Arc<Vec<Field>>,
@@ -186,10 +186,10 @@ impl Model for Schema {
 }
 
 impl Schema {
-    /// The schema of these fields. A refusal hands them back: `NoFields`, `TooManyFields` (more
-    /// than 32), and then the first fault field by field, of one field in this order: `BadName`
-    /// (not `[A-Za-z_][A-Za-z0-9_]*` of 1 to 32 bytes, or `AND`, `OR`, `NOT`), `NameTwice` (an
-    /// earlier field has the name), `BadDefault` (a number field is marked default).
+    /// Makes a schema of these fields. A refusal hands them back: `NoFields`, `TooManyFields` (more than 32), or the
+    /// first fault field by field, of one field in this order: `BadName` (not `[A-Za-z_][A-Za-z0-9_]*` of 1 to 32
+    /// bytes, or `AND`, `OR`, `NOT`), `NameTwice` (an earlier field has the name), `BadDefault` (a number field is
+    /// marked default).
     pub fn new(alloc: Global, fields: Vec<Field>) -> Result<Schema, (Vec<Field>, Refusal)>
         ensures ok { IfOk result (λ schema. schema ≡ fields.items) }
         ensures valid { OnOk result (schema_fault fields.items ≡ None) }

@@ -7,7 +7,7 @@ ghost use Rattle.std.specs.Str.{bytes_eq};
 use std::alloc::AllocError;
 use std::marker::Model;
 
-/// A text. Contracts see it as its UTF-8 bytes.
+/// A text. Contracts see its UTF-8 bytes.
 #[derive(Debug, Drop)]
 pub struct Text {
     string: String,
@@ -22,7 +22,7 @@ impl Model for Text {
 }
 
 impl Text {
-    /// The text of a string, which isn't copied.
+    /// Makes a text of a string, which isn't copied.
     pub fn new(string: String) -> Self
         ensures { result ≡ string_bytes string }
     {
@@ -36,7 +36,7 @@ impl Text {
         self.string
     }
 
-    /// The text as it is.
+    /// A borrowed view of the text.
     pub fn as_str(&self) -> &str
         ensures { result.now ≡ self.now }
     {

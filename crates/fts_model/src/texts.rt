@@ -1,4 +1,4 @@
-// The texts of a list, one after the other in one block of memory.
+// The texts of a list, concatenated in one allocation.
 ghost use Rattle.std.specs.Prelude.{◌≡◌, [], length, slice_index_or};
 ghost use Rattle.std.specs.Cmp.{partial_equiv_from_equiv};
 ghost use Rattle.std.specs.Cmp.Lexicographic.{lists_equiv, nat_list_eq_equiv, pointwise};
@@ -8,11 +8,11 @@ use fts_base::start_of;
 use std::alloc::{AllocError, Global};
 use std::marker::Model;
 
-// The texts, one after the other.
+// The concatenated texts.
 #[derive(Debug, Drop)]
 struct Joined {
     bytes: String,
-    // Where each text ends.
+    // The index after the last byte of each text.
     ends: Vec<usize>,
 }
 
@@ -84,7 +84,7 @@ impl Clone for Joined {
 /// A list of texts. Contracts see the list of their UTF-8 bytes.
 #[derive(Debug, Drop)]
 pub struct Texts {
-    // After a handle, so that the value of a field takes no more room if it is one text.
+    // Boxed, so that a field's value stays as small as one that is a single text.
     joined: Box<Joined>,
 }
 
@@ -99,7 +99,7 @@ impl Model for Texts {
 impl Texts {
     ghost use Rattle.std.specs.Prelude.{◌≡◌, ◌++◌, ◌∷◌, [], IfOk, OnErr, OnOk, length, nat_eq, slice_index_or};
 
-    /// No texts yet, with room for this many of this many bytes together.
+    /// An empty list with capacity for `count` texts of `bytes` bytes together.
     pub fn with_capacity(alloc: Global, count: usize, bytes: usize) -> Result<Texts, AllocError>
         ensures { IfOk result (λ texts. texts ≡ []) }
     {
@@ -108,28 +108,28 @@ impl Texts {
         Ok(Texts { joined })
     }
 
-    /// How many texts there are.
+    /// The number of texts.
     pub fn len(&self) -> usize
         ensures { result ≡ length self.now }
     {
         self.joined.len()
     }
 
-    /// Whether there are none.
+    /// Whether the list is empty.
     pub fn is_empty(&self) -> bool
         ensures { result ≡ nat_eq (length self.now) 0 }
     {
         self.len() == 0
     }
 
-    /// The text of this number, and no bytes if there is none.
+    /// The text of this number, or an empty text if there is none.
     pub fn get(&self, number: usize) -> &str
         ensures { result.now ≡ slice_index_or self.now number [] }
     {
         self.joined.get(number)
     }
 
-    /// Puts a text after the others.
+    /// Appends a text.
     pub fn push(&mut self, text: &str) -> Result<(), AllocError>
         ensures ok { OnOk result (self.new ≡ self.old ++ text.now ∷ []) }
         ensures err { OnErr result (self.new ≡ self.old) }

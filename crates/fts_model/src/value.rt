@@ -17,7 +17,7 @@ pub enum Number {
 }
 
 impl Number {
-    /// How a number stands to another: by their values, and one of a `u64` field before one of an `i64` field.
+    /// The order of two numbers: by their values, and a `u64` field's before an `i64` field's.
     pub fn compare(self, other: Number) -> Ordering
         ensures { result ≡ number_cmp self other }
     {
@@ -35,13 +35,13 @@ impl Number {
 pub enum FieldValue {
     /// The value of a text or keyword field.
     Text(Text),
-    /// The texts of a text field that has a list of them. No term and no bound is one.
+    /// The texts of a text field that has a list of them. It can be no term and no bound.
     Texts(Texts),
     /// The value of a number field.
     Number(Number),
 }
 
-/// The value of a group: one of a keyword or number field.
+/// The value of a group, from a keyword or number field.
 #[derive(Debug, Drop, PartialEq, Eq)]
 pub enum GroupValue {
     /// A number of a `u64` field.
@@ -56,7 +56,7 @@ impl GroupValue {
     ghost use Rattle.std.specs.Prelude.{◌≡◌, IfOk};
     ghost use Rattle.fts_model.specs.Answers.{group_of, group_cmp};
 
-    /// The value of the group of a field's value. A list of texts has none.
+    /// The value of the group for a field's value. A list of texts has none.
     pub fn of(value: &FieldValue) -> Result<Option<GroupValue>, AllocError>
         ensures { IfOk result (λ group. group ≡ group_of value.now) }
     {
@@ -68,8 +68,8 @@ impl GroupValue {
         })
     }
 
-    /// How a value stands to another: numbers by their values, keywords by their bytes; one of a `u64` field before one
-    /// of an `i64` field, and both before a keyword.
+    /// The order of two group values: numbers by their values, keywords by their bytes; a `u64` field's come before an
+    /// `i64` field's, and both before keywords.
     pub fn compare(&self, other: &GroupValue) -> Ordering
         ensures { result ≡ group_cmp self.now other.now }
     {

@@ -1,9 +1,9 @@
--- How a document is laid out in memory.
+-- The layout of a document in memory.
 use Rattle.std.specs.Arc.{arc_value}
 use Rattle.fts_model.specs.declared.document.Document.TheInside.{Inside}
 use Rattle.fts_model.specs.Documents.{DocumentValue, IsDocument}
 
--- the document that is kept
+-- the document that is stored
 abbrev pub stored_value : Inside → DocumentValue
 stored_value d = record { schema = (arc_value d.stored).schema; values = (arc_value d.stored).values.items }
 

@@ -7,7 +7,7 @@ use Rattle.fts_model.specs.Documents.{with_values}
 use Rattle.fts_model.specs.Restricted.{values_among}
 use Rattle.fts_model.proofs.document.members_among.Given as goal
 
--- the members so far, and those of the fields that are left
+-- the members that are made, followed by those of the fields that are left, are the whole
 abbrev pub invariant-loop-field : goal.invariant-loop-field
 invariant-loop-field l =
     with_values (members_view l.members.entries) (iter_rest (zip_first l.field-iterator)) (values_among l.names (iter_rest (zip_first l.field-iterator))

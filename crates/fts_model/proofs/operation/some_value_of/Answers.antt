@@ -24,7 +24,7 @@ returns-in-Some-clause-refused c =
     one_error (some_value_in c.args.kind (view c.args.json.now)) c.in-Some.fault fault
     (and_then_error (λ v. ok_or v WrongKind) read c.in-Some.fault (sym c.in-Some.is ∙ c.fault_of_value.ensures)) wanted
 
--- outside of text fields null alone is no value
+-- outside text fields only null is no value
 only_null : (kind : Kind) (d : Data) → kind ≢ kinds.Text → value_in kind d ≡ Ok None → d ≡ null
 only_null kind null apart h = refl
 only_null kind (boolean b) apart h = cc
@@ -46,7 +46,7 @@ only_null kinds.I64 (number n) apart h =
     elim (as_i64 n) as (λ o. ok_or (option_map (λ x. Some (values.Number (numbers.I64 x))) o) WrongKind ≡ Ok None → number n ≡ null)
     [ None ↦ λ g. cc | Some x ↦ λ g. cc ] h
 
--- so a value that is not null and has no fault is some value
+-- a value that is not null and has no fault is some value
 no_refusal : (read : Result (Option FieldValue) Refusal) (fault : Refusal) → error_if_err read ≡ None → (read ≡ Ok None → ⊥) →
     result_and_then (λ v. ok_or v WrongKind) read ≡ Err fault → ⊥
 no_refusal (Err e) fault h some g = cc
