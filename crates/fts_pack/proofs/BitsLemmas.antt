@@ -1,4 +1,4 @@
--- Single bits in words, and what a write of one changes.
+-- Single bits in words, and the change that writing one makes.
 use Rattle.std.proofs.Common.{◌≡◌, ◌||◌, ℕ, zero, suc, ◌+◌, ◌-◌, ◌*◌, ◌/◌, ◌%◌, ◌^◌, ◌<◌, ◌≤◌, ◌≢◌, inl, inr, List, [], ◌∷◌, ◌++◌, Bool, true, false, ◌==◌}
 use Rattle.std.proofs.Common.{replicate, slice_get, Some, length, get_or, take, drop, set, bit_and, bit_or, count_by, refl, sym, ap, ap₂, ◌∙◌, subst, arith}
 use Rattle.std.proofs.Common.{mul-one, mod-eq_of_lt, suc-mul, lit<, cond, lt_of_le_of_lt, Decides}
@@ -38,7 +38,7 @@ bit_in_word words i below =
     let start : i % 64 < 64 = mod_below i 64 (omega arith) in
     ap (λ n. joined 64 words / 2 ^ n % 2) (sym (div-add-mod' i 64)) ∙ read_one 64 1 (i / 64) (i % 64) words below (omega arith)
 
--- place i of the booleans is bit i
+-- boolean i is bit i of the words
 pub flag_at : (len i : ℕ) (words : List ℕ) (d : Bool) → i < len → get_or (flags (numbers_in 64 1 len words)) i d ≡ (bit_at (joined 64 words) i == 1)
 unfolding numbers_in
 flag_at len i words d inside =
@@ -56,12 +56,12 @@ flag_read len i words inside below =
     slice_get-get_or (flags (numbers_in 64 1 len words)) i false (rw (length-flags len words) inside)
     ∙ ap Some (flag_at len i words false inside ∙ ap (λ b. b == 1) (bit_in_word words i below ∙ sym (shr_and_one (get_or words (i / 64) 0) (i % 64))))
 
--- the word of a bit is there
+-- the word of a bit is one of the words
 pub word_inside : (len i : ℕ) → i < len → i / 64 < word_count 64 len
 unfolding word_count
 word_inside len i inside = grind arith
 
--- a number without bits from a place on is small
+-- a number without bits from a position on is small
 pub small_from_bits : (n len : ℕ) → ((i : ℕ) → len ≤ i → bit_at n i ≡ 0) → n < 2 ^ len
 small_from_bits n len none =
     let low = n % 2 ^ len in
@@ -72,7 +72,7 @@ small_from_bits n len none =
     ]) in
     subst (λ m. m < 2 ^ len) (sym same) low_small
 
--- a word was written: one bit has a new value, and the others stay
+-- one bit of the words has a new value, and the others are unchanged
 pub record IsBitWritten (words after : List ℕ) (place bit : ℕ) : Type 0 where
   pub count : length after ≡ length words
   pub fits : Below 64 after
@@ -95,7 +95,7 @@ bit_written words place word bit below inside small same others =
       ]) ∙ sym (bit_in_word words i below);
     }
 
--- what the booleans are after a bit was written
+-- the booleans after a bit is written
 pub IsBits-written : (len place bit : ℕ) (words after : List ℕ) → IsBits len words → place < len → IsBitWritten words after place bit → IsBits len after
 IsBits-written len place bit words after h inside w = record {
   len_fits = h.len_fits;
@@ -131,7 +131,7 @@ unfolding joined
 joined-replicate_zero zero = refl
 joined-replicate_zero (suc count) = omega (arith, joined-replicate_zero count)
 
--- the words of bits that are all set
+-- the words of a bit vector with every bit set
 pub record AreFull (len : ℕ) (words : List ℕ) : Type 0 where
   pub count : length words ≡ word_count 64 len
   pub fits : Below 64 words
@@ -205,7 +205,7 @@ flags-empty len =
     flag_at len i words false inside ∙ ap (λ n. bit_at n i == 1) (joined-replicate_zero (word_count 64 len)) ∙ ap (λ b. b == 1) (bit_at-zero i)
     ∙ sym (get_or-replicate len i false false inside))
 
--- a digit is 1 where its boolean is true
+-- a digit is 1 if its boolean is true
 flag_counts : (n : ℕ) → cond (n % 2 == 1) 1 0 ≡ n % 2
 flag_counts n = go (n % 2) (mod_below n 2 (omega arith)) where
   go : (d : ℕ) → d < 2 → cond (d == 1) 1 0 ≡ d
@@ -225,7 +225,7 @@ unfolding digits
 marks-flags zero n = refl
 marks-flags (suc count) n = ap₂ (λ x xs. x ∷ xs) (flag_counts n) (marks-flags count (n / 2))
 
--- the words are those of the booleans
+-- the words are determined by the booleans
 pub words-from_flags : (len : ℕ) (words : List ℕ) → IsBits len words → words ≡ words_of 64 1 (marks (flags (numbers_in 64 1 len words)))
 unfolding words_of numbers_in
 words-from_flags len words h =
@@ -237,7 +237,7 @@ words-from_flags len words h =
     ∙ mod-eq_of_lt h.unused in
     sym (ap₂ (λ b m. digits 64 (word_count 64 b) m) size number ∙ ap (λ c. digits 64 c n) (sym h.count) ∙ digits-joined 64 words h.fits)
 
--- booleans as a number are their words as one
+-- booleans as a number are the joined words
 pub number_of-flags : (len : ℕ) (words : List ℕ) → IsBits len words → number_of (flags (numbers_in 64 1 len words)) ≡ joined 64 words
 unfolding numbers_in
 number_of-flags len words h =
@@ -254,7 +254,7 @@ marks-drop zero bits = refl
 marks-drop (suc count) [] = refl
 marks-drop (suc count) (bit ∷ bits) = marks-drop count bits
 
--- a part of booleans is a part of their number
+-- a range of booleans is a range of the bits of their number
 pub number_of-part : (bits : List Bool) (start count : ℕ) → number_of (take count (drop start bits)) ≡ number_of bits / 2 ^ start % 2 ^ count
 number_of-part bits start count =
     let all = marks bits in
@@ -262,7 +262,7 @@ number_of-part bits start count =
     ∙ joined-take 1 count (drop start all) (Below-drop 1 start all (Below-marks bits))
     ∙ ap₂ (λ n b. n % 2 ^ b) (sym (joined-drop 1 start all (Below-marks bits)) ∙ ap (λ b. joined 1 all / 2 ^ b) (mul-one start)) (mul-one count)
 
--- one of the words
+-- one of the words is a range of the booleans
 pub word_read : (len index : ℕ) (words : List ℕ) → IsBits len words →
     get_or words index 0 ≡ number_of (take 64 (drop (64 * index) (flags (numbers_in 64 1 len words))))
 word_read len index words h =
@@ -274,7 +274,7 @@ word_read len index words h =
     ∙ ap (λ n. n % 2 ^ 64) at
     ∙ mod_low rest 64 (get_or words index 0) (h.fits index))
 
--- two words side by side
+-- two adjacent words as one number
 pub words_side_by_side : (bits : List Bool) (start low high : ℕ) → low ≡ number_of (take 64 (drop start bits)) →
     high ≡ number_of (take 64 (drop (start + 64) bits)) → bit_or low (high * 2 ^ 64 % 2 ^ 128) ≡ number_of (take 128 (drop start bits))
 words_side_by_side bits start low high low_is high_is =
@@ -290,13 +290,13 @@ words_side_by_side bits start low high low_is high_is =
     ∙ sym (mod-pow-add (n / 2 ^ start) 64 64)
     ∙ sym (number_of-part bits start 128)
 
--- booleans that are the same lie in the same words
+-- equal booleans are in equal words
 pub words-unique : (len : ℕ) (words others : List ℕ) → IsBits len words → IsBits len others →
     flags (numbers_in 64 1 len words) ≡ flags (numbers_in 64 1 len others) → words ≡ others
 words-unique len words others h g same =
     words-from_flags len words h ∙ ap (λ bits. words_of 64 1 (marks bits)) same ∙ sym (words-from_flags len others g)
 
--- a bit set, or cleared
+-- writing one bit of a word sets or clears that bit of the words
 pub bit_put : (bit : Bool) (words : List ℕ) (place n : ℕ) → Below 64 words → place / 64 < length words → n ≡ get_or words (place / 64) 0 →
     IsBitWritten words (set words (place / 64) (cond bit (bit_or n (1 * 2 ^ (place % 64) % 2 ^ 64)) (bit_and n (all_ones - 1 * 2 ^ (place % 64) % 2 ^ 64))))
     place (cond bit 1 0)
@@ -313,14 +313,14 @@ bit_put false words place n below inside n_is =
     bit_written words place (bit_and n mask) 0 below inside (lt_of_le_of_lt (and_le_l n mask) small) (bit_at_clear_same w64 n (place % 64) start)
     (λ i lt ne. bit_at_clear_other w64 n (place % 64) start i lt ne ∙ ap (λ m. bit_at m i) n_is)
 
--- a document's bit, and the word that it is in, are there
+-- a document's bit, and the word that it is in, exist
 pub doc_inside : (len doc : ℕ) (words : List ℕ) (value : List Bool) → flags (numbers_in 64 1 len words) ≡ value → IsBits len words → doc < length value →
     (doc < len) × (doc / 64 < length words)
 doc_inside len doc words value view h inside =
     let within : doc < len = omega (arith, ap length view, length-flags len words) in
     (within, rw h.count (word_inside len doc within))
 
--- bits with one of them put: the words are those of bits, and tell the others as before
+-- writing one bit leaves words of a bit vector, with the other bits unchanged
 pub bits-put : (bit : Bool) (len doc n : ℕ) (words : List ℕ) (value : List Bool) → flags (numbers_in 64 1 len words) ≡ value → IsBits len words →
     doc < length value → n ≡ get_or words (doc / 64) 0 → let after =
     set words (doc / 64) (cond bit (bit_or n (1 * 2 ^ (doc % 64) % 2 ^ 64)) (bit_and n (all_ones - 1 * 2 ^ (doc % 64) % 2 ^ 64))) in
@@ -338,7 +338,7 @@ pub rest_inside : (len : ℕ) → 0 < len % 64 → len / 64 < word_count 64 len
 unfolding word_count
 rest_inside len some = omega arith
 
--- what `==` answers of two values of `Bits`
+-- the result of `==` for two bit vectors
 pub eq_same_len : (len other : ℕ) (words others : List ℕ) (v w : List Bool) (r : Bool) → flags (numbers_in 64 1 len words) ≡ v →
     flags (numbers_in 64 1 other others) ≡ w → IsBits len words → IsBits other others → len ≡ other → Decides r (words ≡ others) → r ≡ pointwise beq v w
 eq_same_len len other words others v w r v_is w_is h g same d =
@@ -358,7 +358,7 @@ eq_other_len len other words others v w v_is w_is differ =
     ) in
     same_from_decides (len == other) (pointwise beq v w) by_len (slice_eq-Decides booleans_Decides v w (pointwise beq v w) refl)
 
--- how many bits are set once one is put
+-- the count of set bits after one is written
 abbrev pub one_if : Bool → ℕ
 one_if bit = cond bit 1 0
 
@@ -380,16 +380,16 @@ module _ (bits : List Bool) (doc : ℕ) (was : Bool) (inside : doc < length bits
       omega (arith, ones_above, sum_by-set one_if bits doc bit false inside, digit_there, is, x_is, y_is) in
       sum ∙ ap (count_by (λ b. b)) (sym put)
 
-  -- there are no more than bits
+  -- there are no more set bits than bits
   pub ones_room : (bit : Bool) (ones x y : ℕ) → ones ≡ count_by (λ b. b) bits → x ≡ one_if was → y ≡ one_if bit → ones - x + y ≤ length bits
   ones_room bit ones x y is x_is y_is =
       omega (arith, ones_put bit (set bits doc bit) ones x y is x_is y_is refl, count_by-le-length (λ b. b) (set bits doc bit), length-set bits doc bit)
 
--- all are set, or none
+-- the count of equal bits
 pub ones_replicated : (bits : List Bool) (n : ℕ) (b : Bool) → bits ≡ replicate n b → n * one_if b ≡ count_by (λ bit. bit) bits
 ones_replicated bits n b is = sym (ap (count_by (λ bit. bit)) is ∙ sum_by-replicate one_if n b)
 
--- a digit of booleans as a number is 1 where its boolean is true
+-- a digit of booleans as a number is 1 if its boolean is true
 bit_at-number_of : (bits : List Bool) (k : ℕ) → bit_at (number_of bits) k ≡ cond (get_or bits k false) 1 0
 unfolding joined
 bit_at-number_of [] k = bit_at-zero k
@@ -411,7 +411,7 @@ word_bit bits start word k is inside =
     ap (λ n. bit_at n k == 1) is ∙ ap (λ n. n == 1) (bit_at-number_of part k) ∙ one (get_or part k false)
     ∙ get_or-take 64 (drop start bits) k false inside ∙ get_or-drop start bits k false
 
--- bits after the first of some documents were set
+-- the bits after those of the first documents were set
 pub record AreSet (old new : List Bool) (docs : List ℕ) : Type 0 where
   pub len : length new ≡ length old
   pub set_are : (d : ℕ) → get_or new d false ≡ (get_or old d false || list_any (λ x. x == d) docs)
@@ -458,14 +458,14 @@ AreSet-more old new after docs i doc h inside is there put = record {
 pub AreSet-all : (old new : List Bool) (docs : List ℕ) (i : ℕ) → AreSet old new (take i docs) → length docs ≤ i → AreSet old new docs
 AreSet-all old new docs i h past = subst (AreSet old new) (take_all i docs past) h
 
--- a bit that is set is there
+-- a set bit exists
 pub set_inside : (bits : List Bool) (doc : ℕ) → get_or bits doc false ≡ true → doc < length bits
 set_inside bits doc set = elim (cases_lt doc (length bits)) [
   | inl inside ↦ inside
   | inr past ↦ absurd (let no : false ≡ true = sym (get_or_past bits doc false past) ∙ set in cc)
 ]
 
--- as many bits are set as there are where each is
+-- the count of set bits is the length exactly if each is set
 pub all_counted : (bits : List Bool) → (count_by (λ bit. bit) bits == length bits) ≡ list_all (λ bit. bit) bits
 all_counted [] = refl
 all_counted (true ∷ bits) =

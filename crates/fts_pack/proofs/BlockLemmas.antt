@@ -1,11 +1,11 @@
--- What a block keeps, from the numbers that were packed.
+-- The contents of a block, from the numbers that were packed.
 use Rattle.std.proofs.Common.{◌≡◌, ℕ, ◌≤◌, List, length, sym, ap, ◌∙◌}
 use Rattle.fts_pack.specs.Block.{IsBlock, block_numbers}
 use Rattle.fts_pack.specs.bits.Digits.{IsWidthOf}
 use Rattle.fts_pack.specs.FourLanes.{words_in_lanes}
 use Rattle.fts_pack.proofs.LaneLemmas.{numbers_in_lanes-words}
 
--- the words of numbers hold these numbers
+-- the numbers that were packed are read back
 pub block_again : (numbers words : List ℕ) (width : ℕ) → length numbers ≤ 128 → IsWidthOf numbers width → words ≡ words_in_lanes width numbers →
     block_numbers (length numbers) width words ≡ numbers
 block_again numbers words width few fits words_are =

@@ -1,4 +1,4 @@
--- The ends of blocks: what they tell of each document, and that they fit.
+-- The offset ranges of blocks: the bounds that they give, and that they fit.
 use Rattle.std.proofs.Common.{◌≡◌, ℕ, ◌+◌, ◌-◌, ◌*◌, ◌/◌, ◌%◌, ◌^◌, ◌<◌, ◌≤◌, inl, inr, List, [], ◌∷◌, ◌++◌, true, false, Option, Some, None, IfSome, All}
 use Rattle.std.proofs.Common.{length, get_or, take, drop, min, nat_le, cond, sym, ap, ◌∙◌, subst, arith}
 use Rattle.std.specs.Option.{option_map_or}
@@ -10,14 +10,14 @@ use Rattle.fts_pack.specs.column.BlockRanges.{AreEnds, AreEndsOf, block_of, no_e
 use Rattle.fts_pack.specs.column.Column.{HaveOffsets, IsRangeOf, offsets}
 use Rattle.fts_pack.proofs.ColumnLemmas.{length-offsets, none_in, offset_at, value_fits}
 
--- a place in a block
+-- an element of a block is an element of the values
 pub in_block : (values : List (Option ℕ)) (block k : ℕ) (d : Option ℕ) → k < 128 → get_or (block_of block values) k d ≡ get_or values (128 * block + k) d
 in_block values block k d small = get_or-take 128 (drop (128 * block) values) k d small ∙ get_or-drop (128 * block) values k d
 
 length-block : (values : List (Option ℕ)) (block : ℕ) → length (block_of block values) ≡ min 128 (length values - 128 * block)
 length-block values block = length-take 128 (drop (128 * block) values) ∙ ap (min 128) (length-drop (128 * block) values)
 
--- where a document's value is in its block
+-- a document's value is an element of its block
 doc_place : (values : List (Option ℕ)) (block doc : ℕ) → doc / 128 ≡ block → get_or (block_of block values) (doc % 128) None ≡ get_or values doc None
 doc_place values block doc here =
     in_block values block (doc % 128) None (omega arith) ∙ ap (λ i. get_or values i None) (let e : 128 * block + doc % 128 ≡ doc = omega arith in e)
@@ -37,7 +37,7 @@ block_within values block doc range h here =
       | inr past ↦ (subst P (sym (get_or_past (block_of block values) k None past)) tt)
     ])
 
--- no value is in a block of none
+-- a block of a column without values has none
 pub block_of_none : (values : List (Option ℕ)) (block : ℕ) → IsRangeOf values None → IsRangeOf (block_of block values) None
 block_of_none values block h = λ k d inside.
     let small : k < 128 = omega (arith, length-block values block) in
@@ -48,7 +48,7 @@ block_of_none values block h = λ k d inside.
 pub block_past : (values : List (Option ℕ)) (block : ℕ) → length values ≤ 128 * block → IsRangeOf (block_of block values) None
 block_past values block past = λ k d inside. absurd (omega (arith, length-block values block))
 
--- the end of a block's range is the value of a document
+-- a bound of a block's range is the value of some document
 end_at : (values : List (Option ℕ)) (block k x : ℕ) → k < length (block_of block values) → get_or (block_of block values) k (Some x) ≡ Some x →
     (128 * block + k < length values) × (get_or values (128 * block + k) None ≡ Some x)
 end_at values block k x inside at =
@@ -56,7 +56,7 @@ end_at values block k x inside at =
     let there : 128 * block + k < length values = omega (arith, length-block values block) in
     (there, get_or_default values (128 * block + k) None (Some x) there ∙ sym (in_block values block k (Some x) small) ∙ at)
 
--- how far an end is above the least takes as many bits as an offset
+-- the offset of a bound has as many bits as the offset of a value
 end_fits : (values : List (Option ℕ)) (least width block k far : ℕ) → HaveOffsets least width values → k < length (block_of block values) →
     get_or (block_of block values) k (Some (least + far)) ≡ Some (least + far) → far < 2 ^ width
 end_fits values least width block k far h inside at =
@@ -66,7 +66,7 @@ end_fits values least width block k far h inside at =
     ∙ (let e : (least + far) - least ≡ far = omega arith in e) in
     omega (arith, offset, h.fits i 0 (omega (arith, there.0, length-offsets least values)))
 
--- the range that ends tell where the first is not above the second
+-- the range of an offset range whose first is not above its second
 pub told_range : (least : ℕ) (values : List (Option ℕ)) (ends : ℕ × ℕ) → IsRangeOf values (range_above least ends) → ends.0 ≤ ends.1 →
     IsRangeOf values (Some (least + ends.0, least + ends.1))
 told_range least values ends is order =
@@ -78,7 +78,7 @@ told_none least values ends is order =
     let no : nat_le ends.0 ends.1 ≡ false = grind arith in
     subst (λ b. IsRangeOf values (cond b (Some (least + ends.0, least + ends.1)) None)) no is
 
--- ends fit the lanes
+-- offset ranges fit their integers
 pub ends_fit : (values : List (Option ℕ)) (least width bits block : ℕ) (ends : ℕ × ℕ) → HaveOffsets least width values →
     AreEnds least (block_of block values) ends → width ≤ bits → 1 ≤ bits → (ends.0 < 2 ^ bits) × (ends.1 < 2 ^ bits)
 ends_fit values least width bits block ends h is narrow some =
@@ -107,14 +107,14 @@ block_taken values block end is =
       | inr long ↦ ap (λ n. take n rest) (let e : end - 128 * block ≡ 128 = omega (arith, is, size, long) in e)
     ]
 
--- values above the least are so in a block
+-- if each value is at least some number, so is each of a block
 pub block_above : (values : List (Option ℕ)) (least block : ℕ) → All (λ v. IfSome v (λ x. least ≤ x)) values →
     All (λ v. IfSome v (λ x. least ≤ x)) (block_of block values)
 block_above values least block h = λ k d inside.
     let P : Option ℕ → Type 0 = λ v. IfSome v (λ x. least ≤ x) in
     subst P (sym (in_block values block k d (omega (arith, length-block values block)))) (h (128 * block + k) d (omega (arith, length-block values block)))
 
--- these are the ends of the first blocks
+-- the offset ranges of the first blocks
 pub record AreFirstEnds (least : ℕ) (values : List (Option ℕ)) (count : ℕ) (ends : List (ℕ × ℕ)) : Type 0 where
   pub count_is : length ends ≡ count
   pub range_is : (block : ℕ) → block < count → IsRangeOf (block_of block values) (range_above least (get_or ends block no_ends))
@@ -146,14 +146,14 @@ first_all least values count list h all = record {
   ];
 }
 
--- what the ends of a block tell, above the least of all
+-- a block's range from its offset range, above the least of all values
 pub block_told : (values : List (Option ℕ)) (whole least : ℕ) (list : List (ℕ × ℕ)) (block : ℕ) (ends : ℕ × ℕ) → AreEndsOf whole values list → whole ≡ least →
     ends ≡ get_or list block no_ends → IsRangeOf (block_of block values) (range_above least ends)
 block_told values whole least list block ends h same at =
     subst (λ n. IsRangeOf (block_of block values) (range_above n ends)) same (subst (λ x. IsRangeOf (block_of block values) (range_above whole x)) (sym at)
     (h.range_is block))
 
--- the ends of a block's range have 64 bits
+-- the bounds of a block's range have 64 bits
 pub block_fits : (values : List (Option ℕ)) (range : Option (ℕ × ℕ)) (least greatest block : ℕ) (ends : ℕ × ℕ) → IsRangeOf values range →
     IfSome range (λ r. r.1 < 2 ^ 64) → range ≡ Some (least, greatest) → IsRangeOf (block_of block values) (Some ends) → (ends.0 < 2 ^ 64) × (ends.1 < 2 ^ 64)
 block_fits values range least greatest block ends h fits known is =

@@ -22,7 +22,7 @@ IsRangeOf-missing values (Some range) h = (
   All-push (λ v. IfSome v (λ x. (range.0 ≤ x) × (x ≤ range.1))) values None h.2 tt,
 )
 
--- what holds of a value holds of the greater or lesser of two, if it holds of both
+-- a property of two numbers holds of the lesser and the greater
 min_case : (P : ℕ → Type 0) (a b : ℕ) → P a → P b → P (min a b)
 min_case P a b p q =
     elim (cases_lt a b) [
@@ -65,7 +65,7 @@ pub range_with-fits : (range : Option (ℕ × ℕ)) (x : ℕ) → IfSome range (
 range_with-fits None x h small = small
 range_with-fits (Some range) x h small = omega (arith, h, small)
 
--- each value is at or above the least
+-- each value is at least the least
 above_one : (v : Option ℕ) (low high : ℕ) → IfSome v (λ x. (low ≤ x) × (x ≤ high)) → IfSome v (λ x. low ≤ x)
 above_one None low high h = tt
 above_one (Some x) low high h = h.0
@@ -104,7 +104,7 @@ offsets_fit values (Some range) width h small =
     λ k d inside. let within : k < length values = omega (arith, length-map values (λ v. option_map_or (λ x. x - range.0) v 0)) in
     rw (offset_at range.0 k d values within) (omega (arith, offset_within (get_or values k None) range.0 range.1 (h.2 k None within), small))
 
--- a value is its offset above the least again
+-- a value is the least plus its offset
 value_again : (v : Option ℕ) (least : ℕ) → IfSome v (λ x. least ≤ x) → cond (is_some v) (Some (least + option_map_or (λ x. x - least) v 0)) None ≡ v
 value_again None least h = refl
 value_again (Some x) least h = ap Some (omega (arith, h))
@@ -118,7 +118,7 @@ values_at-offsets least [] h = refl
 values_at-offsets least (v ∷ values) h =
     ap₂ (λ x xs. x ∷ xs) (value_again v least (h 0 None (omega arith))) (values_at-offsets least values (All-tail (λ w. IfSome w (λ x. least ≤ x)) v values h))
 
--- the range that a column is built with, where no value is there
+-- the range that a column without values is built with
 pub unwrap_least : (range : Option (ℕ × ℕ)) → (unwrap_or range (0, 0)).0 ≡ least_of range
 unwrap_least None = refl
 unwrap_least (Some range) = refl
@@ -127,7 +127,7 @@ pub unwrap_spread : (range : Option (ℕ × ℕ)) → (unwrap_or range (0, 0)).1
 unwrap_spread None = refl
 unwrap_spread (Some range) = refl
 
--- the values of a range, of which both ends are known, have offsets of as many bits as its spread
+-- the values of a range have offsets of as many bits as its spread
 pub HaveOffsets-range : (values : List (Option ℕ)) (range : Option (ℕ × ℕ)) (width : ℕ) (ends : ℕ × ℕ) → length values ≤ 2 ^ 32 → IsRangeOf values range →
     ends ≡ unwrap_or range (0, 0) → ends.1 - ends.0 < 2 ^ width → HaveOffsets ends.0 width values
 HaveOffsets-range values range width ends few is known small =
@@ -148,7 +148,7 @@ least_first values (Some range) h =
     let at : IfSome (Some range.0) (λ x. (range.0 ≤ x) × (x ≤ range.1)) = subst (λ v. IfSome v (λ x. (range.0 ≤ x) × (x ≤ range.1))) h.0.2 bounds in
     at.1
 
--- the values of the fields are those that were packed
+-- a column's fields give back the packed values
 pub column_values : (values : List (Option ℕ)) (range : Option (ℕ × ℕ)) (present : List Bool) (width : ℕ) (words : List ℕ) → IsRangeOf values range →
     present ≡ map is_some values → spread_of range < 2 ^ width → words ≡ words_of 64 width (offsets (least_of range) values) →
     values_at (least_of range) present (numbers_in 64 width (length present) words) ≡ values
@@ -174,7 +174,7 @@ get_or-values_at least (bit ∷ present) [] i h inside = absurd (omega (arith, h
 get_or-values_at least (bit ∷ present) (x ∷ numbers) zero h inside = refl
 get_or-values_at least (bit ∷ present) (x ∷ numbers) (suc i) h inside = get_or-values_at least present numbers i (omega (arith, h)) (omega (arith, inside))
 
--- one document more is present, or missing
+-- the presence bits of one more document
 pub presence_more : (values : List (Option ℕ)) (doc : ℕ) → doc < length values →
     map is_some (take (doc + 1) values) ++ replicate (length values - (doc + 1)) false ≡ map is_some (take doc values)
     ++ is_some (get_or values doc None) ∷ replicate (length values - (doc + 1)) false
@@ -209,7 +209,7 @@ pub column_length : (values : List (Option ℕ)) (least : ℕ) (present : List B
 column_length values least present width words view =
     ap length (sym view) ∙ length-values_at least present (numbers_in 64 width (length present) words) (length-numbers_in 64 width (length present) words)
 
--- a value that is there lies within the range
+-- a present value is within the range
 pub within_range : (values : List (Option ℕ)) (range : ℕ × ℕ) (i x : ℕ) → IsRangeOf values (Some range) → i < length values → get_or values i None ≡ Some x →
     x ≤ range.1
 within_range values range i x h inside at =
@@ -239,14 +239,14 @@ IsColumn-built values range width words lanes few range_is fits holds least word
   lanes_are = lanes_are;
 }
 
--- a value that is there fits
+-- a present value fits its bits
 pub value_fits : (values : List (Option ℕ)) (range : Option (ℕ × ℕ)) (i least greatest x : ℕ) → IsRangeOf values range → IfSome range (λ r. r.1 < 2 ^ 64) →
     range ≡ Some (least, greatest) → i < length values → get_or values i None ≡ Some x → x < 2 ^ 64
 value_fits values None i least greatest x h fits e inside at = absurd (cc)
 value_fits values (Some range) i least greatest x h fits e inside at =
     omega (arith, within_range values range i x h inside at, fits)
 
--- what a value that is there has in its lane
+-- the element of a present value is its offset
 lane_is : (v : Option ℕ) (least lane : ℕ) → IfSome v (λ x. least ≤ x) → lane ≡ option_map_or (λ x. x - least) v 0 →
     IfSome v (λ x. (least ≤ x) × (least + lane ≡ x))
 lane_is None least lane above e = tt
@@ -268,7 +268,7 @@ lane_there values range width words lanes h i = elim (cases_lt i (length values)
       (lane_at values range width words lanes h i inside)
 ]
 
--- a lane for each document, and for those up to the end of a stretch
+-- the array has an element for each document, and up to a multiple of 64
 pub lane_inside : (values : List (Option ℕ)) (range : Option (ℕ × ℕ)) (width : ℕ) (words lanes : List ℕ) → IsColumn values range width words lanes → (i : ℕ) →
     i < length values → i < length lanes
 lane_inside values range width words lanes h i inside = omega (arith, inside, h.lanes_are.enough, length-offsets (least_of range) values)
@@ -284,7 +284,7 @@ pub stretch_inside : (values : List (Option ℕ)) (range : Option (ℕ × ℕ)) 
 stretch_inside values range width words lanes h from aligned inside =
     omega (arith, aligned, h.lanes_are.whole, lane_inside values range width words lanes h from inside)
 
--- the bit of presence tells whether there is a value
+-- the presence bit says whether there is a value
 pub presence-at : (values : List (Option ℕ)) (i : ℕ) → get_or (map is_some values) i false ≡ is_some (get_or values i None)
 presence-at [] i = refl
 presence-at (v ∷ values) zero = refl
@@ -311,7 +311,7 @@ pub value_missing : (values : List (Option ℕ)) (present : List Bool) (i : ℕ)
 value_missing values present i present_is missing =
     none_of (get_or values i None) (sym (presence-at values i) ∙ ap (λ bits. get_or bits i false) present_is ∙ missing)
 
--- a column has one range, and one width
+-- an optional value can't be both none and some
 none_is_some : (v : Option ℕ) (x : ℕ) → v ≡ None → v ≡ Some x → ⊥
 none_is_some v x none some = absurd (cc)
 
@@ -340,7 +340,7 @@ presence-values_at least (bit ∷ present) [] h = absurd (omega (arith, h))
 presence-values_at least (true ∷ present) (x ∷ numbers) h = ap (λ bits. true ∷ bits) (presence-values_at least present numbers (omega (arith, h)))
 presence-values_at least (false ∷ present) (x ∷ numbers) h = ap (λ bits. false ∷ bits) (presence-values_at least present numbers (omega (arith, h)))
 
--- the layout of a column, from its values alone
+-- the layout of a column is determined by its values
 pub column_width : (values : List (Option ℕ)) (kept : Option (ℕ × ℕ)) (width : ℕ) (words lanes : List ℕ) → IsColumn values kept width words lanes →
     (range : Option (ℕ × ℕ)) → IsRangeOf values range → IsWidthOf (spread_of range ∷ []) width
 column_width values kept width words lanes h range is =
@@ -365,14 +365,14 @@ presence-take zero values = refl
 presence-take (suc count) [] = refl
 presence-take (suc count) (v ∷ values) = ap (λ bits. is_some v ∷ bits) (presence-take count values)
 
--- the presence of a part of a column
+-- the presence bits of a range of a column
 pub presence-part : (start count : ℕ) (values : List (Option ℕ)) → map is_some (take count (drop start values)) ≡ take count (drop start (map is_some values))
 presence-part zero count values = presence-take count values
 presence-part (suc start) zero [] = refl
 presence-part (suc start) (suc count) [] = refl
 presence-part (suc start) count (v ∷ values) = presence-part start count values
 
--- two halves that were written, one after the other
+-- two halves that are written, one after the other
 pub half_low : (a b out : List ℕ) (i : ℕ) → length a ≡ 64 → i < 64 → get_or (put_mid 64 64 (a ++ out) b) i 0 ≡ get_or a i 0
 half_low a b out i long small =
     let size : length (take 64 (a ++ out)) ≡ 64 = length-take-le 64 (a ++ out) (omega (arith, length-append a out)) in
@@ -383,7 +383,7 @@ half_high a b out i long long' above small =
     let size : length (take 64 (a ++ out)) ≡ 64 = length-take-le 64 (a ++ out) (omega (arith, length-append a out)) in
     get_or-append_right (take 64 (a ++ out)) _ 64 i 0 size above ∙ get_or_append_left b _ 0 (i - 64) (omega arith)
 
--- the number in a lane, above the least, is the value that is there
+-- a present value is the least plus its element
 lane_value : (v : Option ℕ) (least lane number x : ℕ) → IfSome v (λ y. (least ≤ y) × (least + lane ≡ y)) → v ≡ Some x → x < 2 ^ 64 →
     number ≡ (least + lane) % 2 ^ 64 → number ≡ x
 lane_value None least lane number x h e fits is = absurd (cc)

@@ -25,7 +25,7 @@ mod-add a b m =
     let whole : a % m + b + m * (a / m) ≡ a + b = omega (arith, mod-add-div a m) in
     sym (add-mul-mod_self_left (a % m + b) m (a / m)) ∙ ap (λ n. n % m) whole
 
--- a document that has no number counts nothing
+-- a document without a number changes no count
 pub AreCounted-missing : (number : ℕ → Option ℕ) (docs old now : List ℕ) (i : ℕ) → i < length docs → number (get_or docs i 0) ≡ None →
     AreCounted number (take i docs) old now → AreCounted number (take (i + 1) docs) old now
 AreCounted-missing number docs old now i inside missing h = record {
@@ -34,7 +34,7 @@ AreCounted-missing number docs old now i inside missing h = record {
   long = h.long;
 }
 
--- a number counts one more at its place
+-- a document with a number adds one at its index
 pub AreCounted-more : (number : ℕ → Option ℕ) (docs old now : List ℕ) (i x : ℕ) → i < length docs → x < length now → number (get_or docs i 0) ≡ Some x →
     AreCounted number (take i docs) old now → AreCounted number (take (i + 1) docs) old (set now x ((get_or now x 0 + 1) % 2 ^ 64))
 AreCounted-more number docs old now i x inside room is h = record {
@@ -76,14 +76,14 @@ AreCounted-same number other docs old new same h = record {
   long = h.long;
 }
 
--- a document whose bit is set has the number in its lane, and any other has none
+-- a document whose bit is set has the number of its element, and any other has none
 pub number_at-set : (present : List Bool) (lanes : List ℕ) (doc : ℕ) → get_or present doc false ≡ true → number_at present lanes doc ≡ Some (get_or lanes doc 0)
 number_at-set present lanes doc bit = ap (λ b. cond b (Some (get_or lanes doc 0)) None) bit
 
 pub number_at-clear : (present : List Bool) (lanes : List ℕ) (doc : ℕ) → get_or present doc false ≡ false → number_at present lanes doc ≡ None
 number_at-clear present lanes doc bit = ap (λ b. cond b (Some (get_or lanes doc 0)) None) bit
 
--- where each bit is set, each document has the number in its lane
+-- if each bit is set, each document has the number of its element
 pub every_number : {A : Type 0} (value : A → ℕ) (present : List Bool) (lanes : List A) (len doc : ℕ) → len ≡ length present →
     list_all (λ bit. bit) present ≡ true → len ≤ length lanes → slice_get (map value (take len lanes)) doc ≡ number_at present (map value lanes) doc
 every_number value present lanes len doc long all room =
@@ -97,25 +97,25 @@ every_number value present lanes len doc long all room =
           ∙ sym (number_at-clear present numbers doc (get_or_past present doc false (omega (arith, past, long))))
     ]
 
--- the number of a lane, which is a place
+-- the number of an element, as an index
 pub number_of_lane : {A : Type 0} (value : A → ℕ) (lanes : List A) (doc x : ℕ) (lane : A) → doc < length lanes → lane ≡ get_or lanes doc lane → x ≡ value lane →
     x ≡ get_or (map value lanes) doc 0
 number_of_lane value lanes doc x lane inside there is = is ∙ ap value there ∙ sym (get_or-map value lanes doc lane 0 inside)
 
--- the least value of a column is one of those that it has places for
+-- the least value of a column is within the values that are counted
 pub first_within : (values : List (Option ℕ)) (least count first : ℕ) → AreWithin values least count → Contains values (Some first) →
     (least ≤ first) × (first < least + count)
 first_within values least count first within there =
     let P : Option ℕ → Type 0 = λ v. IfSome v (λ x. (least ≤ x) × (x < least + count)) in
     subst P there.2 (within there.0 (Some first) there.1)
 
--- the place of a lane, for a value that is there and for one that is not
+-- the index of an element is in the counts, for a present and a missing value
 place_in : (v : Option ℕ) (least count first lane : ℕ) → (least ≤ first) × (first < least + count) → IfSome v (λ x. (least ≤ x) × (x < least + count)) →
     IfSome v (λ x. first ≤ x) → lane ≡ option_map_or (λ x. x - first) v 0 → lane < count - (first - least)
 place_in None least count first lane here within above is = omega (arith, here.0, here.1, is)
 place_in (Some x) least count first lane here within above is = omega (arith, here.0, here.1, within.0, within.1, above, is)
 
--- a lane tells a place, whether its document has a value or not
+-- each element is an index in the counts, whether its document has a value or not
 pub lane_within : (values : List (Option ℕ)) (range : Option (ℕ × ℕ)) (width : ℕ) (words lanes : List ℕ) → IsColumn values range width words lanes →
     (least count first doc : ℕ) → least_of range ≡ first → (least ≤ first) × (first < least + count) → AreWithin values least count → doc < length values →
     get_or lanes doc 0 < count - (first - least)
@@ -124,7 +124,7 @@ lane_within values range width words lanes h least count first doc first_is here
     (subst (λ n. IfSome (get_or values doc None) (λ x. n ≤ x)) first_is (above_least values range h.range_is doc None inside))
     (lane_at values range width words lanes h doc inside ∙ ap (λ n. option_map_or (λ x. x - n) (get_or values doc None) 0) first_is)
 
--- the value of a document is the number in its lane above the least
+-- the value of a document is the least plus its element
 pub value_of_number : (values : List (Option ℕ)) (range : Option (ℕ × ℕ)) (width : ℕ) (words lanes : List ℕ) (present : List Bool) (first doc : ℕ) →
     values_at (least_of range) present (numbers_in 64 width (length present) words) ≡ values →
     IsColumn (values_at (least_of range) present (numbers_in 64 width (length present) words)) range width words lanes → least_of range ≡ first →
@@ -138,7 +138,7 @@ value_of_number values range width words lanes present first doc view column fir
       | inr clear ↦ value_missing values present doc there clear ∙ sym (ap (option_map (λ n. first + n)) (number_at-clear present lanes doc clear))
     ]
 
--- a value is at its place, counted from the first or from the least on
+-- a value's index, counted from the first value or from the least
 is_value-moved : (least skip first place : ℕ) (v : Option ℕ) → least + skip ≡ first → skip ≤ place →
     is_value (place - skip) v ≡ is_value (least + place) (option_map (λ n. first + n) v)
 is_value-moved least skip first place None start above = refl
@@ -159,7 +159,7 @@ count_by-none : (docs : List ℕ) → count_by (λ doc. false) docs ≡ 0
 count_by-none [] = refl
 count_by-none (doc ∷ docs) = omega (arith, sum_by-cons (λ (x : ℕ). 0) doc docs, count_by-none docs)
 
--- where no document has a value, its place stays as it is
+-- if no document has a value, its count is unchanged
 pub stays : (values : List (Option ℕ)) (docs : List ℕ) (x count : ℕ) → count < 2 ^ 64 → ((doc : ℕ) → is_value x (get_or values doc None) ≡ false) →
     count ≡ (count + having values docs x) % 2 ^ 64
 stays values docs x count small none =
@@ -167,7 +167,7 @@ stays values docs x count small none =
     omega (arith, count_by-same (λ doc. is_value x (get_or values doc None)) (λ doc. false) docs none, count_by-none docs) in
     sym (ap (λ n. n % 2 ^ 64) no_more ∙ mod-eq_of_lt small)
 
--- what the places from the first on have counted, all have
+-- the counts from the first value on give all counts
 pub counted_from_first : (values : List (Option ℕ)) (present : List Bool) (lanes docs counts part : List ℕ) (least skip first : ℕ) →
     ((doc : ℕ) → get_or values doc None ≡ option_map (λ n. first + n) (number_at present lanes doc)) → least + skip ≡ first → skip ≤ length counts →
     ((k : ℕ) → get_or (put_mid skip (length counts - skip) counts part) k 0 < 2 ^ 64)

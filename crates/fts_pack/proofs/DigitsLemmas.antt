@@ -7,7 +7,7 @@ use Rattle.std.proofs.lemmas.List.{length_push}
 use Rattle.std.proofs.Math.Nat.{zero-div, mod-one, mul-add-mod_self_right, suc-mul}
 use Rattle.fts_pack.specs.bits.Digits.{joined, digits, word_count, words_of}
 
--- each number has at most so many bits
+-- each number has at most `width` bits
 abbrev pub Below : ℕ → List ℕ → Type 0
 Below width xs = (i : ℕ) → get_or xs i 0 < 2 ^ width
 
@@ -52,7 +52,7 @@ joined-below width (x ∷ xs) h =
     rw (e, mul_comm (2 ^ (length xs * width)) (2 ^ width)) (mul-add-lt (joined width xs) (2 ^ width) x (2 ^ (length xs * width))
     (joined-below width xs (Below-tail width x xs h)) (h 0))
 
--- reading back what was joined
+-- joined numbers are read back as digits
 pub digits-joined : (width : ℕ) (xs : List ℕ) → Below width xs → digits width (length xs) (joined width xs) ≡ xs
 unfolding joined digits
 digits-joined width [] h = refl
@@ -60,7 +60,7 @@ digits-joined width (x ∷ xs) h =
     rw (mod_low (joined width xs) width x (h 0), shr_high (joined width xs) width x (h 0))
     (ap (λ ys. x ∷ ys) (digits-joined width xs (Below-tail width x xs h)))
 
--- only the lowest bits count
+-- only the lowest bits matter
 pub digits-mod : (width count n : ℕ) → digits width count (n % 2 ^ (count * width)) ≡ digits width count n
 unfolding digits
 digits-mod width zero n = refl
@@ -77,7 +77,7 @@ joined-digits width zero n = sym (ap (λ p. n % p) (pow_bits-zero width) ∙ mod
 joined-digits width (suc count) n =
     rw (joined-digits width count (n / 2 ^ width)) (sym (ap (λ b. n % 2 ^ b) (suc-mul count width) ∙ mod-pow-add n (count * width) width))
 
--- the words from one on
+-- the words from an index on
 pub joined-drop : (width i : ℕ) (xs : List ℕ) → Below width xs → joined width xs / 2 ^ (i * width) ≡ joined width (drop i xs)
 unfolding joined
 joined-drop width zero xs h = ap (λ p. joined width xs / p) (pow_bits-zero width) ∙ div-one (joined width xs)
@@ -85,7 +85,7 @@ joined-drop width (suc i) [] h = zero-div (2 ^ (suc i * width))
 joined-drop width (suc i) (x ∷ xs) h =
     shr_bits-suc (joined width xs * 2 ^ width + x) i width ∙ (rw (shr_high (joined width xs) width x (h 0)) (joined-drop width i xs (Below-tail width x xs h)))
 
--- the words from one on, the first of them apart
+-- the words from an index on, with the first split off
 pub joined-drop_split : (width i : ℕ) (xs : List ℕ) → joined width (drop i xs) ≡ joined width (drop (suc i) xs) * 2 ^ width + get_or xs i 0
 unfolding joined
 joined-drop_split width zero [] = omega arith
@@ -93,7 +93,7 @@ joined-drop_split width (suc i) [] = omega arith
 joined-drop_split width zero (x ∷ xs) = refl
 joined-drop_split width (suc i) (x ∷ xs) = joined-drop_split width i xs
 
--- a field of bits of the low part of a number is a field of the number
+-- a bit field of the low part of a number is one of the number
 pub field_low : (high word start width low : ℕ) → start + width ≤ word → (high * 2 ^ word + low) / 2 ^ start % 2 ^ width ≡ low / 2 ^ start % 2 ^ width
 field_low high word start width low h =
     let e : word ≡ (word - (width + start)) + (width + start) = omega arith in
@@ -103,14 +103,14 @@ field_low high word start width low h =
     ∙ ap (λ n. n / 2 ^ start) (ap (λ n. (n + low) % 2 ^ (width + start)) cut ∙ mul-add-mod_self_right (high * 2 ^ (word - (width + start)))
     (2 ^ (width + start)) low) ∙ field_of low width start
 
--- a field that one word holds whole
+-- a field that is within one word
 pub read_one : (word width index start : ℕ) (words : List ℕ) → Below word words → start + width ≤ word →
     joined word words / 2 ^ (index * word + start) % 2 ^ width ≡ get_or words index 0 / 2 ^ start % 2 ^ width
 read_one word width index start words below h =
     rw (← shr-shr (joined word words) (index * word) start, joined-drop word index words below, joined-drop_split word index words)
     (field_low (joined word (drop (suc index) words)) word start width (get_or words index 0) h)
 
--- a field that two words hold
+-- a field that spans two words
 pub read_two : (word width index start : ℕ) (words : List ℕ) → Below word words → start + width ≤ word + word →
     joined word words / 2 ^ (index * word + start) % 2 ^ width ≡ (get_or words (suc index) 0 * 2 ^ word + get_or words index 0) / 2 ^ start % 2 ^ width
 read_two word width index start words below h =
@@ -121,7 +121,7 @@ read_two word width index start words below h =
     joined-drop_split word index words ∙ (rw (joined-drop_split word (suc index) words, pow-add 2 word word) (omega arith)) in
     rw (← shr-shr (joined word words) (index * word) start, joined-drop word index words below, e) (field_low a (word + word) start width (b * 2 ^ word + c) h)
 
--- so far these numbers are written: whole words, and the bits that fill no word yet
+-- the numbers that are written: whole words, and the pending bits
 pub record IsWritten (word width : ℕ) (numbers words : List ℕ) (pending filled : ℕ) : Type 0 where
   pub number : joined width numbers ≡ pending * 2 ^ (length words * word) + joined word words
   pub bits : length words * word + filled ≡ length numbers * width
@@ -133,7 +133,7 @@ pub IsWritten-start : (word width : ℕ) → 0 < word → IsWritten word width [
 unfolding joined
 IsWritten-start word width h = record { number = omega arith; bits = omega arith; fits = lit< tt; room = h; below = λ i. pow_pos word }
 
--- one number more, in bits
+-- the bits of one more number
 joined-push : (word width : ℕ) (numbers words : List ℕ) (pending filled x : ℕ) → IsWritten word width numbers words pending filled →
     joined width (numbers ++ x ∷ []) ≡ (pending + x * 2 ^ filled) * 2 ^ (length words * word) + joined word words
 unfolding joined
@@ -183,7 +183,7 @@ IsWritten-full word width numbers words pending filled x h small over narrow =
       below = Below-push word low words h.below (mod_below whole (2 ^ word) (pow_pos word));
     }
 
--- the whole words, where no bits are left
+-- the whole words are all, if no bits are pending
 pub IsWritten-end : (word width : ℕ) (numbers words : List ℕ) (pending filled : ℕ) → IsWritten word width numbers words pending filled → filled ≡ 0 →
     words ≡ words_of word width numbers
 unfolding words_of word_count
@@ -195,7 +195,7 @@ IsWritten-end word width numbers words pending filled h e =
     let number : joined width numbers ≡ joined word words = h.number ∙ (rw empty (omega arith)) in
     sym (ap (λ n. digits word n (joined width numbers)) count ∙ ap (digits word (length words)) number ∙ digits-joined word words h.below)
 
--- and where some are, they are the last word
+-- the pending bits are the last word, if there are some
 pub IsWritten-last : (word width : ℕ) (numbers words : List ℕ) (pending filled : ℕ) → IsWritten word width numbers words pending filled → 0 < filled →
     words ++ pending ∷ [] ≡ words_of word width numbers
 unfolding words_of word_count joined

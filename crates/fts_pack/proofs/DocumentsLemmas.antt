@@ -1,4 +1,4 @@
--- Rising documents, their differences, and their blocks.
+-- Rising documents, their gaps, and their blocks.
 use Rattle.std.proofs.Common.{◌≡◌, ℕ, zero, suc, ◌+◌, ◌-◌, ◌*◌, ◌<◌, ◌≤◌, List, [], ◌∷◌, ◌++◌, length, get_or, take, drop, min, refl, sym, ap, ◌∙◌, subst}
 use Rattle.std.proofs.Common.{arith}
 use Rattle.std.specs.List.Sorted.{IsStrictlyIncreasing}
@@ -31,7 +31,7 @@ pub after-append : (next : ℕ) (xs ys : List ℕ) → after next (xs ++ ys) ≡
 after-append next [] ys = refl
 after-append next (x ∷ xs) ys = after-append (suc x) xs ys
 
--- the last document is the one before the next
+-- the last document is the predecessor of the least that may follow
 pub after_last : (next : ℕ) (xs : List ℕ) → 0 < length xs → after next xs ≡ suc (last_of xs)
 after_last next [] h = absurd (omega arith)
 after_last next (x ∷ []) h = refl
@@ -63,7 +63,7 @@ Rises-block documents block h =
 pub take_block : (documents : List ℕ) (block : ℕ) → take ((block + 1) * 128) documents ≡ take (block * 128) documents ++ block_at documents block
 take_block documents block = ap (λ n. take n documents) (omega arith) ∙ take-add (block * 128) 128 documents
 
--- the difference of the next number
+-- the gap of the next number
 pub record IsNextGap (rising : List ℕ) (i next number : ℕ) : Type 0 where
   pub above : next ≤ number
   pub rises : Rises (number + 1) (drop (i + 1) rising)
@@ -93,16 +93,16 @@ block_sliced documents block end end_is =
 pub block_count-div_ceil : (count : ℕ) → div_ceil count 128 ≡ block_count count
 block_count-div_ceil count = omega arith
 
--- the last document of a block, and what follows it
+-- the successor of the last document is the least that may follow
 pub last_is : (next : ℕ) (documents : List ℕ) → 0 < length documents → suc (get_or documents (length documents - 1) 0) ≡ after next documents
 last_is next documents some = sym (after_last next documents some)
 
--- the first block of as many documents as fit in it has them all
+-- the first block of at most 128 documents has them all
 pub first_block : (documents : List ℕ) (block : ℕ) → length documents ≤ 128 → block < block_count (length documents) → block_at documents block ≡ documents
 first_block documents zero few h = take_all 128 documents few
 first_block documents (suc block) few h = absurd (omega (arith, few, h))
 
--- the last is the greatest
+-- the last of rising documents is the greatest
 pub within_last : (next : ℕ) (xs : List ℕ) → Rises next xs → (k : ℕ) → k < length xs → get_or xs k 0 ≤ get_or xs (length xs - 1) 0
 within_last next [] h k inside = absurd (omega arith)
 within_last next (x ∷ []) h zero inside = omega arith

@@ -1,4 +1,4 @@
--- Documents sought one by one, from the last to the first.
+-- Documents searched one by one, from the last to the first.
 use Rattle.std.proofs.Common.{◌≡◌, ℕ, suc, ◌+◌, ◌-◌, ◌<◌, ◌≤◌, true, false, ◌&&◌, nat_le, Option, Some, None, All, List, length, drop, drop-cons, get_or, refl}
 use Rattle.std.proofs.Common.{sym, ◌∙◌, subst, arith}
 use Rattle.std.proofs.lemmas.List.Elements.{All-cons}
@@ -6,7 +6,7 @@ use Rattle.std.specs.Option.{option_map}
 use Rattle.fts_pack.specs.column.Column.{is_within}
 use Rattle.fts_pack.specs.column.Interval.{IsLastWithin, NoneWithin}
 
--- one document more is not within the bounds
+-- one more document is not within the bounds
 pub NoneWithin-before : (number : ℕ → Option ℕ) (low high : ℕ) (docs : List ℕ) (place : ℕ) → 0 < place →
     (place ≤ length docs) × NoneWithin number low high (drop place docs) → is_within low high (number (get_or docs (place - 1) 0)) ≡ false →
     (place - 1 ≤ length docs) × NoneWithin number low high (drop (place - 1) docs)
@@ -20,7 +20,7 @@ NoneWithin-before number low high docs place more h out =
           (All-cons P (get_or docs (place - 1) 0) (drop (suc (place - 1)) docs) out rest),
     )
 
--- the last document that is
+-- the last document within the bounds is found
 pub IsLastWithin-found : (number : ℕ → Option ℕ) (low high : ℕ) (docs : List ℕ) (place : ℕ) → place < length docs →
     is_within low high (number (get_or docs place 0)) ≡ true → NoneWithin number low high (drop (place + 1) docs) →
     IsLastWithin number low high docs (Some place)
@@ -29,7 +29,7 @@ IsLastWithin-found number low high docs place inside within h = record { some = 
 pub IsLastWithin-none : (number : ℕ → Option ℕ) (low high : ℕ) (docs : List ℕ) → NoneWithin number low high docs → IsLastWithin number low high docs None
 IsLastWithin-none number low high docs h = record { some = tt; behind = tt; none = λ e. h }
 
--- numbers that are within these, where others are within others
+-- a search by one number gives the result of a search by another, if these are within bounds alike
 pub IsLastWithin-same : (number other : ℕ → Option ℕ) (low high low' high' : ℕ) (docs : List ℕ) (found : Option ℕ) →
     ((doc : ℕ) → is_within low high (number doc) ≡ is_within low' high' (other doc)) → IsLastWithin number low high docs found →
     IsLastWithin other low' high' docs found
@@ -39,7 +39,7 @@ IsLastWithin-same number other low high low' high' docs (Some place) same h =
     IsLastWithin-found other low' high' docs place h.some.0 (sym (same (get_or docs place 0)) ∙ h.some.1)
     (λ k d inside. sym (same (get_or (drop (place + 1) docs) k d)) ∙ h.behind k d inside)
 
--- a value is within bounds where the number in its lane is within them above the least
+-- a value is within bounds if its element is within them less the least value
 pub is_within-above : (v : Option ℕ) (least low high : ℕ) → least ≤ high →
     is_within (low - least) (high - least) v ≡ is_within low high (option_map (λ n. least + n) v)
 is_within-above None least low high order = refl

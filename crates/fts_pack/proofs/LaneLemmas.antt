@@ -1,4 +1,4 @@
--- What is at a place of the lanes, and that the numbers of a block are those of its words.
+-- The elements of lanes, and that the numbers of a block are those of its words.
 use Rattle.std.proofs.Common.{◌≡◌, ◌≢◌, ◌-◌, bit_and, bit_or, ℕ, suc, ◌+◌, ◌*◌, ◌/◌, ◌%◌, ◌^◌, ◌<◌, ◌≤◌, inl, inr, List, [], ◌∷◌, ◌++◌, All, length, get_or}
 use Rattle.std.proofs.Common.{set, take, refl, sym, ap, ap₂, ◌∙◌, replicate, arith}
 use Rattle.std.proofs.lemmas.List.FromFn.{get_or-map-range_with_len, length-map-range_with_len, map-range_with_len_more}
@@ -33,7 +33,7 @@ pub All-lane_of : (width count lane : ℕ) (xs : List ℕ) → All (λ x. x < 2 
 All-lane_of width count lane xs fits k d inside =
     rw (get_or_default (lane_of count lane xs) k d 0 inside) (Below-lane_of width count lane xs (Below-from_all width xs fits) k)
 
--- lanes are the same where their elements are
+-- lanes are equal if their elements are
 pub lane_same : (count lane : ℕ) (xs ys : List ℕ) → ((place : ℕ) → place < count → get_or xs (4 * place + lane) 0 ≡ get_or ys (4 * place + lane) 0) →
     lane_of count lane xs ≡ lane_of count lane ys
 lane_same count lane xs ys same =
@@ -41,7 +41,7 @@ lane_same count lane xs ys same =
     let near : k < count = omega (arith, length-lane_of count lane xs) in
     get_or-lane_of count lane xs k near ∙ same k near ∙ sym (get_or-lane_of count lane ys k near))
 
--- what stands at a place of a lane within its block, and 0 behind the end of both
+-- an element of a lane within its block, and 0 past the end of both
 pub lane_get : (width lane place : ℕ) (words : List ℕ) → lane < 4 → 4 * width ≤ length words → get_or (take (4 * width) words) (4 * place + lane) 0
     ≡ get_or (lane_of width lane words) place 0
 lane_get width lane place words small room =
@@ -51,7 +51,7 @@ lane_get width lane place words small room =
           ∙ sym (get_or_past (lane_of width lane words) place 0 (omega (arith, past, length-lane_of width lane words))))
     ]
 
--- one element more of a lane
+-- a lane with one more element
 lane_more : (count lane : ℕ) (xs : List ℕ) → lane_of (count + 1) lane xs ≡ lane_of count lane xs ++ get_or xs (4 * count + lane) 0 ∷ []
 unfolding lane_of
 lane_more count lane xs = map-range_with_len_more (λ place. get_or xs (4 * place + lane) 0) 0 count count (omega arith)
@@ -108,14 +108,14 @@ pub length-words_in_lanes : (width : ℕ) (numbers : List ℕ) → length (words
 unfolding words_in_lanes
 length-words_in_lanes width numbers = length-woven width _
 
--- the number at a place of a lane is a field of the bits of the lane
+-- the number at an index of a lane is a field of the lane's bits
 pub number_at : (width : ℕ) (words : List ℕ) (place lane : ℕ) → place < 32 → lane < 4 → get_or (numbers_in_lanes width words) (4 * place + lane) 0
     ≡ joined 32 (lane_of width lane words) / 2 ^ (place * width) % 2 ^ width
 unfolding numbers_in_lanes numbers_in
 number_at width words place lane h small =
     get_or-woven 32 _ place lane h small ∙ get_or-digits width 32 (joined 32 (lane_of width lane words)) place 0 h
 
--- where one word holds it
+-- the number at an index of a lane, if one word has all of its bits
 pub number_within : (width : ℕ) (words : List ℕ) (place lane bit : ℕ) → Below 32 words → place < 32 → lane < 4 → bit ≡ place * width → bit / 32 < width →
     bit % 32 + width ≤ 32 → get_or (numbers_in_lanes width words) (4 * place + lane) 0 ≡ get_or words (4 * (bit / 32) + lane) 0 / 2 ^ (bit % 32) % 2 ^ width
 number_within width words place lane bit below h small bit_is inside fits =
@@ -126,7 +126,7 @@ number_within width words place lane bit below h small bit_is inside fits =
     ∙ read_one 32 width (bit / 32) (bit % 32) xs (Below-lane_of 32 width lane words below) fits
     ∙ ap (λ x. x / 2 ^ (bit % 32) % 2 ^ width) (get_or-lane_of width lane words (bit / 32) inside)
 
--- where two words do
+-- the number at an index of a lane, if its bits span two words
 pub number_across : (width : ℕ) (words : List ℕ) (place lane bit : ℕ) → Below 32 words → place < 32 → lane < 4 → bit ≡ place * width → bit / 32 + 1 < width →
     width ≤ 32 → get_or (numbers_in_lanes width words) (4 * place + lane) 0
     ≡ (get_or words (4 * (bit / 32 + 1) + lane) 0 * 2 ^ 32 + get_or words (4 * (bit / 32) + lane) 0) / 2 ^ (bit % 32) % 2 ^ width
@@ -149,7 +149,7 @@ no_width words =
     ∙ mod-one _
     ∙ sym (get_or-replicate 128 k 0 0 small))
 
--- only the words of the block count
+-- words after the block do not change its numbers
 pub numbers_in_lanes-append : (width : ℕ) (words more : List ℕ) → 4 * width ≤ length words →
     numbers_in_lanes width (words ++ more) ≡ numbers_in_lanes width words
 numbers_in_lanes-append width words more long =
@@ -191,7 +191,7 @@ number_back width numbers place lane below near small =
     ∙ ap (λ ys. get_or ys place 0) back
     ∙ get_or-lane_of 32 lane numbers place near
 
--- what was packed is read back
+-- the numbers that were packed are read back
 pub numbers_in_lanes-words : (width : ℕ) (numbers : List ℕ) → length numbers ≤ 128 → All (λ x. x < 2 ^ width) numbers →
     take (length numbers) (numbers_in_lanes width (words_in_lanes width numbers)) ≡ numbers
 numbers_in_lanes-words width numbers few fits =
@@ -206,7 +206,7 @@ numbers_in_lanes-words width numbers few fits =
     ∙ number_back width numbers (k / 4) (k % 4) (Below-from_all width numbers fits) (omega arith) (omega arith)
     ∙ ap (λ n. get_or numbers n 0) (sym place))
 
--- the words of a lane are written as far as its first numbers fill them
+-- the words of a lane are written for its first numbers
 pub record IsLaneWritten (numbers : List ℕ) (lane width place : ℕ) (before out : List ℕ) (count pending filled : ℕ) : Type 0 where
   pub long : length out ≡ 128
   pub few : count ≤ 32
@@ -222,21 +222,21 @@ lane_start numbers lane width out long = record {
   others = λ i apart. refl;
 }
 
--- how many bits are written
+-- the number of written bits
 lane_bits : (numbers : List ℕ) (lane width place : ℕ) (before out : List ℕ) (count pending filled : ℕ) →
     IsLaneWritten numbers lane width place before out count pending filled → place ≤ 32 → count * 32 + filled ≡ place * width
 lane_bits numbers lane width place before out count pending filled h near =
     ap (λ n. n * 32 + filled) (sym (length-lane_of count lane out)) ∙ h.written.bits
     ∙ ap (λ n. n * width) (length-take-le place (lane_of 32 lane numbers) (omega (arith, length-lane_of 32 lane numbers)))
 
--- a word that is full has its place
+-- a full word has its index among the words
 pub lane_room : (numbers : List ℕ) (lane width place : ℕ) (before out : List ℕ) (count pending filled : ℕ) →
     IsLaneWritten numbers lane width place before out count pending filled → place < 32 → width ≤ 32 → count < 32
 lane_room numbers lane width place before out count pending filled h near narrow =
     let most : place * width ≤ 31 * 32 = mul-le place width 31 32 (omega arith) narrow in
     omega (arith, most, lane_bits numbers lane width place before out count pending filled h (omega arith))
 
--- at the end no bits wait
+-- no bits are pending at the end
 pub lane_end : (numbers : List ℕ) (lane width place : ℕ) (before out : List ℕ) (count pending filled : ℕ) →
     IsLaneWritten numbers lane width place before out count pending filled → place ≡ 32 → lane_of width lane out ≡ words_of 32 width (lane_of 32 lane numbers)
 lane_end numbers lane width place before out count pending filled h end =
@@ -249,7 +249,7 @@ lane_end numbers lane width place before out count pending filled h end =
     ap (λ n. lane_of n lane out) (sym full) ∙ IsWritten-end 32 width (lane_of 32 lane numbers) (lane_of count lane out) pending filled (rw all at h.written)
     none
 
--- one number more of the lane, where the bits that wait fill no word
+-- one more number of the lane, if the pending bits fill no word
 pub lane_short : (numbers : List ℕ) (lane width place : ℕ) (before out : List ℕ) (count pending filled x p f : ℕ) →
     IsLaneWritten numbers lane width place before out count pending filled → place < 32 → width ≤ 32 → All (λ y. y < 2 ^ width) numbers →
     x ≡ get_or numbers (4 * place + lane) 0 → p ≡ bit_or pending (x * 2 ^ filled % 2 ^ 64) → f ≡ filled + width → filled + width < 32 →
@@ -263,7 +263,7 @@ lane_short numbers lane width place before out count pending filled x p f h near
   others = h.others;
 }
 
--- and where they fill one
+-- one more number of the lane, if the pending bits fill a word
 pub lane_full : (numbers : List ℕ) (lane width place : ℕ) (before out : List ℕ) (count pending filled x p f whole low : ℕ) →
     IsLaneWritten numbers lane width place before out count pending filled → place < 32 → width ≤ 32 → All (λ y. y < 2 ^ width) numbers → lane < 4 →
     x ≡ get_or numbers (4 * place + lane) 0 → whole ≡ bit_or pending (x * 2 ^ filled % 2 ^ 64) → low ≡ bit_and whole (2 ^ 32 - 1) → p ≡ whole / 2 ^ 32 →
@@ -280,7 +280,7 @@ lane_full numbers lane width place before out count pending filled x p f whole l
       others = λ i apart. get_or-set_other out at i low 0 (λ e. apart (omega (arith, e))) ∙ h.others i apart;
     }
 
--- the lanes before one that is written stay
+-- the lanes before one that is written are unchanged
 pub lanes_kept : (count lane : ℕ) (out out' : List ℕ) (lanes : ℕ → List ℕ) → lane < 4 → ((k : ℕ) → k < lane → lane_of count k out ≡ lanes k) →
     ((i : ℕ) → i % 4 ≢ lane → get_or out' i 0 ≡ get_or out i 0) → lane_of count lane out' ≡ lanes lane → (k : ℕ) → k < lane + 1 → lane_of count k out' ≡ lanes k
 lanes_kept count lane out out' lanes small h others here k below =

@@ -1,4 +1,4 @@
--- Numbers as lanes: how they are filled, and which of 64 are marked.
+-- Arrays of offsets: their padding, and the masks of 64 elements.
 use Rattle.std.proofs.Common.{◌≡◌, ℕ, zero, suc, ◌+◌, ◌-◌, ◌*◌, ◌/◌, ◌%◌, ◌^◌, ◌<◌, ◌≤◌, Bool, true, false, cond, ◌==◌, ◌&&◌, nat_le, Option, Some, None}
 use Rattle.std.proofs.Common.{is_some, IfSome, List, [], ◌∷◌, ◌++◌, length, take, drop, get_or, map, min, mod-eq_of_lt, replicate, refl, sym, ap, ap₂, subst}
 use Rattle.std.proofs.Common.{◌∙◌, inl, inr, arith}
@@ -22,7 +22,7 @@ use Rattle.fts_pack.specs.column.Column.{is_within, least_of, IsColumn}
 use Rattle.fts_pack.specs.column.OffsetArray.{AreLanesOf, AreMarked}
 use Rattle.fts_pack.proofs.ColumnLemmas.{lane_there, presence-at}
 
--- a number fits a lane of as many bits as it needs
+-- a number fits an integer of as many bits as it needs
 pub fits_lane : (x width room : ℕ) → x < 2 ^ width → x < 2 ^ 64 → min width 64 ≤ room → x < 2 ^ room
 fits_lane x width room small fits wide = elim (cases_lt width 64) [
   | inl less ↦ (
@@ -35,13 +35,13 @@ fits_lane x width room small fits wide = elim (cases_lt width 64) [
       omega (arith, fits, power))
 ]
 
--- one number more has its lane
+-- one more number has its element
 pub lanes_more : {A : Type 0} (value : A → ℕ) (numbers : List ℕ) (lanes : List A) (lane : A) (i : ℕ) → map value lanes ≡ take i numbers → i < length numbers →
     value lane ≡ get_or numbers i 0 → map value (lanes ++ lane ∷ []) ≡ take (i + 1) numbers
 lanes_more value numbers lanes lane i before inside is =
     map-append value lanes (lane ∷ []) ∙ ap₂ (λ xs x. xs ++ x ∷ []) before is ∙ sym (take_more numbers i 0 inside)
 
--- all numbers have their lanes, and the last stretch is filled up
+-- all numbers have their elements, and the array is padded
 pub lanes_filled : {A : Type 0} (value : A → ℕ) (numbers : List ℕ) (lanes : List A) (lane : A) (len count i : ℕ) → map value lanes ≡ take i numbers →
     length numbers ≡ i → len ≡ length lanes → i ≤ count → count % 64 ≡ 0 → AreLanesOf numbers (map value (take count lanes ++ replicate (count - len) lane))
 lanes_filled value numbers lanes lane len count i before size long room whole =
@@ -59,7 +59,7 @@ lanes_filled value numbers lanes lane len count i before size long room whole =
       whole = ap (λ k. k % 64) filled ∙ whole;
     })
 
--- how far each number is above a least one, wrapping
+-- the difference of a number and a least one, modulo a power of two
 abbrev above_by : ℕ → ℕ → ℕ → ℕ
 above_by m x low = (x + (m - low)) % m
 
@@ -74,7 +74,7 @@ marks-are w numbers low span long =
     ∙ bitmask_splat w leb (map (λ x. above x low) numbers) 64 span size (omega arith)
     ∙ ap mask_l (map-map (λ x. leb x span) (λ x. above x low) numbers)
 
--- one comparison tells of both bounds
+-- one comparison decides both bounds
 compare : (m x low high : ℕ) → low ≤ high → high < m → x < m → leb (above_by m x low) (high - low) ≡ (nat_le low x && nat_le x high)
 compare m x low high order fits small = elim (cases_lt x low) [
   | inl under ↦ (let wraps : above_by m x low ≡ x + (m - low) = mod-eq_of_lt (omega (arith, under, order, fits)) in grind arith)
@@ -96,7 +96,7 @@ marks-within m numbers low high long order fits small k lt =
     ∙ get_or-map test numbers k 0 false (omega (arith, long, lt))
     ∙ compare m (get_or numbers k 0) low high order fits (small k)
 
--- the first 64 of more numbers
+-- the mask of the first 64 of more numbers
 AreMarked-first : (numbers : List ℕ) (low high marks : ℕ) → AreMarked (take 64 numbers) low high marks → AreMarked numbers low high marks
 AreMarked-first numbers low high marks h k lt =
     h k lt ∙ ap (λ x. nat_le low x && nat_le x high) (get_or-take 64 numbers k 0 lt)
@@ -109,7 +109,7 @@ small_first numbers m small k = elim (cases_lt k 64) [
       omega (arith, none, small k))
 ]
 
--- what a comparison of all lanes gives
+-- the mask that a comparison of all elements gives
 compared : (w : Width) → (numbers : List ℕ) (low high : ℕ) → 64 ≤ length numbers → low ≤ high → high < 2 ^ bits w → ((k : ℕ) → get_or numbers k 0 < 2 ^ bits w)
     → AreMarked numbers low high
     (mask_l (map (top (hbits w)) (zip2 (λ a b. cond (leb a b) (2 ^ bits w - 1) 0) (zip2 (above_by (2 ^ bits w)) (take 64 numbers) (replicate 64 low))
@@ -120,7 +120,7 @@ compared w numbers low high long order fits small =
     AreMarked-first numbers low high _ (subst (λ m. AreMarked first low high m) (sym (marks-are w first low (high - low) size))
     (marks-within (2 ^ bits w) first low high size order fits (small_first numbers (2 ^ bits w) small)))
 
--- a bound above all numbers
+-- a bound above all numbers can be lowered
 bounded : (numbers : List ℕ) (low high bound other marks : ℕ) → other ≡ min high bound → ((k : ℕ) → get_or numbers k 0 ≤ bound) →
     AreMarked numbers low other marks → AreMarked numbers low high marks
 bounded numbers low high bound other marks is most h k lt =
@@ -128,7 +128,7 @@ bounded numbers low high bound other marks is most h k lt =
     let same : (nat_le low x && nat_le x other) ≡ (nat_le low x && nat_le x high) = (let le : x ≤ bound = most k in grind arith) in
     h k lt ∙ same
 
--- what a comparison of all lanes gives, where the greater bound is cut to the greatest number of a lane
+-- the mask that a comparison of all elements gives, if the greater bound is cut to the greatest number of an element
 pub marked_lanes : (w : Width) → (numbers : List ℕ) (low high bound : ℕ) → 64 ≤ length numbers → low ≤ high → low < 2 ^ bits w →
     bound ≡ min high (2 ^ bits w - 1) → ((k : ℕ) → get_or numbers k 0 < 2 ^ bits w)
     → AreMarked numbers low high
@@ -138,7 +138,7 @@ marked_lanes w numbers low high bound long order fits cut small =
     bounded numbers low high (2 ^ bits w - 1) bound _ cut (λ k. omega (arith, small k))
     (compared w numbers low bound long (omega (arith, order, fits, cut)) (omega (arith, fits, cut)) small)
 
--- no number is within bounds that are above all, or that have nothing between them
+-- the mask is 0 for bounds above all numbers, and for empty bounds
 pub none_above : (numbers : List ℕ) (low high m : ℕ) → ((k : ℕ) → get_or numbers k 0 < m) → m ≤ low → AreMarked numbers low high 0
 none_above numbers low high m small over k lt =
     let x = get_or numbers k 0 in
@@ -180,7 +180,7 @@ both_one (suc zero) (suc zero) low high = refl
 both_one (suc (suc a)) b low high = absurd (omega (arith, low))
 both_one a (suc (suc b)) low high = absurd (omega (arith, high))
 
--- a value that is there is within bounds where its lane is within them above the least
+-- a present value is within bounds if its element is within them less the least value
 one_place : (v : Option ℕ) (least low high lane : ℕ) (there marked : Bool) → least ≤ high → IfSome v (λ x. (least ≤ x) × (least + lane ≡ x)) →
     there ≡ is_some v → marked ≡ (nat_le (low - least) lane && nat_le lane (high - least)) → (there && marked) ≡ is_within low high v
 one_place None least low high lane there marked order h there_is marked_is = rw there_is refl

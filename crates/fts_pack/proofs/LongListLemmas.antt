@@ -1,4 +1,4 @@
--- The blocks of a list of documents, as they are written and as they are read.
+-- The blocks of a list of documents, written and read.
 use Rattle.std.proofs.Common.{◌≡◌, ℕ, zero, suc, ◌+◌, ◌-◌, ◌*◌, ◌^◌, ◌<◌, ◌≤◌, ◌≢◌, inl, inr, List, [], ◌∷◌, ◌++◌, All, length, get_or, take, drop, min, refl}
 use Rattle.std.proofs.Common.{sym, ap, ap₂, ◌∙◌, subst, arith, append_assoc}
 use Rattle.std.specs.List.Sorted.{IsStrictlyIncreasing}
@@ -16,7 +16,7 @@ use Rattle.fts_pack.proofs.PackedLemmas.{numbers_at-append, numbers_at-added, Is
 use Rattle.fts_pack.proofs.DocumentsLemmas.{Rises-block, take_block, documents_at-gaps, length-gaps, length-documents_at, after-append, after_last}
 use Rattle.fts_pack.specs.SourceLaws.{length-block_at, block_inside}
 
--- what is kept of a block doesn't change with what is appended
+-- a block's documents do not change when words are appended
 pub kept_block-append : (words more : List ℕ) (next count : ℕ) (skip : Skip) → IsKeptBlock words next count skip →
     kept_block (words ++ more) next count skip ≡ kept_block words next count skip
 kept_block-append words more next count skip h =
@@ -40,12 +40,12 @@ kept_documents-append words more next count [] h = refl
 kept_documents-append words more next count (s ∷ ss) h =
     ap₂ (λ xs ys. xs ++ ys) (kept_block-append words more next count s h.0) (kept_documents-append words more (suc s.last) (count - 128) ss h.1)
 
--- the first document that may follow the blocks
+-- the least document that may follow the blocks
 pub next_after : ℕ → List Skip → ℕ
 next_after next [] = next
 next_after next (s ∷ ss) = next_after (suc s.last) ss
 
--- a block is the same where as many of its documents are counted
+-- a block is unchanged if as many of its documents are counted
 kept_same : (words : List ℕ) (next a b : ℕ) (skip : Skip) → min 128 a ≡ min 128 b → 0 < b → IsKeptBlock words next a skip → IsKeptBlock words next b skip
 kept_same words next a b skip same some h = record {
   some = some;
@@ -113,7 +113,7 @@ length-kept_skips words next count (s ∷ ss) h =
     let tail = length-kept_skips words (suc s.last) (count - 128) ss h.1 in
     omega (arith, tail, h.0.some)
 
--- the first document that a block may have
+-- the least document that a block may have
 pub next_at : ℕ → List Skip → ℕ → ℕ
 next_at next skips zero = next
 next_at next [] (suc block) = next
@@ -129,7 +129,7 @@ nothing_kept : (words : List ℕ) (next count : ℕ) (skips : List Skip) → Are
 nothing_kept words next count [] h e = refl
 nothing_kept words next count (s ∷ ss) h e = absurd (omega (arith, h.0.some, e))
 
--- what is kept of one block
+-- the properties of one block
 pub record KeptAt (words : List ℕ) (next count : ℕ) (skips : List Skip) (block : ℕ) (skip : Skip) : Type 0 where
   pub kept : IsKeptBlock words (next_at next skips block) (count - block * 128) skip
   pub documents_are : block_at (kept_documents words next count skips) block ≡ kept_block words (next_at next skips block) (count - block * 128) skip
@@ -261,7 +261,7 @@ pub long_blocks : (value : List ℕ) (count : ℕ) (skips : List Skip) (words : 
 long_blocks value count skips words view h =
     length-kept_skips words 0 count skips h.kept ∙ ap block_count (long_length value count skips words view h)
 
--- what a list keeps of a block, seen from its documents
+-- a block of a list, from its documents
 pub record Reads (value : List ℕ) (count : ℕ) (words : List ℕ) (block : ℕ) (skip : Skip) : Type 0 where
   pub start : block * 128 < count
   pub within : IsWithin words skip.block
@@ -297,7 +297,7 @@ block_read value count skips words block skip view h inside skip_is =
           (all (block * 128 + k) d (omega (arith, many, size, lt, at.kept.some)));
     }
 
--- the first document that a later block may have follows the last of the block before
+-- the least document of a later block is above the last of the block before
 pub first_of_block : (value : List ℕ) (count : ℕ) (skips : List Skip) (words : List ℕ) (block : ℕ) (skip : Skip) → kept_documents words 0 count skips ≡ value →
     IsLongList count skips words → block < block_count (length value) → block ≢ 0 → skip ≡ get_or skips (block - 1) skip →
     suc skip.last ≡ after 0 (take (block * 128) value)
@@ -308,12 +308,12 @@ first_of_block value count skips words block skip view h inside later skip_is =
     ap (λ s. suc s.last) skip_is ∙ sym (next_at-suc 0 (block - 1) skips skip (omega (arith, blocks, inside))) ∙ ap (next_at 0 skips) (sym e) ∙ at.next_is
     ∙ ap (λ ds. after 0 (take (block * 128) ds)) view
 
--- the first document is `next` or later
+-- the first document is at least `next`
 head_at_least : (next : ℕ) (numbers : List ℕ) → 0 < length (documents_at next numbers) → next ≤ get_or (documents_at next numbers) 0 0
 head_at_least next [] some = absurd (omega arith)
 head_at_least next (number ∷ numbers) some = omega arith
 
--- so the first document that a block may have fits
+-- the least document that a block may have fits 32 bits
 pub first_fits : (value : List ℕ) (count : ℕ) (skips : List Skip) (words : List ℕ) (block : ℕ) (d : Skip) → kept_documents words 0 count skips ≡ value →
     IsLongList count skips words → block < block_count (length value) → after 0 (take (block * 128) value) < 2 ^ 32
 first_fits value count skips words block d view h inside =

@@ -1,4 +1,4 @@
--- The blocks of a list of numbers, as they are written and as they are read.
+-- The blocks of a list of numbers, written and read.
 use Rattle.std.proofs.Common.{◌≡◌, ℕ, ◌+◌, ◌-◌, ◌*◌, ◌/◌, ◌%◌, ◌^◌, ◌<◌, ◌≤◌, inl, inr, List, [], ◌∷◌, ◌++◌, All, length, get_or, take, drop, min, refl, sym}
 use Rattle.std.proofs.Common.{ap, ◌∙◌, subst, arith}
 use Rattle.std.proofs.lemmas.List.{length_push, get_or-take, get_or-drop, get_or_append_left, get_or_read, length-take-le}
@@ -85,7 +85,7 @@ numbers_kept-built numbers blocks words h =
     let inside : i < length numbers = omega (arith, size) in
     get_or-numbers_kept (length numbers) blocks words i inside ∙ h.same i (omega arith) inside)
 
--- the block of this number, seen from the numbers
+-- a block of a list, from its numbers
 pub record Reads (value : List ℕ) (count : ℕ) (words : List ℕ) (number : ℕ) (block : BlockMeta) : Type 0 where
   pub start : number * 128 < count
   pub narrow : block.width ≤ 32
@@ -134,7 +134,7 @@ pub block_near : (value : List ℕ) (count : ℕ) (blocks : List BlockMeta) (wor
     AreKept count blocks words → index < length value → index / 128 < length blocks
 block_near value count blocks words index view h inside = omega (arith, blocks_kept value count blocks words view h)
 
--- a number, seen from its block
+-- a number, from its block
 pub record ReadsOne (value words : List ℕ) (index : ℕ) (block : BlockMeta) : Type 0 where
   pub within : IsWithin words block
   pub number_is : get_or (numbers_at words block) (index % 128) 0 ≡ get_or value index 0
@@ -152,7 +152,7 @@ number_read value count blocks words index block view h inside block_is =
           ∙ ap (λ ns. get_or ns index 0) view;
     }
 
--- all blocks were added, and the numbers are not too many
+-- all blocks were added, and there are fewer than 2 ^ 64 numbers
 pub AreKept-built : (numbers : List ℕ) (blocks : List BlockMeta) (words : List ℕ) → AreBuilt numbers (block_count (length numbers)) blocks words →
     length numbers < 2 ^ 64 → AreKept (length numbers) blocks words
 AreKept-built numbers blocks words h few = record { few = few; many = h.count; within = h.within }

@@ -1,4 +1,4 @@
--- A block of numbers among the words of a list, as it is written and as it is read.
+-- A block of numbers among the words of a list, written and read.
 use Rattle.std.proofs.Common.{◌≡◌, ℕ, ◌+◌, ◌*◌, ◌≤◌, List, ◌++◌, length, take, drop, ap, ap₂, ◌∙◌, refl, arith}
 use Rattle.std.proofs.lemmas.List.{length-append, length-drop, drop_at, drop-append-le}
 use Rattle.fts_pack.specs.declared.block_meta.BlockMeta.{BlockMeta}
@@ -6,7 +6,7 @@ use Rattle.fts_pack.specs.FourLanes.{numbers_in_lanes, words_in_lanes}
 use Rattle.fts_pack.specs.BlockMeta.{numbers_at, IsWithin, IsAdded}
 use Rattle.fts_pack.proofs.LaneLemmas.{length-words_in_lanes, numbers_in_lanes-append, numbers_in_lanes-words}
 
--- what is kept of a block doesn't change with what is appended
+-- a block's numbers do not change when words are appended
 pub numbers_at-append : (words more : List ℕ) (block : BlockMeta) → IsWithin words block → numbers_at (words ++ more) block ≡ numbers_at words block
 numbers_at-append words more block h =
     let room : 4 * block.width ≤ length (drop block.start words) = omega (arith, length-drop block.start words, h.room) in
@@ -24,13 +24,13 @@ numbers_at-added piece before words block h few =
     ap₂ drop h.start h.words_are ∙ drop_at before (words_in_lanes block.width piece) (length before) refl in
     ap (λ ws. take (length piece) (numbers_in_lanes block.width ws)) rest ∙ numbers_in_lanes-words block.width piece few h.width_is.holds
 
--- and the words are as many more as it takes
+-- an appended block adds as many words as it takes
 pub length-added : (piece before words : List ℕ) (block : BlockMeta) → IsAdded piece before words block → length words ≡ length before + 4 * block.width
 length-added piece before words block h =
     let more = words_in_lanes block.width piece in
     ap length h.words_are ∙ length-append before more ∙ ap (λ n. length before + n) (length-words_in_lanes block.width piece)
 
--- so it lies within the words
+-- an appended block is within the words
 pub IsWithin-added : (piece before words : List ℕ) (block : BlockMeta) → IsAdded piece before words block → IsWithin words block
 IsWithin-added piece before words block h =
     record { narrow = h.narrow; room = omega (arith, length-added piece before words block h, h.start) }

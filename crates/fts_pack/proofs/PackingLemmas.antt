@@ -18,13 +18,13 @@ Below-from_all width xs h i =
 pub Below-64 : (xs : List ℕ) → ((i : ℕ) → Fits w64 (get_or xs i 0)) → Below 64 xs
 Below-64 xs h = λ i. Fits-lt-pow (h i)
 
--- one number more in the bits that wait
+-- the pending bits with one more number
 pending_with : (word width pending filled x : ℕ) → pending < 2 ^ filled → x < 2 ^ width → width + filled ≤ word + word →
     bit_or pending (x * 2 ^ filled % 2 ^ (word + word)) ≡ pending + x * 2 ^ filled
 pending_with word width pending filled x fits small room =
     rw (shl_whole x width filled (word + word) small room, or_comm pending (x * 2 ^ filled), or_shifted x filled pending fits) (omega arith)
 
--- one number more, where the bits that wait fill no word
+-- one more number, if the pending bits fill no word
 pub written_short : (word width : ℕ) (numbers words : List ℕ) (index pending filled x p f : ℕ) →
     IsWritten word width (take index numbers) words pending filled → index < length numbers → x ≡ get_or numbers index 0 → All (λ y. y < 2 ^ width) numbers →
     width ≤ word → p ≡ bit_or pending (x * 2 ^ filled % 2 ^ (word + word)) → f ≡ filled + width → filled + width < word →
@@ -34,7 +34,7 @@ written_short word width numbers words index pending filled x p f h inside x_is 
     rw (take_more numbers index 0 inside, ← x_is, f_is, p_is ∙ pending_with word width pending filled x h.fits small (omega (arith, h.room)))
     (IsWritten-short word width (take index numbers) words pending filled x h small short)
 
--- and where they fill one
+-- one more number, if the pending bits fill a word
 pub written_full : (word width : ℕ) (numbers words words' : List ℕ) (index pending filled x p f whole low : ℕ) →
     IsWritten word width (take index numbers) words pending filled → index < length numbers → x ≡ get_or numbers index 0 → All (λ y. y < 2 ^ width) numbers →
     width ≤ word → whole ≡ bit_or pending (x * 2 ^ filled % 2 ^ (word + word)) → low ≡ bit_and whole (2 ^ word - 1) → words' ≡ words ++ low ∷ [] →
@@ -58,7 +58,7 @@ unfolding word_count
 word_count-holds word bits h =
     omega (arith, div-add-mod' (bits + (word - 1)) word, mod_below (bits + (word - 1)) word h)
 
--- what was packed is read again
+-- the numbers that were packed are read back
 pub numbers_in-words_of : (word width : ℕ) (numbers : List ℕ) → 0 < word → Below width numbers →
     numbers_in word width (length numbers) (words_of word width numbers) ≡ numbers
 unfolding numbers_in words_of
@@ -69,7 +69,7 @@ numbers_in-words_of word width numbers h below =
     lt_of_lt_of_le (joined-below width numbers below) (pow-le-pow_right (pow_pos 1) (word_count-holds word (length numbers * width) h)) in
     ap (digits width (length numbers)) (joined-digits word count n ∙ mod-eq_of_lt small) ∙ digits-joined width numbers below
 
--- two words side by side, shifted and masked, give the number that begins at a bit
+-- two adjacent words, shifted and masked, give the number that begins at a bit
 pub read_pair : (word width bit high low : ℕ) (words : List ℕ) → 0 < word → width ≤ word → Below word words → low ≡ get_or words (bit / word) 0 →
     high ≡ get_or words (bit / word + 1) 0 →
     bit_and (bit_or (high * 2 ^ word % 2 ^ (word + word)) low / 2 ^ (bit % word)) (1 * 2 ^ width % 2 ^ (word + word) - 1)
@@ -107,7 +107,7 @@ width_least size n width h small =
       | inr enough ↦ (rw e enough)
     ]
 
--- the bits of all these numbers together: one width holds them where it holds each number
+-- the bits of several numbers together: a width holds them if it holds each
 pub record HasBitsOf (numbers : List ℕ) (bits : ℕ) : Type 0 where
   pub holds : (width : ℕ) → bits < 2 ^ width → All (λ x. x < 2 ^ width) numbers
   pub least : (width : ℕ) → All (λ x. x < 2 ^ width) numbers → bits < 2 ^ width

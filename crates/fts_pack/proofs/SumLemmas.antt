@@ -1,4 +1,4 @@
--- Running sums of four lanes.
+-- Prefix sums of four lanes.
 use Rattle.std.proofs.Common.{◌≡◌, ℕ, zero, suc, ◌+◌, ◌-◌, ◌*◌, ◌/◌, ◌%◌, ◌^◌, ◌<◌, ◌≤◌, List, [], ◌∷◌, ◌++◌, length, get_or, take, drop, map, sum, refl, sym}
 use Rattle.std.proofs.Common.{ap, ◌∙◌, subst, ap₂, All, mod-eq_of_lt, length-drop, inl, inr, arith, lit<}
 use Rattle.std.specs.Simd.Lanes.{zip2}
@@ -46,14 +46,14 @@ sum-append xs ys = sum_by-append (λ x. x) xs ys
 pub sum-take-add : (n k : ℕ) (xs : List ℕ) → sum (take (n + k) xs) ≡ sum (take n xs) + sum (take k (drop n xs))
 sum-take-add n k xs = ap sum (take-add n k xs) ∙ sum-append (take n xs) (take k (drop n xs))
 
--- how far the documents are written, behind the document `last`
+-- the documents that are written, after the document `last`
 pub record IsSummed (last : ℕ) (gaps : List ℕ) (at : ℕ) (out from : List ℕ) : Type 0 where
   pub written : (i : ℕ) → i < at → get_or out i 0 ≡ (last + sum (take (i + 1) gaps) + (i + 1)) % 2 ^ 32
   pub kept : (i : ℕ) → at ≤ i → i < 128 → get_or out i 0 ≡ get_or gaps i 0
   pub reached : (lane : ℕ) → lane < 4 → get_or from lane 0 ≡ (last + sum (take at gaps) + at) % 2 ^ 32
   pub long : length out ≡ 128
 
--- four differences as they were loaded
+-- four gaps as they were loaded
 loaded_is : (gaps out loaded : List ℕ) (at : ℕ) → length gaps ≡ 128 → at + 4 ≤ 128 → length loaded ≡ 4 →
     ((i : ℕ) → at ≤ i → i < 128 → get_or out i 0 ≡ get_or gaps i 0) → ((lane : ℕ) → lane < 4 → get_or loaded lane 0 ≡ get_or out (at + lane) 0) →
     loaded ≡ take 4 (drop at gaps)
@@ -80,7 +80,7 @@ three m a b c d e =
     let whole : s + d + e ≡ (s / m + d / m) * m + (s % m + d % m + e) = omega (arith, one, two) in
     sym (ap (λ n. n % m) whole ∙ mul-add-mod_self_right (s / m + d / m) m (s % m + d % m + e))
 
--- four documents more
+-- four more documents are written
 pub summed_more : (last : ℕ) (gaps : List ℕ) (at : ℕ) (out out' from from' loaded sums added : List ℕ) → length gaps ≡ 128 → at + 4 ≤ 128 → length loaded ≡ 4 →
     length out' ≡ 128 → IsSummed last gaps at out from
     → ((lane : ℕ) → lane < 4 → get_or loaded lane 0 ≡ get_or out (at + lane) 0)
@@ -118,7 +118,7 @@ summed_more last gaps at out out' from from' loaded sums added long room four lo
       long = long';
     }
 
--- behind the document before `next` is `next`
+-- the document after the one before `next` is `next`
 behind_last : (m next last s i : ℕ) → last ≡ (next + (m - 1)) % m → 0 < m → (last + s + (i + 1)) % m ≡ (next + s + i) % m
 behind_last m next last s i last_is some =
     let q = (next + (m - 1)) / m in

@@ -28,7 +28,7 @@ four_lanes P p (a ∷ b ∷ []) h = absurd (omega arith)
 four_lanes P p (a ∷ b ∷ c ∷ []) h = absurd (omega arith)
 four_lanes P p (a ∷ b ∷ c ∷ d ∷ e ∷ xs) h = absurd (omega arith)
 
--- a splat
+-- a vector of four equal numbers
 abbrev pub splat : ℕ → List ℕ
 splat x = x ∷ x ∷ x ∷ x ∷ []
 
@@ -44,7 +44,7 @@ within_lanes shift width mask mask_is short =
     let f = field_within shift width mask mask_is in
     four_lanes (IsWithin shift width mask) (λ a b c d. below_four _ ((f a)) ((f b)) ((f c)) ((f d)))
 
--- the low bits of a number, moved up in a word
+-- the low bits of a number, shifted up in a word
 moved_up : (y s r : ℕ) → y * 2 ^ r % 2 ^ (s + r) ≡ y % 2 ^ s * 2 ^ r
 moved_up y s r =
     let high = y / 2 ^ s in
@@ -95,7 +95,7 @@ across_lanes shift width mask mask_is some short narrow =
     (f c h (Fits-lt-pow fits.1.1.0))
     (f d i (Fits-lt-pow fits.1.1.1.0))))
 
--- a vector written at a place
+-- a vector written at an index
 pub placed : (a : ℕ) (out row numbers : List ℕ) → length out ≡ 128 → length row ≡ 4 → a + 4 ≤ 128
     → ((i : ℕ) → i < a → get_or out i 0 ≡ get_or numbers i 0)
     → ((lane : ℕ) → lane < 4 → get_or row lane 0 ≡ get_or numbers (a + lane) 0)
@@ -122,7 +122,7 @@ placed a out row numbers long four room before at i inside =
           )
     ]
 
--- what a vector written at a place leaves there, and after it
+-- the elements of a vector that is written at an index, and those after it
 pub placed_there : (a : ℕ) (out row : List ℕ) → length out ≡ 128 → length row ≡ 4 → a + 4 ≤ 128 → (lane : ℕ) → lane < 4 →
     get_or (put_mid a (128 - a) out (put_chunk 0 (mid_of a (128 - a) out) row)) (a + lane) 0 ≡ get_or row lane 0
 placed_there a out row long four room lane small =

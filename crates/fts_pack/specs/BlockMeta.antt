@@ -1,4 +1,4 @@
--- Where the blocks of a list lie among its words.
+-- The positions of a list's blocks among its words.
 use Rattle.std.specs.Prelude.{◌≡◌, ℕ, ◌+◌, ◌*◌, ◌≤◌, ◌++◌, List, drop, length}
 use Rattle.fts_pack.specs.bits.Digits.{IsWidthOf}
 use Rattle.fts_pack.specs.declared.block_meta.BlockMeta.{BlockMeta}
@@ -13,7 +13,7 @@ pub record IsWithin (words : List ℕ) (block : BlockMeta) : Type 0 where
   pub narrow : block.width ≤ 32
   pub room : block.start + 4 * block.width ≤ length words
 
--- what adding one block to the words did
+-- a block was appended to the words
 pub record IsAdded (piece before words : List ℕ) (block : BlockMeta) : Type 0 where
   pub start : block.start ≡ length before
   pub narrow : block.width ≤ 32

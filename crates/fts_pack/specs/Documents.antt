@@ -1,22 +1,22 @@
--- Strictly rising lists of documents, their differences, and their blocks.
+-- Strictly rising lists of documents, their gaps, and their blocks.
 use Rattle.std.specs.Prelude.{ℕ, suc, ◌+◌, ◌-◌, ◌*◌, ◌/◌, ◌≤◌, List, [], ◌∷◌, length, take, drop, map, slice_index}
 use Rattle.std.specs.List.{range_with_len}
 
--- documents, by their numbers
+-- documents by their numbers
 abbrev pub DocumentNumbers : Type 0
 DocumentNumbers = List ℕ
 
--- how far each document is above the one before it, less 1; the first is above nothing, or `next - 1`
+-- the gaps of rising documents: the first less `next`, then each less its predecessor, less 1
 abbrev pub gaps : ℕ → List ℕ → List ℕ
 gaps next [] = []
 gaps next (document ∷ documents) = (document - next) ∷ gaps (suc document) documents
 
--- the documents with these differences
+-- the documents with these gaps
 abbrev pub documents_at : ℕ → List ℕ → List ℕ
 documents_at next [] = []
 documents_at next (gap ∷ others) = (next + gap) ∷ documents_at (suc (next + gap)) others
 
--- how many blocks of 128 hold this many documents, the last of 1 to 128
+-- the number of blocks of 128 for this many documents; the last block has 1 to 128
 abbrev pub block_count : ℕ → ℕ
 block_count count = (count + 127) / 128
 
@@ -32,12 +32,12 @@ blocks_of documents = map (block_at documents) (range_with_len 0 (block_count (l
 abbrev pub last_of : List ℕ → ℕ
 last_of numbers = slice_index numbers (length numbers - 1)
 
--- the documents rise from `next` on
+-- documents rise strictly, and the first is at least `next`
 abbrev pub Rises : ℕ → List ℕ → Type 0
 Rises next [] = Unit {0}
 Rises next (document ∷ documents) = (next ≤ document) × Rises (suc document) documents
 
--- the first document that may follow these
+-- the least document that may follow these
 abbrev pub after : ℕ → List ℕ → ℕ
 after next [] = next
 after next (document ∷ documents) = after (suc document) documents

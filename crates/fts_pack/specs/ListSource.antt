@@ -1,11 +1,11 @@
--- What contracts see of the source of a list's blocks.
+-- The view that contracts have of a reader of a list's blocks.
 use Rattle.std.specs.Prelude.{ℕ, List}
 use Rattle.fts_pack.specs.declared.list_source.ListSource.{ListSource}
 
--- the documents whose blocks it opens
+-- the documents of the list
 abbrev pub documents_in : ListSource → List ℕ
 documents_in source = source.list.now
 
--- how often it opened a block
+-- the number of times that a block was opened
 abbrev pub openings_of : ListSource → ℕ
 openings_of source = source.opened

@@ -1,40 +1,40 @@
--- What a list of documents in blocks keeps.
+-- The contents of a list of documents in blocks.
 use Rattle.std.specs.Prelude.{◌≡◌, ℕ, suc, ◌-◌, ◌^◌, ◌<◌, List, [], ◌∷◌, ◌++◌, All, min, take}
 use Rattle.std.specs.List.Sorted.{IsStrictlyIncreasing}
 use Rattle.fts_pack.specs.Documents.{after, documents_at, gaps}
 use Rattle.fts_pack.specs.BlockMeta.{IsAdded, IsWithin, numbers_at}
 use Rattle.fts_pack.specs.declared.skip.Skip.{Skip}
 
--- the documents of one block, the first of them `next` or later
+-- the documents of one block, the first of them at least `next`
 abbrev pub kept_block : List ℕ → ℕ → ℕ → Skip → List ℕ
 kept_block words next count skip = documents_at next (take (min 128 count) (numbers_at words skip.block))
 
--- the documents of all blocks, this many in all
+-- the documents of all blocks, `count` in total
 abbrev pub kept_documents : List ℕ → ℕ → ℕ → List Skip → List ℕ
 kept_documents words next count [] = []
 kept_documents words next count (skip ∷ skips) =
     kept_block words next count skip ++ kept_documents words (suc skip.last) (count - 128) skips
 
--- one block is within the words, and its last document is told
+-- a block is within the words, and its skip entry has its last document
 pub record IsKeptBlock (words : List ℕ) (next count : ℕ) (skip : Skip) : Type 0 where
   pub some : 0 < count
   pub within : IsWithin words skip.block
   pub last_is : after next (kept_block words next count skip) ≡ suc skip.last
 
--- each block is within the words, and its last document is told
+-- each block is within the words, and its skip entry has its last document
 abbrev pub AreKept : List ℕ → ℕ → ℕ → List Skip → Type 0
 AreKept words next count [] = count ≡ 0
 AreKept words next count (skip ∷ skips) =
     IsKeptBlock words next count skip × AreKept words (suc skip.last) (count - 128) skips
 
--- the blocks hold this many documents, which rise
+-- the blocks have `count` documents, which rise strictly
 pub record IsLongList (count : ℕ) (skips : List Skip) (words : List ℕ) : Type 0 where
   pub count_fits : count < 2 ^ 64
   pub kept : AreKept words 0 count skips
   pub rises : IsStrictlyIncreasing (kept_documents words 0 count skips)
   pub fits : All (λ document. document < 2 ^ 32) (kept_documents words 0 count skips)
 
--- a block of documents was added to the words, and its skip tells where it lies and its last document
+-- a block of documents was appended to the words, and its skip entry has its position and its last document
 pub record IsSkipAdded (piece : List ℕ) (next : ℕ) (before words : List ℕ) (skip : Skip) : Type 0 where
   pub block : IsAdded (gaps next piece) before words skip.block
   pub last_is : suc skip.last ≡ after next piece

@@ -1,9 +1,10 @@
--- The documents that a list keeps.
+-- The documents of a list.
 use Rattle.std.specs.Prelude.{ℕ, List}
 use Rattle.fts_pack.specs.declared.list.Repr.{Repr}
 use Rattle.fts_pack.specs.declared.list.Repr.TheVariants.{Short, Medium, Long, Dense}
 
--- those that are in the list itself, as plain numbers, or in blocks
+-- the documents of a list, by its representation: in the list itself, as plain numbers, in blocks, or in blocks with
+-- bits
 abbrev pub documents_of : Repr → List ℕ
 documents_of (Short documents) = documents
 documents_of (Medium documents) = documents

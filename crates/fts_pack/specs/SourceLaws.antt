@@ -1,4 +1,4 @@
--- The blocks of rising documents: what the laws of `Blocks` ask.
+-- The laws of `Blocks`, for the blocks of rising documents.
 use Rattle.std.specs.Prelude.{◌≡◌, ℕ, zero, suc, ◌-◌, ◌*◌, ◌<◌, ◌≤◌, List, [], ◌∷◌, ◌++◌, All, length, map, take, drop}
 use Rattle.std.specs.Prelude.{min, refl}
 use Rattle.std.specs.List.{flat_map, range_with_len}
@@ -10,7 +10,7 @@ use Rattle.std.proofs.lemmas.Grind.{flat_map-append}
 use Rattle.std.proofs.Math.Seq.{take-add}
 use Rattle.fts_pack.specs.Documents.{block_count, block_at, blocks_of}
 
--- blocks: each within the documents
+-- the length of each block
 pub length-block_at : (documents : List ℕ) (block : ℕ)
     → length (block_at documents block) ≡ min 128 (length documents - block * 128)
 length-block_at documents block =
@@ -35,7 +35,7 @@ blocks_sized documents = λ k d inside.
     let start = block_inside (length documents) k within in
     rw (get_or-blocks_of documents k d within) (omega (arith, size, start), omega (arith, size, start))
 
--- the first blocks joined are the first documents
+-- the first blocks, concatenated, are the first documents
 joined_blocks : (documents : List ℕ) (count : ℕ)
     → flat_map (λ block. block) (map (block_at documents) (range_with_len 0 count)) ≡ take (count * 128) documents
 joined_blocks documents zero = refl
@@ -53,7 +53,7 @@ blocks_joined documents =
     joined_blocks documents (block_count (length documents))
     ∙ take_all (block_count (length documents) * 128) documents (omega arith)
 
--- the blocks joined rise
+-- the concatenated blocks rise strictly
 pub blocks_rise : (documents : List ℕ) → IsStrictlyIncreasing documents
     → IsStrictlyIncreasing (flat_map (λ block. block) (blocks_of documents))
 blocks_rise documents rises = subst IsStrictlyIncreasing (sym (blocks_joined documents)) rises

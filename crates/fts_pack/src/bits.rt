@@ -1,7 +1,8 @@
-//! Bits and numbers of a few bits, in words of 64.
+//! Bit vectors, and numbers of a few bits in 64-bit words.
 //!
-//! [`Bits`] is one bit per document. [`widths`] says how many bits numbers take, and reads those that lie end to end in
-//! words. Signed numbers are kept as the unsigned ones in their places ([`i64_to_u64`]).
+//! [`Bits`] is a bit vector with one bit per document. [`widths`] computes the number of bits that numbers take, and
+//! reads those that are packed end to end. Signed numbers are stored as unsigned ones in the same order
+//! ([`i64_to_u64`]).
 
 mod bits;
 pub mod laws;

@@ -10,10 +10,10 @@ use fts_base::Refusal;
 use std::alloc::{AllocError, Global};
 use std::marker::Model;
 
-/// How many numbers a block holds at most.
+/// The greatest number of numbers in a block.
 pub const BLOCK: usize = 128;
 
-/// Up to 128 numbers, each kept in as few bits as the greatest of them needs: `width` bits, in `4 * width` words.
+/// Up to 128 numbers, each in as few bits as the greatest of them needs: `width` bits, in `4 * width` words.
 #[derive(Drop)]
 pub struct Block {
     count: usize,
@@ -53,7 +53,7 @@ impl Block {
         })
     }
 
-    /// Writes the numbers to the front of `out`, and gives how many they are. What is after them may be anything.
+    /// Writes the numbers to the front of `out` and returns their count. The rest of `out` is unspecified.
     pub fn unpack(&self, out: &mut [u32; 128]) -> usize
         ensures count { result ≡ length self.now }
         ensures at_most { result ≤ 128 }
@@ -63,14 +63,14 @@ impl Block {
         self.count
     }
 
-    /// How many bits each number takes.
+    /// The number of bits of each number.
     pub fn width(&self) -> u32
         ensures { IsWidthOf self.now result }
     {
         self.width
     }
 
-    /// The words in which the numbers lie.
+    /// The words that the numbers are packed in.
     pub fn words(&self) -> &[u32]
         ensures { (width : ℕ) → IsWidthOf self.now width → result.now ≡ words_in_lanes width self.now }
     {

@@ -1,4 +1,4 @@
-// Where a block lies among the words of a list, and how one is put after the others.
+// The position of a block among the words of a list, and the function that appends a block.
 ghost use Rattle.std.specs.Prelude.{IfOk};
 ghost use Rattle.fts_pack.specs.BlockMeta.{IsAdded};
 
@@ -6,16 +6,16 @@ use crate::bits::widths;
 use crate::four_lanes;
 use std::alloc::AllocError;
 
-/// Where a block lies among the words.
+/// The position and the width of a block among the words of a list.
 #[derive(Clone, Copy)]
 pub(crate) struct BlockMeta {
     /// The first word of the block.
     pub(crate) start: usize,
-    /// How many bits each number takes.
+    /// The number of bits of each number.
     pub(crate) width: u32,
 }
 
-/// Appends a block, and tells where it lies.
+/// Packs a block, appends it and returns its position.
 pub(crate) fn add_block(words: &mut Vec<u32>, numbers: &[u32]) -> Result<BlockMeta, AllocError>
     ensures { IfOk result (λ block. IsAdded numbers.now words.old.items words.new.items block) }
 {

@@ -1,4 +1,4 @@
-//! Columns: one value per document, or none, each in as few bits as the greatest of them needs.
+//! Columns: an optional value per document, each in as few bits as the greatest of them needs.
 
 mod block_ranges;
 mod column;

@@ -1,4 +1,4 @@
-// A long list with a bit for each document up to its last.
+// A long list with a bit vector of the documents up to its last.
 ghost use Rattle.std.specs.Prelude.{◌≡◌, ℕ, ◌^◌, ◌<◌, ◌≤◌, ◌==◌, IfOk, false, length, slice_index_or};
 ghost use Rattle.std.specs.List.{list_any};
 ghost use Rattle.std.specs.List.Sorted.{IsStrictlyIncreasing};
@@ -8,7 +8,7 @@ use crate::long_list::LongList;
 use std::alloc::{AllocError, Global};
 use std::marker::Model;
 
-/// Strictly rising documents in blocks, and their bits.
+/// Strictly rising documents in blocks, and as a bit vector.
 #[derive(Drop)]
 pub(crate) struct DenseList {
     long: LongList,
@@ -46,7 +46,7 @@ impl DenseList {
         &self.long
     }
 
-    /// A bit for each document up to the last.
+    /// A bit for each document up to the last, set if the document is in the list.
     pub(crate) fn bits(&self) -> &Bits
         ensures tells { (d : ℕ) → slice_index_or result.now d false ≡ list_any (λ x. x == d) self.now }
         ensures few { length result.now ≤ 2 ^ 32 }

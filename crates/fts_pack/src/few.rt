@@ -1,13 +1,13 @@
-// A few strictly rising documents, side by side.
+// A few strictly rising documents in an array.
 ghost use Rattle.std.specs.Prelude.{◌≡◌, ◌<◌, ◌≤◌, length, take};
 ghost use Rattle.fts_pack.specs.Documents.{block_count, last_of};
 
 use std::marker::Model;
 
-/// How many documents are in a list itself: as many as take no more room than a vector of them.
+/// The greatest number of documents that are stored in the list itself: they take no more space than a vector's header.
 pub(crate) const FEW: usize = 5;
 
-/// From one to five documents.
+/// A strictly rising list of one to five documents.
 #[derive(Drop)]
 pub(crate) struct Few {
     count: u32,
@@ -26,7 +26,7 @@ impl Model for Few {
 }
 
 impl Few {
-    /// These documents.
+    /// Stores these documents.
     pub(crate) fn new(documents: &[u32]) -> Few
         requires some { 0 < length documents.now }
         requires few { length documents.now ≤ 5 }
@@ -40,18 +40,18 @@ impl Few {
         }
     }
 
-    /// How many documents there are.
+    /// The number of documents.
     pub(crate) fn len(&self) -> usize
         ensures { result ≡ length self.now }
     {
         self.count as usize
     }
 
-    /// How many blocks they take.
+    /// The number of blocks, always 1.
     pub(crate) fn blocks(&self) -> usize
         ensures { result ≡ block_count (length self.now) }
     {
-        // Shows the proof how many documents there may be.
+        // Reveals the bounds of the count to the proof.
         let _ = &self.count;
         1
     }
@@ -64,7 +64,7 @@ impl Few {
         self.documents[self.count as usize - 1]
     }
 
-    /// Writes the documents to the front of `out`, and gives how many they are.
+    /// Writes the documents to the front of `out` and returns their count.
     pub(crate) fn open(&self, out: &mut [u32; 128]) -> usize
         ensures count { result ≡ length self.now }
         ensures documents { take result out.new ≡ self.now }

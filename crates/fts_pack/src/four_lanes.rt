@@ -1,4 +1,4 @@
-// Up to 128 numbers packed in four lanes, so that four of them, one of each lane, are unpacked at a time.
+// Up to 128 numbers packed in four lanes, so that four numbers, one of each lane, are unpacked at a time.
 ghost use Rattle.std.specs.Prelude.{◌≡◌, ◌≢◌, ℕ, ◌+◌, ◌-◌, ◌*◌, ◌/◌, ◌%◌, ◌^◌, ◌<◌, ◌≤◌, ◌++◌, All, OnOk, length};
 ghost use Rattle.std.specs.Prelude.{replicate, slice_index};
 ghost use Rattle.fts_pack.specs.bits.Digits.{words_of};
@@ -8,14 +8,14 @@ ghost use Rattle.fts_pack.specs.Unpacked.{IsUnpacked};
 use std::alloc::AllocError;
 use std::simd::u32x4;
 
-/// The number at the index, and 0 after the last.
+/// The number at the index, or 0 past the last.
 fn number_at(numbers: &[u32], index: usize) -> u32
     ensures { result ≡ slice_index numbers.now index }
 {
     numbers.get(index).copied().unwrap_or(0)
 }
 
-/// Writes the words of one lane to its places among those of the four.
+/// Packs the numbers of one lane and writes its words among those of the four lanes.
 fn write_lane(numbers: &[u32], lane: usize, width: u32, out: &mut [u32; 128])
     requires one_of_four { lane < 4 }
     requires narrow { width ≤ 32 }
@@ -60,7 +60,7 @@ fn mask_of(width: u32) -> u32
     ((1u64 << width) - 1) as u32
 }
 
-/// Row `row` of the list: one number of each lane.
+/// Four consecutive elements of the list, one of each lane: elements `4 * row` to `4 * row + 3`.
 #[inline(always)]
 pub(crate) fn load(list: &[u32], row: usize) -> u32x4
     requires { 4 * row + 4 ≤ length list.now }
@@ -70,7 +70,7 @@ pub(crate) fn load(list: &[u32], row: usize) -> u32x4
     u32x4::from_slice(&list[4 * row..])
 }
 
-/// The `width` bits of each lane from bit `shift` on.
+/// The `width` bits of each lane from bit `shift`.
 #[inline(always)]
 fn within(low: u32x4, shift: u32, width: u32) -> u32x4
     requires short { shift < 32 }
@@ -81,7 +81,7 @@ fn within(low: u32x4, shift: u32, width: u32) -> u32x4
     low >> u32x4::splat(shift) & u32x4::splat(mask_of(width))
 }
 
-/// The same where the bits go on in the next word of the lane.
+/// As `within`, for a number whose bits continue in the lane's next word.
 #[inline(always)]
 fn across(low: u32x4, high: u32x4, shift: u32, width: u32) -> u32x4
     requires some { 0 < shift }
@@ -95,7 +95,7 @@ fn across(low: u32x4, high: u32x4, shift: u32, width: u32) -> u32x4
     both & u32x4::splat(mask_of(width))
 }
 
-/// The four numbers at one place of the lanes.
+/// The four numbers at one index of the lanes.
 #[inline(always)]
 fn at_place(words: &[u32], width: u32, place: usize) -> u32x4
     requires narrow { width ≤ 32 }
@@ -116,7 +116,7 @@ fn at_place(words: &[u32], width: u32, place: usize) -> u32x4
     across(low, load(words, word + 1), shift, width)
 }
 
-/// The number at the index of the 128 numbers of `width` bits that are in the words: its lane alone is read.
+/// The number at `index` of 128 packed numbers of `width` bits. Only its lane is read.
 #[inline]
 pub(crate) fn read(words: &[u32], width: u32, index: usize) -> u32
     requires narrow { width ≤ 32 }
@@ -165,7 +165,7 @@ fn eight_steps(words: &[u32], width: u32, place: usize, out: &mut [u32; 128])
     step(words, width, place + 7, out);
 }
 
-/// The width is known when this is compiled, so each shift is a constant and no step has a branch.
+/// The width is a constant at compile time, so each shift is a constant and no step has a branch.
 #[inline(never)]
 fn unpack_at<const W: u32>(words: &[u32], out: &mut [u32; 128])
     requires narrow { W ≤ 32 }
@@ -194,7 +194,7 @@ macro_rules! unpack_at_one_of {
     };
 }
 
-/// Writes the 128 numbers of `width` bits that are in the words.
+/// Unpacks the 128 numbers of `width` bits.
 pub(crate) fn unpack(words: &[u32], width: u32, out: &mut [u32; 128])
     requires narrow { width ≤ 32 }
     requires room { 4 * width ≤ length words.now }

@@ -1,11 +1,11 @@
-// The differences of rising numbers, which are what is packed of them.
+// The gaps of rising numbers, which are packed in place of the numbers.
 ghost use Rattle.std.specs.Prelude.{◌≡◌, ◌++◌, OnOk, OnErr};
 ghost use Rattle.fts_pack.specs.Documents.{gaps, Rises};
 
 use std::alloc::AllocError;
 
-/// Puts after the numbers how far the first of rising numbers is above `next`, and each further one above the one
-/// before, less 1. Where a growth is refused, the numbers are left as they were.
+/// Appends the gaps of rising numbers: each number less `next`, then each less its predecessor, less 1. On `Err`
+/// nothing was appended.
 pub fn push_gaps(numbers: &mut Vec<u32>, next: u64, rising: &[u32]) -> Result<(), AllocError>
     requires { Rises next rising.now }
     ensures ok { OnOk result (numbers.new.items ≡ numbers.old.items ++ gaps next rising.now) }

@@ -1,9 +1,10 @@
-//! Numbers packed in words: bits, lists of documents, and columns.
+//! Numbers packed in words: bit vectors, lists of documents, and columns.
 //!
-//! - [`bits`]: [`Bits`] is one bit per document, and the arithmetic of numbers of a few bits that lie end to end.
-//! - [`column`]: a [`Column`] has one value per document, or none.
-//! - A [`Block`] is a list of up to 128 numbers, [`Blocks`] any number of them, and a [`List`] a rising list of
-//!   documents, read by a [`ListSource`].
+//! - [`bits`]: [`Bits`] is a bit vector with one bit per document, beside the arithmetic of numbers of a few bits that
+//!   are packed end to end.
+//! - [`column`]: a [`Column`] has an optional value per document.
+//! - A [`Block`] is a list of up to 128 numbers, [`Blocks`] is a list of documents in blocks, and a [`List`] is a
+//!   rising list of documents, read through a [`ListSource`].
 #![tactic(auto)]
 
 pub mod bits;

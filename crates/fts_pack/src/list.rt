@@ -1,4 +1,5 @@
-// A strictly rising list of documents: a few are in the list itself, some are plain numbers, and many are in blocks.
+// A strictly rising list of documents: a few are in the list itself, up to 64 are plain numbers, and more are in
+// blocks.
 ghost use Rattle.std.specs.Prelude.{◌≡◌, ℕ, ◌^◌, ◌<◌, ◌≤◌, ◌==◌, List, IfOk, IfSome, IsOkUnless, false, length};
 ghost use Rattle.std.specs.Prelude.{slice_index_or, take, true};
 ghost use Rattle.std.specs.List.{list_any};
@@ -67,7 +68,7 @@ impl List {
         Ok(List { repr })
     }
 
-    /// How many documents there are.
+    /// The number of documents.
     pub fn len(&self) -> usize
         ensures { result ≡ length self.now }
     {
@@ -122,7 +123,7 @@ impl List {
         }
     }
 
-    /// A bit for each document up to the last, where the documents lie close together.
+    /// A bit for each document up to the last, if the list is dense.
     pub fn bits(&self) -> Option<&Bits>
         ensures tells { IfSome result (λ bits. (d : ℕ) →
             slice_index_or bits.now d false ≡ list_any (λ x. x == d) self.now) }
@@ -135,7 +136,7 @@ impl List {
     }
 }
 
-/// Whether at least one in 64 of the documents up to the last is in the list.
+/// Whether the list has at least one in 64 of the documents up to its last.
 fn is_dense(documents: &[u32]) -> bool
     ensures { result ≡ true → 0 < length documents.now }
 {
@@ -149,12 +150,12 @@ impl List {
     ghost use Rattle.std.specs.Prelude.{◌≡◌};
     ghost use Rattle.fts_pack.specs.ListSource.{documents_in, openings_of};
 
-    /// The list as blocks, of which none was opened yet.
+    /// A reader of the list's blocks, none of which was opened yet.
     pub fn source(&self) -> ListSource<'_>
         ensures documents { documents_in result ≡ self.now }
         ensures unopened { openings_of result ≡ 0 }
     {
-        // Shows the proof that the documents rise.
+        // Reveals to the proof that the documents rise.
         let _ = &self.repr;
         ListSource::over(self)
     }

@@ -1,11 +1,11 @@
-// The blocks of a list, opened one at a time and counted.
+// A reader of a list's blocks, which are opened one at a time and counted.
 ghost use Rattle.std.specs.List.Sorted.{IsStrictlyIncreasing};
 
 use crate::blocks::Blocks;
 use crate::list::List;
 use fts_base::GhostCount;
 
-/// The blocks of a list. Whenever one is opened, a number goes up that contracts alone read.
+/// A reader of a list's blocks. It counts the blocks that it opens, in a counter visible only to contracts.
 #[derive(Drop)]
 pub struct ListSource<'a> {
     list: &'a List,
@@ -18,7 +18,7 @@ impl<'a> ListSource<'a> {
     ghost use Rattle.std.specs.List.Sorted.{IsStrictlyIncreasing};
     ghost use Rattle.fts_pack.specs.ListSource.{documents_in, openings_of};
 
-    /// The blocks of the list, of which none was opened yet.
+    /// A reader of the list's blocks, none of which was opened yet.
     pub(crate) fn over(list: &'a List) -> ListSource<'a>
         requires { IsStrictlyIncreasing list.now }
         ensures documents { documents_in result ≡ list.now }

@@ -1,4 +1,4 @@
-// A strictly rising list of documents in blocks of 128 differences, all in one buffer, and a skip for each block.
+// A strictly rising list of documents in blocks of 128 gaps, all in one buffer, with a skip entry for each block.
 ghost use Rattle.std.specs.Prelude.{◌≡◌, ℕ, ◌*◌, ◌<◌, List, IfOk, length, take};
 ghost use Rattle.std.specs.List.Sorted.{IsStrictlyIncreasing};
 ghost use Rattle.fts_pack.specs.Documents.{after, block_at, block_count, last_of, Rises};
@@ -13,7 +13,7 @@ use fts_base::release;
 use std::alloc::{AllocError, Global};
 use std::marker::Model;
 
-/// Strictly rising documents in blocks.
+/// A strictly rising list of documents in blocks.
 pub(crate) struct LongList {
     count: usize,
     skips: Vec<Skip>,
@@ -66,14 +66,14 @@ impl LongList {
         })
     }
 
-    /// How many documents there are.
+    /// The number of documents.
     pub(crate) fn len(&self) -> usize
         ensures { result ≡ length self.now }
     {
         self.count
     }
 
-    /// How many blocks there are.
+    /// The number of blocks.
     pub(crate) fn blocks(&self) -> usize
         ensures { result ≡ block_count (length self.now) }
     {
@@ -88,7 +88,7 @@ impl LongList {
         self.skips[block].last
     }
 
-    /// Writes the documents of the block to the front of `out`, and gives how many they are.
+    /// Writes the documents of the block to the front of `out` and returns their count.
     pub(crate) fn open(&self, block: usize, out: &mut [u32; 128]) -> usize
         requires { block < block_count (length self.now) }
         ensures count { result ≡ length (block_at self.now block) }
@@ -101,7 +101,7 @@ impl LongList {
         (self.count - block * BLOCK).min(BLOCK)
     }
 
-    /// The first document that the block may have.
+    /// The least document that the block may have.
     fn first(&self, block: usize) -> u32
         requires { block < block_count (length self.now) }
         ensures { result ≡ after 0 (take (block * 128) self.now) }
@@ -114,7 +114,7 @@ impl LongList {
     }
 }
 
-/// Appends a block, whose documents are `next` or later, and tells where it lies. `gaps` is room for their differences.
+/// Appends a block, whose documents are at least `next`, and returns its skip entry. `gaps` is a scratch buffer.
 fn add_skip(
     words: &mut Vec<u32>,
     gaps: &mut Vec<u32>,

@@ -1,4 +1,4 @@
-// A list of numbers in blocks of 128, all in one buffer of words: a number is read by itself, or a block at once.
+// A list of numbers in blocks of 128, all in one buffer of words. One number or a whole block is unpacked at a time.
 ghost use Rattle.std.specs.Prelude.{◌≡◌, ◌<◌, IfOk, IsOkUnless, length, slice_index, take};
 ghost use Rattle.fts_pack.specs.Documents.{block_at, block_count};
 
@@ -69,14 +69,14 @@ impl PackedNumbers {
         })
     }
 
-    /// How many numbers there are.
+    /// The number of numbers.
     pub fn len(&self) -> usize
         ensures { result ≡ length self.now }
     {
         self.count
     }
 
-    /// The number of this index. No other number is unpacked.
+    /// The number at an index. No other number is unpacked.
     #[inline]
     pub fn get(&self, index: usize) -> u32
         requires { index < length self.now }
@@ -87,8 +87,7 @@ impl PackedNumbers {
         four_lanes::read(words, width, index % BLOCK)
     }
 
-    /// Writes the numbers of the block to the front of `out`, and gives how many they are. What is after them may be
-    /// anything.
+    /// Writes the numbers of the block to the front of `out` and returns their count. The rest of `out` is unspecified.
     pub fn open(&self, block: usize, out: &mut [u32; 128]) -> usize
         requires { block < block_count (length self.now) }
         ensures count { result ≡ length (block_at self.now block) }

@@ -1,15 +1,15 @@
-// Strictly rising documents as plain numbers, which take less room than a block as long as they are not many.
+// Strictly rising documents as plain numbers, which take less space than a block if they are few.
 ghost use Rattle.std.specs.Prelude.{◌≡◌, ◌<◌, ◌≤◌, IfOk, length, take};
 ghost use Rattle.fts_pack.specs.Documents.{block_count, last_of};
 
 use std::alloc::{AllocError, Global};
 use std::marker::Model;
 
-/// How many documents are kept as plain numbers at most. A block always has room for 128 differences, so up to some 70
-/// documents take more room in it.
+/// The greatest number of documents that are stored as plain numbers. A block always has space for 128 gaps, so up to
+/// about 70 documents take more space in a block.
 pub(crate) const MOST_PLAIN: usize = 64;
 
-/// From one to 64 documents.
+/// A strictly rising list of one to 64 documents.
 #[derive(Drop)]
 pub(crate) struct Plain {
     documents: Vec<u32>,
@@ -27,7 +27,7 @@ impl Model for Plain {
 }
 
 impl Plain {
-    /// These documents.
+    /// Stores these documents.
     pub(crate) fn new(alloc: Global, documents: &[u32]) -> Result<Plain, AllocError>
         requires some { 0 < length documents.now }
         requires few { length documents.now ≤ 64 }
@@ -37,18 +37,18 @@ impl Plain {
         Ok(Plain { documents })
     }
 
-    /// How many documents there are.
+    /// The number of documents.
     pub(crate) fn len(&self) -> usize
         ensures { result ≡ length self.now }
     {
         self.documents.len()
     }
 
-    /// How many blocks they take.
+    /// The number of blocks, always 1.
     pub(crate) fn blocks(&self) -> usize
         ensures { result ≡ block_count (length self.now) }
     {
-        // Shows the proof how many documents there may be.
+        // Reveals the bounds of the length to the proof.
         let _ = &self.documents;
         1
     }
@@ -61,7 +61,7 @@ impl Plain {
         self.documents[self.documents.len() - 1]
     }
 
-    /// Writes the documents to the front of `out`, and gives how many they are.
+    /// Writes the documents to the front of `out` and returns their count.
     pub(crate) fn open(&self, out: &mut [u32; 128]) -> usize
         ensures count { result ≡ length self.now }
         ensures documents { take result out.new ≡ self.now }

@@ -1,11 +1,11 @@
-// Differences into documents, four at a time.
+// Turns gaps into documents, four at a time.
 ghost use Rattle.std.specs.Prelude.{◌≡◌, ℕ, ◌+◌, ◌*◌, ◌%◌, ◌^◌, ◌<◌, ◌≤◌, length, map, slice_index, sum, take};
 ghost use Rattle.fts_pack.specs.Documents.{documents_at};
 
 use crate::four_lanes::load;
 use std::simd::u32x4;
 
-/// Each lane becomes the sum of the lanes up to it.
+/// The prefix sums of the four lanes.
 #[inline(always)]
 fn sums_of(gaps: u32x4) -> u32x4
     ensures { (lane : ℕ) → lane < 4
@@ -16,7 +16,7 @@ fn sums_of(gaps: u32x4) -> u32x4
     pairs + zero.shuffle(pairs, [0, 0, 4, 5])
 }
 
-/// The documents with four differences, after the document `last`.
+/// The documents of four gaps that follow the document `last`.
 #[inline(always)]
 fn documents(last: u32x4, sums: u32x4) -> u32x4
     ensures { (lane : ℕ) → lane < 4
@@ -46,11 +46,11 @@ fn write(four: u32x4, row: usize, out: &mut [u32; 128])
     four.copy_to_slice(&mut out[4 * row..]);
 }
 
-/// Turns differences into documents, of which the first is `next` or later, each in its low 32 bits.
+/// Turns gaps into documents in place, by a prefix sum. The first document is `next` plus the first gap.
 pub(crate) fn add_up(next: u32, out: &mut [u32; 128])
     ensures { out.new ≡ map (λ document. document % 2 ^ 32) (documents_at next out.old) }
 {
-    // The document before `next`, which for 0 wraps.
+    // The document before `next`; for 0 it wraps.
     let mut last = u32x4::splat(next.wrapping_add(u32::MAX));
     for row in 0..32 {
         let four = documents(last, sums_of(load(out, row)));

@@ -1,10 +1,10 @@
-// Where a block of a list lies, and which document it ends with.
+// The position of a block of a list, and its last document.
 use crate::block_meta::BlockMeta;
 
-/// What a list keeps of each of its blocks.
+/// The skip entry of a block.
 #[derive(Clone, Copy)]
 pub(crate) struct Skip {
-    /// Where the differences of the block lie.
+    /// The position of the block's gaps.
     pub(crate) block: BlockMeta,
     /// The last document of the block.
     pub(crate) last: u32,

@@ -1,4 +1,4 @@
--- Lists of numbers as one large number, and back: how numbers of a few bits are in words.
+-- Lists of numbers as one large number, and back: the packing of numbers of a few bits in words.
 use Rattle.std.specs.Prelude.{ℕ, zero, suc, ◌+◌, ◌-◌, ◌*◌, ◌/◌, ◌%◌, ◌^◌, ◌<◌, ◌≤◌, List, [], ◌∷◌, length, All}
 
 -- the number whose digits to base 2 ^ width are these, the least first
@@ -6,21 +6,21 @@ unfoldable pub joined : ℕ → List ℕ → ℕ
 joined width [] = 0
 joined width (x ∷ xs) = joined width xs * 2 ^ width + x
 
--- the lowest digits of a number to base 2 ^ width, this many of them, the least first
+-- the lowest `count` digits of a number to base 2 ^ width, the least first
 unfoldable pub digits : ℕ → ℕ → ℕ → List ℕ
 digits width zero n = []
 digits width (suc count) n = n % 2 ^ width ∷ digits width count (n / 2 ^ width)
 
--- how many words of this many bits hold this many bits
+-- the number of words of `word` bits that hold `bits` bits
 unfoldable pub word_count : ℕ → ℕ → ℕ
 word_count word bits = (bits + (word - 1)) / word
 
--- numbers of `width` bits laid end to end in words of `word` bits, the least bits first: number i begins at bit
--- i * width
+-- numbers of `width` bits packed end to end in words of `word` bits, the low bits first: number i begins at bit i *
+-- width
 unfoldable pub words_of : ℕ → ℕ → List ℕ → List ℕ
 words_of word width numbers = digits word (word_count word (length numbers * width)) (joined width numbers)
 
--- this many numbers of `width` bits, read from words of `word` bits
+-- `count` numbers of `width` bits, read from words of `word` bits
 unfoldable pub numbers_in : ℕ → ℕ → ℕ → List ℕ → List ℕ
 numbers_in word width count words = digits width count (joined word words)
 

@@ -1,12 +1,12 @@
--- How documents are sought by their values.
+-- A search for documents by their values.
 use Rattle.std.specs.Prelude.{◌≡◌, ℕ, ◌+◌, ◌<◌, true, false, List, Option, None, All, IfSome, drop, length, slice_index}
 use Rattle.fts_pack.specs.column.Column.{is_within}
 
--- no document has a number within these
+-- no document has a number within bounds
 abbrev pub NoneWithin : (ℕ → Option ℕ) → ℕ → ℕ → List ℕ → Type 0
 NoneWithin number low high docs = All (λ doc. is_within low high (number doc) ≡ false) docs
 
--- the place of the last of the documents whose number is within these, if there is one
+-- the index of the last of the documents whose number is within bounds, if there is one
 pub record IsLastWithin
     (number : ℕ → Option ℕ) (low high : ℕ) (docs : List ℕ) (found : Option ℕ) : Type 0 where
   pub some : IfSome found (λ place.

@@ -1,4 +1,5 @@
-// One bit per document: bit `i % 64` of word `i / 64` is document `i`'s, and the bits past the last document are 0.
+// Bit vectors with one bit per document: document `i` has bit `i % 64` of word `i / 64`, and the bits past the last
+// document are 0.
 ghost use Rattle.std.specs.Prelude.{◌≡◌, ℕ, ◌<◌, ◌*◌, List, Bool, true, false, IfOk, IsOkUnless, count_by, ◌==◌, drop};
 ghost use Rattle.std.specs.Prelude.{All, ◌||◌, length, map, replicate, slice_get, slice_index_or, slice_set, take};
 ghost use Rattle.std.specs.List.{list_all, list_any};
@@ -14,10 +15,10 @@ use fts_base::{Refusal, release};
 use std::alloc::{AllocError, Global};
 use std::marker::Model;
 
-/// One bit for each of a number of documents.
+/// A bit vector with one bit per document.
 pub struct Bits {
     len: usize,
-    // How many are set.
+    // The number of set bits.
     ones: usize,
     words: Vec<u64>,
 }
@@ -42,7 +43,7 @@ impl Drop for Bits {
 }
 
 impl Bits {
-    /// Bits for this many documents, all set.
+    /// A bit vector for `len` documents, with every bit set.
     pub fn all_set(alloc: Global, len: usize) -> Result<Bits, Refusal>
         ensures ok { IfOk result (λ bits. bits ≡ replicate len true) }
         ensures memory { IsOkUnless result Refusal.Memory }
@@ -65,7 +66,7 @@ impl Bits {
         })
     }
 
-    /// Bits for this many documents, all clear.
+    /// A bit vector for `len` documents, with every bit clear.
     pub fn all_clear(alloc: Global, len: usize) -> Result<Bits, Refusal>
         ensures ok { IfOk result (λ bits. bits ≡ replicate len false) }
         ensures memory { IsOkUnless result Refusal.Memory }
@@ -73,7 +74,7 @@ impl Bits {
         Self::zeroed(alloc, len).map_err(|_| Refusal::Memory)
     }
 
-    /// The same, for a caller with an error of its own.
+    /// As `all_clear`, with `AllocError` for callers that have an error of their own.
     pub fn zeroed(alloc: Global, len: usize) -> Result<Bits, AllocError>
         ensures { IfOk result (λ bits. bits ≡ replicate len false) }
     {
@@ -85,7 +86,7 @@ impl Bits {
         })
     }
 
-    /// A copy on the allocator.
+    /// A copy in memory of the allocator.
     pub fn copied(&self, alloc: Global) -> Result<Bits, Refusal>
         ensures ok { IfOk result (λ bits. bits ≡ self.now) }
         ensures memory { IsOkUnless result Refusal.Memory }
@@ -98,7 +99,7 @@ impl Bits {
         })
     }
 
-    /// How many documents there are.
+    /// The number of documents.
     pub fn len(&self) -> usize
         ensures { result ≡ length self.now }
     {
@@ -121,7 +122,7 @@ impl Bits {
         (self.words[doc / 64] >> (doc % 64)) & 1 == 1
     }
 
-    /// Whether there is such a document and its bit is set.
+    /// Whether the document exists and its bit is set.
     #[inline]
     pub fn contains(&self, doc: usize) -> bool
         ensures { result ≡ slice_index_or self.now doc false }
@@ -137,7 +138,7 @@ impl Bits {
         self.put(doc, true);
     }
 
-    /// Sets the bits of documents.
+    /// Sets the bits of these documents.
     pub fn set_all(&mut self, docs: &[u32])
         requires { All (λ d. d < length self.old) docs.now }
         ensures len { length self.new ≡ length self.old }
@@ -149,7 +150,7 @@ impl Bits {
         }
     }
 
-    /// Bits for this many documents, of which these are set.
+    /// A bit vector for `len` documents in which the bits of `docs` are set.
     pub fn of_documents(alloc: Global, len: usize, docs: &[u32]) -> Result<Bits, AllocError>
         requires { All (λ d. d < len) docs.now }
         ensures len { IfOk result (λ bits. length bits ≡ len) }
@@ -183,8 +184,8 @@ impl Bits {
         }
     }
 
-    /// The bits of documents `64 * index` to `64 * index + 63`, the first of them the lowest; after the last document
-    /// they are 0.
+    /// The bits of documents `64 * index` to `64 * index + 63`, the first in the lowest bit. Bits past the last
+    /// document are 0.
     #[inline]
     pub fn word(&self, index: usize) -> u64
         ensures { result ≡ number_of (take 64 (drop (64 * index) self.now)) }
@@ -192,7 +193,7 @@ impl Bits {
         self.words.get(index).copied().unwrap_or(0)
     }
 
-    /// How many bits are set. It is kept, so nothing is counted.
+    /// The number of set bits. It is maintained on every change, so this is O(1).
     #[inline]
     pub fn count_ones(&self) -> usize
         ensures { result ≡ count_by (λ bit. bit) self.now }
@@ -200,7 +201,7 @@ impl Bits {
         self.ones
     }
 
-    /// Whether each bit is set. Nothing is counted here either.
+    /// Whether every bit is set. This is O(1) too.
     #[inline]
     pub fn is_all_set(&self) -> bool
         ensures { result ≡ list_all (λ bit. bit) self.now }
@@ -208,7 +209,7 @@ impl Bits {
         self.count_ones() == self.len()
     }
 
-    /// The words in which the bits lie.
+    /// The words of the bit vector.
     pub fn words(&self) -> &[u64]
         ensures { result.now ≡ words_of 64 1 (marks self.now) }
     {

@@ -2,7 +2,7 @@
 ghost use Rattle.std.specs.Prelude.{◌≡◌, ℤ, ℕ};
 ghost use Rattle.fts_pack.specs.bits.Signed.{i64_of, u64_of};
 
-/// The unsigned number in the signed one's place: the top bit is flipped, so the least becomes 0.
+/// Maps signed numbers to unsigned ones in the same order: the top bit is flipped, so the least number becomes 0.
 #[inline]
 pub fn i64_to_u64(value: i64) -> u64
     ensures { result ≡ u64_of value }
@@ -10,7 +10,7 @@ pub fn i64_to_u64(value: i64) -> u64
     value.cast_unsigned().wrapping_add(1 << 63)
 }
 
-/// The signed number in the unsigned one's place: what `i64_to_u64` made, back again.
+/// The inverse of `i64_to_u64`.
 #[inline]
 pub fn u64_to_i64(value: u64) -> i64
     ensures { result ≡ i64_of value }

@@ -1,4 +1,4 @@
-//! How many bits numbers take, and numbers of a few bits laid end to end in words, the least bits first.
+//! The number of bits that numbers take, and numbers of a few bits packed end to end in words, the low bits first.
 ghost use Rattle.std.specs.Prelude.{◌≡◌, ℕ, ◌*◌, ◌/◌, ◌%◌, ◌^◌, ◌<◌, ◌≤◌};
 ghost use Rattle.fts_pack.specs.bits.Digits.{IsWidthOf, joined, word_count};
 
@@ -23,7 +23,7 @@ pub fn width_of(numbers: &[u32]) -> u32
     bit_length(u64::from(bits))
 }
 
-/// How many words of 64 bits hold this many bits.
+/// The number of 64-bit words that hold `bits` bits.
 pub fn word_count_64(bits: usize) -> usize
     ensures { result ≡ word_count 64 bits }
 {

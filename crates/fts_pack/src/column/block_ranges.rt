@@ -1,4 +1,4 @@
-// The least and the greatest of each 128 values, so that a block can be passed over before its values are read.
+// The least and greatest of each 128 values, so that a block can be skipped without reading its values.
 ghost use Rattle.std.specs.Prelude.{◌≡◌, ◌*◌, ◌<◌, ◌≤◌, All, IfOk, IfSome, length};
 ghost use Rattle.fts_pack.specs.column.BlockRanges.{AreEnds, AreEndsOf, block_of};
 ghost use Rattle.fts_pack.specs.column.Column.{HaveOffsets};
@@ -7,11 +7,10 @@ use crate::column::column::range_of;
 use fts_base::release;
 use std::alloc::{AllocError, Global};
 
-/// How many values are in a block.
+/// The number of values in a block.
 const BLOCK: usize = 128;
 
-/// How far the least and the greatest value of each block are above a least one. If a block has no value, the first
-/// of the two is above the second.
+/// The least and greatest offset of each block of 128 values. A block without a value has a least above its greatest.
 pub(crate) enum BlockRanges {
     Words(Vec<(u32, u32)>),
     Longs(Vec<(u64, u64)>),
@@ -31,7 +30,7 @@ impl BlockRanges {
     ghost use Rattle.fts_pack.specs.column.BlockRanges.{AreEndsOf, in_blocks, no_ends};
     ghost use Rattle.fts_pack.specs.column.Column.{HaveOffsets};
 
-    /// The ends of each block of values, where these are `width` bits at most above the least.
+    /// Computes the offset range of each block; offsets have at most `width` bits.
     pub(crate) fn of_values(
         alloc: Global,
         width: u32,
@@ -48,7 +47,7 @@ impl BlockRanges {
         }
     }
 
-    /// The ends of a block, and those of no value past the last block.
+    /// The offset range of a block; an empty range past the last block.
     #[inline]
     pub(crate) fn at(&self, block: usize) -> (u64, u64)
         ensures { result ≡ slice_index_or (in_blocks self.now) block no_ends }
@@ -64,7 +63,7 @@ impl BlockRanges {
     }
 }
 
-/// How far the least and the greatest of the values are above a least one.
+/// The least and greatest offset of the values from `least`.
 fn ends_of(least: u64, values: &[Option<u64>]) -> (u64, u64)
     requires { All (λ v. IfSome v (λ x. least ≤ x)) values.now }
     ensures { AreEnds least values.now result }

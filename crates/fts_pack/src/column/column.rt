@@ -1,5 +1,6 @@
-// One value a document, or none: how far it is above the least, in as few bits as the greatest needs, and a bit for
-// presence. The same again in lanes, from which values are read.
+// One optional value per document. Each is stored as its offset from the least value, in as few bits as the greatest
+// offset needs, with a bit for presence. The offsets are stored again in an array of fixed-width integers, from which
+// values are read.
 ghost use Rattle.std.specs.Prelude.{◌≡◌, ◌≤◌, ◌<◌, ◌+◌, ◌-◌, ◌*◌, ◌%◌, ◌^◌, ◌==◌, ℕ, List, [], ◌∷◌, Option, None};
 ghost use Rattle.std.specs.Prelude.{true, false, All, IfOk, IfSome, IsOkUnless, drop, is_some, length, map, min};
 ghost use Rattle.std.specs.Prelude.{slice_index, slice_index_or, take};
@@ -21,7 +22,7 @@ use fts_base::{Refusal, release};
 use std::alloc::{AllocError, Global};
 use std::marker::Model;
 
-/// One value for each of a number of documents, some of which may be missing.
+/// An optional value for each document.
 pub struct Column {
     range: Option<(u64, u64)>,
     width: u32,
@@ -99,7 +100,7 @@ impl Column {
         })
     }
 
-    /// How many documents there are.
+    /// The number of documents.
     pub fn len(&self) -> usize
         ensures { result ≡ length self.now }
     {
@@ -113,7 +114,7 @@ impl Column {
         self.present.is_empty()
     }
 
-    /// The document's value, and `None` if it has none or there is no such document.
+    /// The document's value, or `None` if it has none or there is no such document.
     #[inline(always)]
     pub fn get(&self, doc: usize) -> Option<u64>
         ensures { result ≡ slice_index_or self.now doc None }
@@ -126,8 +127,8 @@ impl Column {
         }
     }
 
-    /// The least and the greatest value of a block: the 128 documents from `128 * block` on, or as many as there are.
-    /// It is `None` where none of them has a value, or there is no such block. The values themselves are not read.
+    /// The least and greatest value of up to 128 documents from `128 * block`, or `None` if none of them has a value or
+    /// there is no such block. No value is read.
     #[inline]
     pub fn block_range(&self, block: usize) -> Option<(u64, u64)>
         ensures { IsRangeOf (block_of block self.now) result }
@@ -177,8 +178,8 @@ impl Column {
         self.lanes.write(from, least, out);
     }
 
-    /// Marks those of the 64 documents from `from` on, a multiple of 64, whose value is `low` or more and `high` or
-    /// less. The first of them is the lowest bit; a document that has no value, or that isn't there, is not marked.
+    /// A mask of the 64 documents from `from`, a multiple of 64, whose value is in `low..=high`; the first is the
+    /// lowest bit. The bit of a document that has no value, or that does not exist, is 0.
     #[inline]
     pub fn marks_within(&self, from: usize, low: u64, high: u64) -> u64
         requires { from % 64 ≡ 0 }
@@ -197,8 +198,8 @@ impl Column {
         marks & self.present.word(from / 64)
     }
 
-    /// Counts documents by their values. There is a place for each value from `least` on, and a document counts one
-    /// more at the place of its own, modulo 2^64. One that has no value, or that isn't there, counts nowhere.
+    /// Adds one to `counts[value - least]` for each of the documents that has a value, modulo 2^64. A document that has
+    /// no value, or that does not exist, isn't counted.
     pub fn count_values(&self, docs: &[u32], least: u64, counts: &mut [u64])
         requires { AreWithin self.now least (length counts.old) }
         ensures counted { (place : ℕ) → place < length counts.old → slice_index counts.new place
@@ -211,8 +212,8 @@ impl Column {
         }
     }
 
-    /// The place of the last of the documents whose value is `low` or more and `high` or less. A document that has no
-    /// value, or that isn't there, is passed over.
+    /// The index of the last of the documents whose value is in `low..=high`. A document that has no value, or that
+    /// does not exist, is skipped.
     pub fn last_within(&self, docs: &[u32], low: u64, high: u64) -> Option<usize>
         ensures some { IfSome result (λ place. (place < length docs.now)
             × (is_within low high (slice_index_or self.now (slice_index docs.now place) None) ≡ true)) }
@@ -230,7 +231,7 @@ impl Column {
             .last_within(&self.present, docs, above, high - least)
     }
 
-    /// The least and the greatest value, if there is one.
+    /// The least and greatest value, or `None` if no document has a value.
     pub fn range(&self) -> Option<(u64, u64)>
         ensures { IsRangeOf self.now result }
     {
@@ -244,14 +245,14 @@ impl Column {
         &self.present
     }
 
-    /// How many bits each value takes.
+    /// The number of bits of each stored offset.
     pub fn width(&self) -> u32
         ensures { (range : Option (ℕ × ℕ)) → IsRangeOf self.now range → IsWidthOf (spread_of range ∷ []) result }
     {
         self.width
     }
 
-    /// The words in which the values lie.
+    /// The words that the offsets are packed in.
     pub fn words(&self) -> &[u64]
         ensures { (range : Option (ℕ × ℕ)) (width : ℕ) → IsRangeOf self.now range
             → IsWidthOf (spread_of range ∷ []) width
@@ -261,7 +262,7 @@ impl Column {
     }
 }
 
-/// The least and the greatest value, if there is one.
+/// The least and greatest value, or `None` if there is none.
 pub(crate) fn range_of(values: &[Option<u64>]) -> Option<(u64, u64)>
     ensures range { IsRangeOf values.now result }
     ensures fits { IfSome result (λ r. r.1 < 2 ^ 64) }
@@ -275,7 +276,7 @@ pub(crate) fn range_of(values: &[Option<u64>]) -> Option<(u64, u64)>
     range
 }
 
-/// The range, made to hold the value.
+/// The least range that includes a range and a value.
 fn widened(range: Option<(u64, u64)>, value: u64) -> (u64, u64)
     ensures { result ≡ range_with range value }
 {
@@ -285,7 +286,7 @@ fn widened(range: Option<(u64, u64)>, value: u64) -> (u64, u64)
     }
 }
 
-/// A bit per document, set if its value is present.
+/// A bit per document, set if it has a value.
 fn presence(alloc: Global, values: &[Option<u64>]) -> Result<Bits, AllocError>
     ensures { IfOk result (λ bits. bits ≡ map is_some values.now) }
 {
@@ -298,7 +299,7 @@ fn presence(alloc: Global, values: &[Option<u64>]) -> Result<Bits, AllocError>
     Ok(present)
 }
 
-/// The words of how far each value is above the least.
+/// The packed offsets of the values from `least`.
 fn packed_offsets(
     alloc: Global,
     width: u32,
@@ -328,7 +329,7 @@ fn packed_offsets(
     Ok(words)
 }
 
-/// How far the value is above the least, and 0 for a missing one.
+/// The offset of a value from `least`, or 0 for a missing value.
 pub(crate) fn offset(least: u64, value: Option<u64>) -> u64
     requires { IfSome value (λ x. least ≤ x) }
     ensures { result ≡ option_map_or (λ x. x - least) value 0 }

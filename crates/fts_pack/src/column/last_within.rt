@@ -1,5 +1,5 @@
-// Documents sought by the numbers in their lanes, from the last to the first. Which lanes these are is asked once for
-// many documents, so that each costs a load, a bit if some have no number, and two comparisons.
+// Searches documents from the last to the first for one whose offset is in a range. The array's width is checked once
+// for many documents, so each costs a load, a bit if some have no value, and two comparisons.
 ghost use Rattle.std.specs.Prelude.{◌≡◌, ◌≤◌, Some, length, map, slice_get};
 ghost use Rattle.fts_pack.specs.column.Column.{is_within};
 ghost use Rattle.fts_pack.specs.column.Interval.{IsLastWithin};
@@ -8,7 +8,7 @@ ghost use Rattle.fts_pack.specs.column.OffsetArray.{number_at};
 use crate::bits::Bits;
 use crate::column::offset_int::OffsetInt;
 
-/// The place of the last of the documents whose bit is set and whose number is `low` or more and `high` or less.
+/// The index of the last document in `docs` whose offset lies in `low..=high`.
 pub(crate) fn last_offset_within<L: OffsetInt>(
     lanes: &[L],
     present: &Bits,
@@ -26,7 +26,7 @@ pub(crate) fn last_offset_within<L: OffsetInt>(
     }
 }
 
-/// The place of the last document within the bounds, if each has a number.
+/// As `last_offset_within`, if every document has a value.
 fn last_of_all<L: OffsetInt>(lanes: &[L], docs: &[u32], low: u64, high: u64) -> Option<usize>
     ensures { IsLastWithin (slice_get (map L.value lanes.now)) low high docs.now result }
 {
@@ -42,7 +42,7 @@ fn last_of_all<L: OffsetInt>(lanes: &[L], docs: &[u32], low: u64, high: u64) -> 
     None
 }
 
-/// The place of the last document within the bounds, if some may have no number.
+/// As `last_offset_within`, if some documents may have no value.
 fn last_present<L: OffsetInt>(
     lanes: &[L],
     present: &Bits,
@@ -64,7 +64,7 @@ fn last_present<L: OffsetInt>(
     None
 }
 
-/// Whether a number is within the bounds.
+/// Whether a number is in `low..=high`.
 #[inline]
 fn is_between(number: u64, low: u64, high: u64) -> bool
     ensures { result ≡ is_within low high (Some number) }

@@ -1,4 +1,4 @@
-// Numbers in lanes of one width: each is read by one load, and 64 are compared at once.
+// Offsets in integers of one width: each is read by one load, and 64 are compared at once.
 ghost use Rattle.std.specs.Prelude.{◌≡◌, ℕ, ◌+◌, ◌%◌, ◌^◌, ◌<◌, ◌≤◌, IfOk, length, map, min, slice_index};
 ghost use Rattle.fts_pack.specs.column.Column.{HaveOffsets, offsets};
 ghost use Rattle.fts_pack.specs.column.OffsetArray.{AreLanesOf, AreMarked};
@@ -17,7 +17,7 @@ const BYTE_MAX: u64 = 255;
 
 const WORD_MAX: u64 = 4_294_967_295;
 
-/// Numbers in lanes of 8, 32 or 64 bits, in whole stretches of 64.
+/// Offsets in integers of 8, 32 or 64 bits, padded to a multiple of 64.
 pub(crate) enum OffsetArray {
     Bytes(Vec<u8>),
     Words(Vec<u32>),
@@ -41,7 +41,7 @@ impl OffsetArray {
     ghost use Rattle.fts_pack.specs.column.Interval.{IsLastWithin};
     ghost use Rattle.fts_pack.specs.column.OffsetArray.{AreLanesOf, AreMarked, in_lanes, number_at};
 
-    /// How far each value is above the least, and 0 for a missing one, where this takes `width` bits at most.
+    /// Stores the offset of each value from `least`, and 0 for a missing value; offsets have at most `width` bits.
     pub(crate) fn of_offsets(
         alloc: Global,
         width: u32,
@@ -60,7 +60,7 @@ impl OffsetArray {
         }
     }
 
-    /// The number at a place.
+    /// The offset at an index.
     #[inline]
     pub(crate) fn at(&self, place: usize) -> u64
         requires { place < length (in_lanes self.now) }
@@ -89,7 +89,7 @@ impl OffsetArray {
         }
     }
 
-    /// Marks those of the 64 numbers from `from` on that are `low` or more and `high` or less.
+    /// A mask of the 64 numbers from index `from` that are in `low..=high`.
     #[inline]
     pub(crate) fn mask_within(&self, from: usize, low: u64, high: u64) -> u64
         requires { from + 64 ≤ length (in_lanes self.now) }
@@ -105,7 +105,7 @@ impl OffsetArray {
         }
     }
 
-    /// Counts documents by their numbers: each whose bit is set counts one more at the place that its number is.
+    /// Adds one to `counts[offset]` for each of the documents whose presence bit is set.
     pub(crate) fn count(&self, present: &Bits, docs: &[u32], counts: &mut [u64])
         requires enough { length present.now ≤ length (in_lanes self.now) }
         requires within { (doc : ℕ) → doc < length present.now
@@ -119,7 +119,7 @@ impl OffsetArray {
         }
     }
 
-    /// The place of the last of the documents whose bit is set and whose number is `low` or more and `high` or less.
+    /// The index of the last of the documents whose presence bit is set and whose offset is in `low..=high`.
     pub(crate) fn last_within(
         &self,
         present: &Bits,
@@ -157,7 +157,7 @@ fn lanes_of<L: OffsetInt>(
     Ok(lanes)
 }
 
-/// As many lanes as there are numbers, up to the end of a stretch.
+/// The number of integers for `numbers` offsets: the next multiple of 64.
 fn lane_count(numbers: usize) -> usize
     requires { numbers ≤ 2 ^ 32 }
     ensures enough { numbers ≤ result }
@@ -180,8 +180,8 @@ fn write_lanes<L: OffsetInt>(lanes: &[L], least: u64, out: &mut [u64])
     }
 }
 
-/// Marks those of the first 64 numbers that are within the bounds. What is below the lower one wraps when that is
-/// taken from it, so one comparison tells of both.
+/// A 64-bit mask of the bytes in `low..=high`. Subtracting `low` wraps what is below, so one unsigned comparison
+/// suffices.
 #[inline]
 fn bytes_within(numbers: &[u8], low: u64, high: u64) -> u64
     requires { (64 ≤ length numbers.now) × (low ≤ high) }
@@ -195,7 +195,7 @@ fn bytes_within(numbers: &[u8], low: u64, high: u64) -> u64
     above.simd_le(u8x64::splat(span)).to_bitmask()
 }
 
-/// The same of eight times the bits, which hold any bound.
+/// As `bytes_within`, for 64-bit values.
 #[inline]
 fn longs_within(numbers: &[u64], low: u64, high: u64) -> u64
     requires { (64 ≤ length numbers.now) × (low ≤ high) }
@@ -205,7 +205,7 @@ fn longs_within(numbers: &[u64], low: u64, high: u64) -> u64
     above.simd_le(u64x64::splat(high - low)).to_bitmask()
 }
 
-/// The same of four times the bits.
+/// As `bytes_within`, for 32-bit values.
 #[inline]
 fn words_within(numbers: &[u32], low: u64, high: u64) -> u64
     requires { (64 ≤ length numbers.now) × (low ≤ high) }

@@ -1,20 +1,20 @@
-// A number in one lane, whatever its width.
+// An unsigned integer of one of the widths of an offset array.
 ghost use Rattle.std.specs.Prelude.{◌≡◌, ℕ, ◌^◌, ◌<◌};
 
-/// An unsigned integer that keeps the number of a lane.
+/// An unsigned integer that stores an offset.
 pub(crate) trait OffsetInt: Copy {
-    /// The number that it keeps.
+    /// The offset that it stores.
     ghost value: { Self → ℕ };
 
-    /// How many bits it has.
+    /// The number of its bits.
     ghost bits: { ℕ };
 
-    /// The lane that keeps a number.
+    /// The integer that stores an offset.
     fn of(number: u64) -> Self
         requires { number < 2 ^ bits }
         ensures { value result ≡ number };
 
-    /// The number that it keeps.
+    /// The offset that it stores.
     fn number(self) -> u64
         ensures { result ≡ value self };
 }

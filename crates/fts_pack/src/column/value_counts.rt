@@ -1,5 +1,5 @@
-// Documents counted by the numbers in their lanes. Which lanes these are is asked once for many documents, so that each
-// costs a load, a bit if some have no number, and an addition.
+// Counts documents by their offsets. The array's width is checked once for many documents, so each costs a load, a bit
+// if some have no value, and an addition.
 ghost use Rattle.std.specs.Prelude.{◌≡◌, ℕ, ◌+◌, ◌%◌, ◌^◌, ◌<◌, ◌≤◌, length, map, slice_get, slice_index};
 ghost use Rattle.std.specs.Prelude.{slice_set};
 ghost use Rattle.fts_pack.specs.column.Counts.{AreCounted};
@@ -8,7 +8,7 @@ ghost use Rattle.fts_pack.specs.column.OffsetArray.{number_at};
 use crate::bits::Bits;
 use crate::column::offset_int::OffsetInt;
 
-/// Counts documents by their numbers: each whose bit is set counts one more at the place that its number is.
+/// Adds one to `counts[offset]` for each document that has a value.
 pub(crate) fn count_offsets<L: OffsetInt>(lanes: &[L], present: &Bits, docs: &[u32], counts: &mut [u64])
     requires enough { length present.now ≤ length lanes.now }
     requires within { (doc : ℕ) → doc < length present.now
@@ -22,7 +22,7 @@ pub(crate) fn count_offsets<L: OffsetInt>(lanes: &[L], present: &Bits, docs: &[u
     }
 }
 
-/// Counts documents by their numbers, if each has one.
+/// As `count_offsets`, if every document has a value.
 fn count_all<L: OffsetInt>(lanes: &[L], docs: &[u32], counts: &mut [u64])
     requires { (doc : ℕ) → doc < length lanes.now → slice_index (map L.value lanes.now) doc < length counts.old }
     ensures { AreCounted (slice_get (map L.value lanes.now)) docs.now counts.old counts.new }
@@ -34,7 +34,7 @@ fn count_all<L: OffsetInt>(lanes: &[L], docs: &[u32], counts: &mut [u64])
     }
 }
 
-/// Counts documents by their numbers, if some may have none.
+/// As `count_offsets`, if some documents may have no value.
 fn count_present<L: OffsetInt>(lanes: &[L], present: &Bits, docs: &[u32], counts: &mut [u64])
     requires enough { length present.now ≤ length lanes.now }
     requires within { (doc : ℕ) → doc < length present.now
@@ -49,7 +49,7 @@ fn count_present<L: OffsetInt>(lanes: &[L], present: &Bits, docs: &[u32], counts
     }
 }
 
-/// Counts one more at a place. No count comes near 2^64, so none is tested for it.
+/// Adds one to the count at an index. No count comes near 2^64, so overflow isn't checked.
 #[inline]
 fn count_one(counts: &mut [u64], place: usize)
     requires { place < length counts.old }

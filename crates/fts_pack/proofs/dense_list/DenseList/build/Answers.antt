@@ -1,4 +1,4 @@
--- The bits are those of the documents, of which the last is the greatest.
+-- The bits are those of the documents, whose last is the greatest.
 use Rattle.std.proofs.Common.{◌≡◌, ◌-◌, ◌==◌, length, sym, ap, ◌∙◌, arith}
 use Rattle.std.specs.List.{list_any}
 use Rattle.std.proofs.lemmas.List.{get_or_default}

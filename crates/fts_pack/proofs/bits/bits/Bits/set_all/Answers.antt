@@ -1,4 +1,4 @@
--- One bit more is set.
+-- One more bit is set.
 use Rattle.std.proofs.Common.{arith, refl}
 use Rattle.fts_pack.proofs.BitsLemmas.{AreSet-all, AreSet-more, AreSet-none}
 use Rattle.fts_pack.proofs.bits.bits.Bits.set_all.Goals as goal

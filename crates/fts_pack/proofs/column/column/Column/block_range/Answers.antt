@@ -1,4 +1,4 @@
--- The range of a block is told by its ends above the least.
+-- The range of a block is its offset range plus the least value.
 use Rattle.std.proofs.Common.{◌+◌, Some, None, ap, sym, subst}
 use Rattle.std.proofs.Math.Facts.{Fits-of_lt}
 use Rattle.fts_pack.specs.column.BlockRanges.{AreEndsOf, block_of, in_blocks}

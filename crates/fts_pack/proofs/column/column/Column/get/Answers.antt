@@ -1,4 +1,4 @@
--- A value that is there is the number in its lane above the least.
+-- A present value is the least plus its element.
 use Rattle.std.proofs.Common.{◌≡◌, ◌+◌, ◌∙◌, Some, None, is_some, map, get_or, ap, sym, arith, subst}
 use Rattle.std.proofs.Math.Facts.{Fits-of_lt}
 use Rattle.fts_pack.specs.column.Column.{least_of, IsColumn, IsRangeOf}
