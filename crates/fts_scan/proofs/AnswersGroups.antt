@@ -1,4 +1,4 @@
--- The groups, and that there is but one list of them.
+-- The groups, and that there is only one list of them.
 use Rattle.std.proofs.Common.{◌≡◌, ℕ, ◌+◌, ◌<◌, Bool, false, cond, List, [], ◌∷◌, Option, Some, None, refl, sym, subst, ◌∙◌, arith, All, AllPairs, Contains}
 use Rattle.std.proofs.Common.{count_by}
 use Rattle.std.specs.List.{cons_option}
@@ -14,12 +14,12 @@ use Rattle.fts_model.proofs.Lists.{pairs_none, one_order}
 use Rattle.fts_scan.proofs.AnswersOrder.{group_order}
 use Rattle.fts_scan.proofs.Counts.{Below, Below-one_way, count_in, count_in-fold, count_in-at, count_in-there, rising-fold, positive-fold}
 
--- how many pass, with one in front that may not be there
+-- the number of members that pass, with an optional member in front
 count_by-option : {X : Type 0} (p : X → Bool) (o : Option X) (xs : List X) → count_by p (cons_option o xs) ≡ cond (option_map_or p o false) 1 0 + count_by p xs
 count_by-option p None xs = omega arith
 count_by-option p (Some x) xs = sum_by-cons (λ x. cond (p x) 1 0) x xs
 
--- the values that are this one are the hits that have it
+-- the occurrences of a value among the values of the hits are the hits that have it
 pub count_by-groups_in : (field : ℕ) (n : GroupValue) (hits : List (Stamped DocumentValue)) →
     count_by (λ m. is_eq (group_cmp n m)) (groups_in field hits) ≡ hits_with field n hits
 count_by-groups_in field n [] = refl
@@ -31,11 +31,11 @@ count_by-groups_in field n (hit ∷ hits) =
       sum_by-cons (λ (h : Stamped DocumentValue). cond (is_in_group field n h.value) 1 0) hit hits,
     )
 
--- a value's groups have as many hits as have it
+-- the groups give each value the number of hits that have it
 pub count_in-groups : (field : ℕ) (n : GroupValue) (hits : List (Stamped DocumentValue)) → count_in group_cmp (groups field hits) n ≡ hits_with field n hits
 count_in-groups field n hits = count_in-fold group_order [] (groups_in field hits) n ∙ omega (arith, count_by-groups_in field n hits)
 
--- the groups are groups
+-- the groups satisfy the definition of groups
 pub groups-IsGroups : (field : ℕ) (hits : List (Stamped DocumentValue)) → IsGroups field hits (groups field hits)
 groups-IsGroups field hits =
     let list = groups field hits in
@@ -55,7 +55,7 @@ groups-IsGroups field hits =
       );
     }
 
--- there is one list of groups
+-- only one list satisfies the definition of groups
 pub IsGroups-one : (field : ℕ) (hits : List (Stamped DocumentValue)) (a b : List (GroupValue × ℕ)) → IsGroups field hits a → IsGroups field hits b → a ≡ b
 IsGroups-one field hits a b p q =
     one_order (Below group_cmp) (Below-one_way group_order) a b p.rising q.rising

@@ -1,4 +1,4 @@
--- The top list, and that there is but one.
+-- The top list, and that there is only one.
 use Rattle.std.proofs.Common.{◌≡◌, ◌≢◌, ℕ, ◌<◌, ◌≤◌, ◌==◌, nat_lt, min, Bool, true, false, cond, ◌⊎◌, inl, inr, ⊎_elim, List, [], ◌∷◌, ◌++◌, length, take}
 use Rattle.std.proofs.Common.{Option, Some, None, refl, sym, ap, subst, ◌∙◌, arith, append_assoc, append-nil, All, AllPairs, Contains, get_or, fold, option_map}
 use Rattle.std.specs.Cmp.{IsTotalOrder}
@@ -29,42 +29,42 @@ use Rattle.fts_scan.proofs.AnswersSteps.{put_hit-insert}
 use Rattle.fts_model.proofs.Lists.{pairs_none, pairs_front, pairs_behind, Contains-cases}
 use Rattle.fts_scan.proofs.AnswersNumbers.{number_total}
 
--- numbers stand in one order, rising or falling
+-- the order of numbers in a top list is total, rising or falling
 order_total : (order : Order) → IsTotalOrder (cmp_by order)
 order_total Rising = number_total
 order_total Falling = back_total number_total
 
--- how two hits stand in a top list
+-- the order of two hits in a top list
 abbrev pub rank : Order → Hit → Hit → Ordering
 rank order a b = ordering_then (cmp_by order a.value b.value) (nat_cmp a.stamp b.stamp)
 
--- hits stand in one order
+-- the order of hits in a top list is total
 pub rank_total : (order : Order) → IsTotalOrder (rank order)
 rank_total order = then_total (on_total (λ (h : Hit). h.value) (order_total order)) (on_total (λ (h : Hit). h.stamp) nat_cmp_total)
 
--- a hit that comes before another ranks below it
+-- a hit that comes before another is less in the order
 lt_of : (o : Ordering) (s t : ℕ) → match_ordering o true (nat_lt s t) false ≡ true → ordering_then o (nat_cmp s t) ≡ Less
 lt_of Less s t h = refl
 lt_of Equal s t h = ap (λ b. cond b Less (cond (s == t) Equal Greater)) h
 lt_of Greater s t h = cc
 
--- equal or greater is not less
+-- an ordering that is equal or greater is not less
 not_less : (b : Bool) → cond b Equal Greater ≡ Less → false ≡ true
 not_less true h = cc
 not_less false h = cc
 
--- less is below
+-- a test that gives less passed
 of_test : (b e : Bool) → cond b Less (cond e Equal Greater) ≡ Less → b ≡ true
 of_test true e h = refl
 of_test false e h = not_less e h
 
--- a hit that ranks below another comes before it
+-- a hit that is less than another comes before it
 of_lt : (o : Ordering) (s t : ℕ) → ordering_then o (nat_cmp s t) ≡ Less → match_ordering o true (nat_lt s t) false ≡ true
 of_lt Less s t h = refl
 of_lt Equal s t h = of_test (nat_lt s t) (s == t) h
 of_lt Greater s t h = cc
 
--- hits that rank alike have one stamp
+-- hits that compare as equal have one stamp
 of_equal : (o : Ordering) (s t : ℕ) → ordering_then o (nat_cmp s t) ≡ Equal → s ≡ t
 of_equal Less s t h = cc
 of_equal Equal s t h = nat_cmp-IsAntisymmetric s t h
@@ -74,40 +74,40 @@ of_equal Greater s t h = cc
 abbrev pub Before : Order → Hit → Hit → Type 0
 Before order a b = comes_before order a b ≡ true
 
--- two hits have two stamps
+-- two hits have different stamps
 abbrev pub Apart : Hit → Hit → Type 0
 Apart a b = a.stamp ≢ b.stamp
 
--- what comes before ranks below
+-- a hit that comes before another is less in the order
 pub ranked : (order : Order) (a b : Hit) → Before order a b → rank order a b ≡ Less
 ranked order a b h = lt_of (cmp_by order a.value b.value) a.stamp b.stamp h
 
--- what ranks below comes before
+-- a hit that is less in the order comes before the other
 pub from_rank : (order : Order) (a b : Hit) → rank order a b ≡ Less → Before order a b
 from_rank order a b h = of_lt (cmp_by order a.value b.value) a.stamp b.stamp h
 
--- what comes before one before another comes before that
+-- coming before is transitive
 pub Before-trans : (order : Order) (a b c : Hit) → Before order a b → Before order b c → Before order a c
 Before-trans order a b c h l = from_rank order a c ((rank_total order).trans a b c (ranked order a b h) (ranked order b c l))
 
--- of two hits only one comes before the other
+-- at most one of two hits comes before the other
 pub Before-one_way : (order : Order) (a b : Hit) → Before order a b → Before order b a → ⊥
 Before-one_way order a b h l =
     let here = ranked order a b h in
     let back = (rank_total order).antisymm a b ∙ ap ordering_reverse (ranked order b a l) in
     let contra : Less ≡ Greater = sym here ∙ back in cc
 
--- of two stamps' hits the one comes before that the other doesn't, by their rank
+-- of two hits with different stamps, one comes before if the other does not, by their order
 by_rank : (order : Order) (a b : Hit) (o : Ordering) → rank order a b ≡ o → Apart a b → comes_before order a b ≡ false → Before order b a
 by_rank order a b Less e apart h = let yes = from_rank order a b e in cc
 by_rank order a b Equal e apart h = absurd (apart (of_equal (cmp_by order a.value b.value) a.stamp b.stamp e))
 by_rank order a b Greater e apart h = from_rank order b a ((rank_total order).antisymm b a ∙ ap ordering_reverse e)
 
--- of two stamps' hits one comes before the other
+-- of two hits with different stamps, one comes before the other
 pub Before-else : (order : Order) (a b : Hit) → Apart a b → comes_before order a b ≡ false → Before order b a
 Before-else order a b apart h = by_rank order a b (rank order a b) refl apart h
 
--- what holds of hits and of one more holds with it put among them
+-- a property of hits and of one more holds after it is inserted
 pub All-put_hit : (P : Hit → Type 0) (order : Order) (hits : List Hit) (hit : Hit) → P hit → All P hits → All P (put_hit order hits hit)
 All-put_hit P order [] hit p ps = All-cons P hit [] p (All-nil P)
 All-put_hit P order (other ∷ others) hit p ps =
@@ -117,7 +117,7 @@ All-put_hit P order (other ∷ others) hit p ps =
       | false ↦ All-cons P other (put_hit order others hit) (All-head P other others ps) behind
     ]
 
--- hits in order stay so with one more, whether it comes before the first or not
+-- hits in order stay so with one more, by whether it comes before the first
 put_at : (order : Order) (other : Hit) (others : List Hit) (hit : Hit) (b : Bool) → comes_before order hit other ≡ b →
     AllPairs (Before order) (other ∷ others) → Apart other hit → AllPairs (Before order) (put_hit order others hit) →
     AllPairs (Before order) (cond b (hit ∷ other ∷ others) (other ∷ put_hit order others hit))
@@ -138,7 +138,7 @@ sorted-put_hit order (other ∷ others) hit sorted apart =
     put_at order other others hit (comes_before order hit other) refl sorted (All-head (λ g. Apart g hit) other others apart)
     (sorted-put_hit order others hit (pairs_behind (Before order) other others sorted) (All-tail (λ g. Apart g hit) other others apart))
 
--- hits in order stay so with more
+-- hits in order stay so with several more
 pub sorted-fold : (order : Order) (done rest : List Hit) → AllPairs (Before order) done → All (λ g. All (Apart g) rest) done → AllPairs Apart rest →
     AllPairs (Before order) (fold (put_hit order) done rest)
 sorted-fold order done [] sorted apart once = sorted
@@ -149,7 +149,7 @@ sorted-fold order done (hit ∷ rest) sorted apart once =
     (apart k d lt)))
     (pairs_behind Apart hit rest once)
 
--- what holds of a stamp and of hits' stamps holds with the document of that stamp, if it has a number
+-- a property of a stamp and of hits' stamps holds with the document of that stamp, if it has a number
 All-with : (P : ℕ → Type 0) (o : Option Number) (d : Stamped DocumentValue) (rest : List Hit) → P d.stamp → All (λ (h : Hit). P h.stamp) rest →
     All (λ (h : Hit). P h.stamp) (cons_option (option_map (λ n. record { stamp = d.stamp; value = n; document = d.value }) o) rest)
 All-with P None d rest p ps = ps
@@ -162,13 +162,13 @@ All-hits_in P field (d ∷ ds) ps =
     All-with P (number_in_field d.value field) d (hits_in field ds) (All-head (λ d. P d.stamp) d ds ps)
     (All-hits_in P field ds (All-tail (λ d. P d.stamp) d ds ps))
 
--- no stamp stands twice with a document of another, if it has a number
+-- no stamp occurs twice with a document of another stamp, if it has a number
 once-with : (o : Option Number) (d : Stamped DocumentValue) (rest : List Hit) → All (λ (h : Hit). d.stamp ≢ h.stamp) rest → AllPairs Apart rest →
     AllPairs Apart (cons_option (option_map (λ n. record { stamp = d.stamp; value = n; document = d.value }) o) rest)
 once-with None d rest apart once = once
 once-with (Some n) d rest apart once = AllPairs-cons Apart (record { stamp = d.stamp; value = n; document = d.value }) rest apart once
 
--- no stamp stands twice among the hits with a number
+-- no stamp occurs twice among the hits with a number
 pub once-hits_in : (field : ℕ) (hits : List (Stamped DocumentValue)) → HasEachStampOnce hits → AllPairs Apart (hits_in field hits)
 once-hits_in field [] h = pairs_none Apart
 once-hits_in field (d ∷ ds) h =
@@ -176,13 +176,13 @@ once-hits_in field (d ∷ ds) h =
     (All-hits_in (λ stamp. d.stamp ≢ stamp) field ds (pairs_front (λ x y. x.stamp ≢ y.stamp) d ds h))
     (once-hits_in field ds (pairs_behind (λ x y. x.stamp ≢ y.stamp) d ds h))
 
--- a hit put among others is one more
+-- inserting a hit is a permutation of the hits with it in front
 moved-put_hit : (order : Order) (hits : List Hit) (hit : Hit) → IsPermutation (hit ∷ hits) (put_hit order hits hit)
 moved-put_hit order hits hit =
     let P : List Hit → Type 0 = IsPermutation (hit ∷ hits) in
     subst P (sym (put_hit-insert order hits hit)) (IsPermutation-insert hits (hit_place order hits hit) hit)
 
--- hits put among others are so many more
+-- inserting several hits is a permutation of the hits with them appended
 pub moved-fold : (order : Order) (before done rest : List Hit) → IsPermutation before done → IsPermutation (before ++ rest) (fold (put_hit order) done rest)
 moved-fold order before done [] p =
     let P : List Hit → Type 0 = λ hs. IsPermutation hs done in subst P (sym (append-nil before)) p
@@ -192,7 +192,7 @@ moved-fold order before done (hit ∷ rest) p =
     (moved-fold order (before ++ hit ∷ []) (put_hit order done hit) rest (IsPermutation-push_more before done (put_hit order done hit) hit p
     (moved-put_hit order done hit)))
 
--- the first k come before all others
+-- a hit that is not among the first k comes after them
 first_ones : (order : Order) (k : ℕ) (all : List Hit) (other : Hit) → AllPairs (Before order) all → Contains all other → ¬ Contains (take k all) other →
     All (λ member. Before order member other) (take k all)
 first_ones order k all other sorted at out =
@@ -206,7 +206,7 @@ first_ones order k all other sorted at out =
     subst P (get_or_default all i other d within ∙ sym (get_or-take k all i d here)) (subst Q at.2 (sorted i at.0 other (omega arith) at.1)))
     (cases_lt at.0 k)
 
--- the top list is one
+-- the first k hits are a top list
 pub top-IsTop : (k : ℕ) (order : Order) (field : ℕ) (hits : List (Stamped DocumentValue)) → HasEachStampOnce hits →
     IsTop k order field hits (top k order field hits)
 top-IsTop k order field hits once =
@@ -233,7 +233,7 @@ top-IsTop k order field hits once =
       first = λ other at out. first_ones order k all other sorted (Contains-permutation found all other moved at) out;
     }
 
--- a hit is in a list, or behind all of it
+-- a hit is in a list, or after all of it
 abbrev IsInOrBehind : Order → List Hit → Hit → Type 0
 IsInOrBehind order list hit = Contains list hit ⊎ All (λ member. Before order member hit) list
 
@@ -247,7 +247,7 @@ head_of order x y ys sorted h =
     (λ (behind : All (λ member. Before order member x) (y ∷ ys)). inr (All-head (λ member. Before order member x) y ys behind))
     h
 
--- two top lists have one first member
+-- two top lists have the same first member
 same_head : (order : Order) (x y : Hit) (xs ys : List Hit) → AllPairs (Before order) (x ∷ xs) → AllPairs (Before order) (y ∷ ys) →
     IsInOrBehind order (y ∷ ys) x → IsInOrBehind order (x ∷ xs) y → x ≡ y
 same_head order x y xs ys p q h l =
@@ -256,7 +256,7 @@ same_head order x y xs ys p q h l =
     (head_of order y x xs p l))
     (head_of order x y ys q h)
 
--- what comes behind the first member is behind it in the list, or behind all
+-- a hit after the first member is in the rest of the list, or after all of it
 behind_head : (order : Order) (x y : Hit) (ys : List Hit) (z : Hit) → x ≡ y → Before order x z → IsInOrBehind order (y ∷ ys) z → IsInOrBehind order ys z
 behind_head order x y ys z same up h =
     ⊎_elim
@@ -267,7 +267,7 @@ behind_head order x y ys z same up h =
     (λ (behind : All (λ member. Before order member z) (y ∷ ys)). inr (All-tail (λ member. Before order member z) y ys behind))
     h
 
--- two lists of one length, each with the members of the other in it or behind it, are one
+-- two lists of one length are equal if each has the members of the other in it or after it
 one_list : (order : Order) (xs ys : List Hit) → length xs ≡ length ys → AllPairs (Before order) xs → AllPairs (Before order) ys →
     All (IsInOrBehind order ys) xs → All (IsInOrBehind order xs) ys → xs ≡ ys
 one_list order [] [] len p q h l = refl
@@ -282,7 +282,7 @@ one_list order (x ∷ xs) (y ∷ ys) len p q h l =
     (λ k d lt. behind_head order y x xs (get_or ys k d) (sym same) (down k d lt) (All-tail (IsInOrBehind order (x ∷ xs)) y ys l k d lt)) in
     ap (λ z. z ∷ xs) same ∙ ap (λ zs. y ∷ zs) rest
 
--- hits with one stamp are one
+-- hits with one stamp are equal
 same_hit : (all : List Hit) (a b : Hit) → AllPairs Apart all → Contains all a → Contains all b → a.stamp ≡ b.stamp → a ≡ b
 same_hit all a b once x y e =
     ⊎_elim
@@ -294,7 +294,7 @@ same_hit all a b once x y e =
     (once y.0 x.0 b down x.1 (ap (λ (h : Hit). h.stamp) y.2 ∙ sym e ∙ ap (λ (h : Hit). h.stamp) (sym x.2 ∙ get_or_default all x.0 a b x.1)))))
     (cases_order x.0 y.0)
 
--- each hit is in a top list or behind it
+-- each hit is in a top list or after it
 in_or_behind : (k : ℕ) (order : Order) (field : ℕ) (hits : List (Stamped DocumentValue)) (list : List Hit) (hit : Hit) → AllPairs Apart (hits_in field hits) →
     IsTop k order field hits list → Contains (hits_in field hits) hit → IsInOrBehind order list hit
 in_or_behind k order field hits list hit once is at =
@@ -312,7 +312,7 @@ in_or_behind k order field hits list hit once is at =
     let contra : true ≡ false = sym yes ∙ no in cc)))
     (cases_Bool (list_any (λ (h : Hit). h.stamp == hit.stamp) list))
 
--- there is one top list
+-- only one list is the top list
 pub IsTop-one : (k : ℕ) (order : Order) (field : ℕ) (hits : List (Stamped DocumentValue)) (a b : List Hit) → HasEachStampOnce hits →
     IsTop k order field hits a → IsTop k order field hits b → a ≡ b
 IsTop-one k order field hits a b once p q =

@@ -1,4 +1,4 @@
--- The members of each object in what is read are in the order of their names.
+-- The members of each object that is read are in the order of their names.
 use Rattle.std.proofs.Common.{◌≡◌, ℕ, List, [], ◌∷◌, Option, Some, None, IfSome, refl, ap, subst, ◌∙◌, option_map, All, Ordering, Less, Equal, Greater, nat_cmp}
 use Rattle.std.specs.Prelude.{⊤}
 use Rattle.std.specs.Option.{option_and_then}
@@ -15,11 +15,11 @@ use Rattle.fts_model.specs.Documents.{member_names, NamesRise}
 use Rattle.fts_scan.specs.Names.{NamesRiseWithin, NamesRiseInItems, NamesRiseInMembers}
 use Rattle.fts_model.proofs.Lists.{pairs_behind, pairs_front, pairs_none}
 
--- one name stands before another
+-- one name comes before another
 abbrev Before : List ℕ → List ℕ → Type 0
 Before a b = slice_cmp nat_cmp a b ≡ Less
 
--- what holds of the names of members and of one more holds where that is put by its order to the first
+-- a property of the names of members and of one more holds after that is inserted, by its order and the first one's
 all_at : (P : List ℕ → Type 0) (o : Ordering) (k l : List ℕ) (d e : Data) (ms : Members) → P k → P l → All P (member_names ms) →
     All P (member_names (put k d ms)) →
     All P (member_names (match_ordering o (member k d (member l e ms)) (member l d ms) (member l e (put k d ms))))
@@ -27,14 +27,14 @@ all_at P Less k l d e ms p q rest later = All-cons P k (l ∷ member_names ms) p
 all_at P Equal k l d e ms p q rest later = All-cons P l (member_names ms) q rest
 all_at P Greater k l d e ms p q rest later = All-cons P l (member_names (put k d ms)) q later
 
--- what holds of a name and of those of some members holds of those with one put among them
+-- a property of the names of members and of one more holds after that is inserted
 All-put : (P : List ℕ → Type 0) (k : List ℕ) (d : Data) (ms : Members) → P k → All P (member_names ms) → All P (member_names (put k d ms))
 All-put P k d no_members p ps = All-cons P k [] p (All-nil P)
 All-put P k d (member l e ms) p ps =
     let rest = All-tail P l (member_names ms) ps in
     all_at P (slice_cmp nat_cmp k l) k l d e ms p (All-head P l (member_names ms) ps) rest (All-put P k d ms p rest)
 
--- names that rise do so with one put at its place
+-- rising names rise after one is inserted, by its order and the first one's
 rise_at : (o : Ordering) (k l : List ℕ) (d e : Data) (ms : Members) → slice_cmp nat_cmp k l ≡ o → NamesRise (member l e ms) → NamesRise (put k d ms) →
     NamesRise (match_ordering o (member k d (member l e ms)) (member l d ms) (member l e (put k d ms)))
 rise_at Less k l d e ms c rise later =
@@ -46,16 +46,16 @@ rise_at Greater k l d e ms c rise later =
     let up : Before l k = nat_list_cmp_total.antisymm l k ∙ ap ordering_reverse c in
     AllPairs-cons Before l (member_names (put k d ms)) (All-put (Before l) k d ms up (pairs_front Before l (member_names ms) rise)) later
 
--- names that rise do so with one more
+-- rising names rise after one is inserted
 rise-put : (k : List ℕ) (d : Data) (ms : Members) → NamesRise ms → NamesRise (put k d ms)
 rise-put k d no_members rise = AllPairs-cons Before k [] (All-nil (Before k)) (pairs_none Before)
 rise-put k d (member l e ms) rise = rise_at (slice_cmp nat_cmp k l) k l d e ms refl rise (rise-put k d ms (pairs_behind Before l (member_names ms) rise))
 
--- what holds of the names and the values of an object's members
+-- the names of an object's members rise, and so do those within the values
 abbrev MembersRise : Members → Type 0
 MembersRise ms = NamesRise ms × NamesRiseInMembers ms
 
--- values of which it holds have it with one put among them
+-- names rise within each value after one more is inserted, by its order and the first one's
 values_at : (o : Ordering) (k l : List ℕ) (d e : Data) (ms : Members) → NamesRiseWithin d → NamesRiseInMembers (member l e ms) →
     NamesRiseInMembers (put k d ms) →
     NamesRiseInMembers (match_ordering o (member k d (member l e ms)) (member l d ms) (member l e (put k d ms)))
@@ -67,7 +67,7 @@ values-put : (k : List ℕ) (d : Data) (ms : Members) → NamesRiseWithin d → 
 values-put k d no_members r rs = (r, tt)
 values-put k d (member l e ms) r rs = values_at (slice_cmp nat_cmp k l) k l d e ms r rs (values-put k d ms r rs.1)
 
--- what holds of a value, if there is one, goes on to what is made of it
+-- a property of an optional value gives one of its image
 mapped : {A B : Type 0} (f : A → B) (P : A → Type 0) (Q : B → Type 0) (o : Option A) → ((a : A) → P a → Q (f a)) → IfSome o P → IfSome (option_map f o) Q
 mapped f P Q None goes h = tt
 mapped f P Q (Some a) goes h = goes a h
@@ -81,7 +81,7 @@ any : {A : Type 0} (o : Option A) → IfSome o (λ a. ⊤)
 any None = tt
 any (Some a) = tt
 
--- the names rise in each object of what is read, where they do in the members that were found before
+-- the names rise in each object that is read, if they do in the members that were read before
 mutual
   json_rises : (j : json.Json) → IfSome (of_json j) NamesRiseWithin
   json_rises json.null = tt
@@ -104,7 +104,7 @@ mutual
       bound (λ d. of_members js (put k d found)) NamesRiseWithin MembersRise (of_json j)
       (λ d r. members_rise js (put k d found) (rise-put k d found rise.0, values-put k d found r rise.1)) (json_rises j)
 
--- the names rise in each object of what a text is read as
+-- the names rise in each object of a text that is read
 pub read-NamesRiseWithin : (text : List ℕ) (d : Data) → read text ≡ Some d → NamesRiseWithin d
 read-NamesRiseWithin text d h =
     let tree = option_and_then (λ p. json.if_last p.0 p.1) (json.value max_depth (tokens text)) in

@@ -1,4 +1,4 @@
--- Loops over the tokens of texts that look for one which passes a test.
+-- Loops that look for a token of texts that passes a test.
 use Rattle.std.proofs.Common.{◌≡◌, ◌≤◌, ◌<◌, ◌^◌, ℕ, suc, ◌+◌, Bool, true, false, ◌||◌, List, [], ◌∷◌, length, map, drop, get_or, refl, sym, ap, subst, ◌∙◌}
 use Rattle.std.proofs.Common.{arith, All, Some, None}
 use Rattle.std.specs.List.{list_any}
@@ -14,14 +14,14 @@ use Rattle.fts_text.proofs.StretchLemmas.{All-IsPlaceFrom, tokens-places}
 use Rattle.fts_model.specs.Documents.{bytes_of}
 use Rattle.fts_scan.specs.Scans.{HasRoom, IsSought}
 
--- what is left of a text: its places stand in it, a token passes the test where one that is left does, and what follows is
--- known
+-- a loop over the rest of a text: its places are in the text, a token of the text passes the test if one of the rest
+-- does, and the next text's first number is known
 pub record Seeks (first : ℕ) (text : List ℕ) (test : ℕ × List ℕ → Bool) (left : Tokens) : Type 0 where
   pub within : All (IsPlaceFrom first text) (places_left left)
   pub passes : list_any test (map (token_at text) (places_left left)) ≡ list_any test (tokens_from first text)
   pub follows : following_left left ≡ following first text
 
--- at first all places are left
+-- at the start the rest has all places
 pub Seeks-start : (first : ℕ) (text : List ℕ) (test : ℕ × List ℕ → Bool) (left : Tokens) → IsUtf8 text → places_left left ≡ places_from first text →
     following_left left ≡ following first text →
     Seeks first text test left
@@ -33,7 +33,7 @@ Seeks-start first text test left utf8 start follows =
       follows = follows;
     }
 
--- the next place stands in the text
+-- the next place is in the text
 pub Seeks-place : (first : ℕ) (text : List ℕ) (test : ℕ × List ℕ → Bool) (token : Token) (left rest : Tokens) → places_left left ≡ token ∷ places_left rest →
     Seeks first text test left →
     IsPlaceFrom first text token
@@ -41,20 +41,20 @@ Seeks-place first text test token left rest next s =
     let P : List Token → Type 0 = All (IsPlaceFrom first text) in
     subst P next s.within 0 token (omega arith)
 
--- a token passes where the next does, or one behind it
+-- a token passes if the next or a later one does
 any_of_first : (first : ℕ) (text : List ℕ) (test : ℕ × List ℕ → Bool) (token : Token) (left rest : Tokens) (b : Bool) →
     places_left left ≡ token ∷ places_left rest → test (token_at text token) ≡ b →
     Seeks first text test left → (b || list_any test (map (token_at text) (places_left rest))) ≡ list_any test (tokens_from first text)
 any_of_first first text test token left rest b next e s =
     ap (λ b. b || list_any test (map (token_at text) (places_left rest))) (sym e) ∙ ap (λ ps. list_any test (map (token_at text) ps)) (sym next) ∙ s.passes
 
--- where the next passes, one does
+-- if the next token passes, some token does
 pub Seeks-found : (first : ℕ) (text : List ℕ) (test : ℕ × List ℕ → Bool) (token : Token) (left rest : Tokens) → places_left left ≡ token ∷ places_left rest →
     test (token_at text token) ≡ true →
     Seeks first text test left → list_any test (tokens_from first text) ≡ true
 Seeks-found first text test token left rest next e s = sym (any_of_first first text test token left rest true next e s)
 
--- where it doesn't, one is sought behind it
+-- if the next token fails, the loop goes on after it
 pub Seeks-next : (first : ℕ) (text : List ℕ) (test : ℕ × List ℕ → Bool) (token : Token) (left rest : Tokens) → places_left left ≡ token ∷ places_left rest →
     following_left rest ≡ following_left left →
     test (token_at text token) ≡ false → Seeks first text test left → Seeks first text test rest
@@ -66,29 +66,29 @@ Seeks-next first text test token left rest next same e s =
       follows = same ∙ s.follows;
     }
 
--- where none is left, none passes
+-- if no token is left, none passes
 pub Seeks-end : (first : ℕ) (text : List ℕ) (test : ℕ × List ℕ → Bool) (left : Tokens) → places_left left ≡ [] → Seeks first text test left →
     list_any test (tokens_from first text) ≡ false
 Seeks-end first text test left none s = sym s.passes ∙ ap (λ ps. list_any test (map (token_at text) ps)) none
 
--- what is left of texts, from number `n` on, of which the next begins at `first`: a token passes the test where one of theirs
--- does
+-- a loop over texts from number `n`, whose spans are numbered from `first`: a token of all texts passes the test if one
+-- of these does
 pub record SeeksOn (texts : List (List ℕ)) (test : ℕ × List ℕ → Bool) (n first : ℕ) : Type 0 where
   pub room : HasRoom first (drop n texts)
   pub passes : list_any test (tokens_of_texts first (drop n texts)) ≡ list_any test (tokens_of_texts 0 texts)
 
--- at first all texts are left
+-- at the start all texts are left
 pub SeeksOn-start : (texts : List (List ℕ)) (test : ℕ × List ℕ → Bool) → HasRoom 0 texts → SeeksOn texts test 0 0
 SeeksOn-start texts test room = record { room = room; passes = refl }
 
--- the next of them has room
+-- the spans of the next text have numbers below 2 ^ 64
 pub SeeksOn-room : (texts : List (List ℕ)) (test : ℕ × List ℕ → Bool) (n first : ℕ) → n < length texts → SeeksOn texts test n first →
     first + length (get_or texts n []) + 2 < 2 ^ 63
 SeeksOn-room texts test n first inside s =
     let here : HasRoom first (get_or texts n [] ∷ drop (n + 1) texts) = subst (HasRoom first) (drop_more texts n [] inside) s.room in
     omega (arith, here, sum_by-cons {X = List ℕ} length (get_or texts n []) (drop (n + 1) texts))
 
--- a token passes where one of the next text does, or one of those behind it
+-- a token passes if one of the next text or of a later one does
 any_of_text : (texts : List (List ℕ)) (test : ℕ × List ℕ → Bool) (n first : ℕ) → n < length texts → SeeksOn texts test n first →
     list_any test (tokens_from first (get_or texts n [])) || list_any test (tokens_of_texts (following first (get_or texts n [])) (drop (n + 1) texts))
     ≡ list_any test (tokens_of_texts 0 texts)
@@ -96,14 +96,14 @@ any_of_text texts test n first inside s =
     sym (list_any-append test (tokens_from first (get_or texts n [])) (tokens_of_texts (following first (get_or texts n [])) (drop (n + 1) texts)))
     ∙ ap (λ ts. list_any test (tokens_of_texts first ts)) (sym (drop_more texts n [] inside)) ∙ s.passes
 
--- where one of the next text does, one does
+-- if a token of the next text passes, some token does
 pub SeeksOn-found : (texts : List (List ℕ)) (test : ℕ × List ℕ → Bool) (n first : ℕ) → n < length texts → SeeksOn texts test n first →
     IsSought (list_any test (tokens_from first (get_or texts n []))) (following first (get_or texts n [])) None → true ≡ list_any test (tokens_of_texts 0 texts)
 SeeksOn-found texts test n first inside s found =
     ap (λ b. b || list_any test (tokens_of_texts (following first (get_or texts n [])) (drop (n + 1) texts))) (sym found)
     ∙ any_of_text texts test n first inside s
 
--- where none does, one is sought behind it
+-- if no token of the next text passes, the loop goes on after it
 pub SeeksOn-next : (texts : List (List ℕ)) (test : ℕ × List ℕ → Bool) (n first next : ℕ) → n < length texts → SeeksOn texts test n first →
     IsSought (list_any test (tokens_from first (get_or texts n []))) (following first (get_or texts n [])) (Some next) →
     next ≤ first + length (get_or texts n []) + 1 → SeeksOn texts test (n + 1) next
@@ -116,11 +116,11 @@ SeeksOn-next texts test n first next inside s sought near =
           ∙ any_of_text texts test n first inside s;
     }
 
--- where no text is left, none passes
+-- if no text is left, no token passes
 pub SeeksOn-end : (texts : List (List ℕ)) (test : ℕ × List ℕ → Bool) (n first : ℕ) → length texts ≤ n → SeeksOn texts test n first →
     false ≡ list_any test (tokens_of_texts 0 texts)
 SeeksOn-end texts test n first past s = ap (λ ts. list_any test (tokens_of_texts first ts)) (sym (drop_all n texts past)) ∙ s.passes
 
--- the texts of a document have room
+-- the spans of a document's texts have numbers below 2 ^ 64
 pub HasRoom-short : (texts : List (List ℕ)) → (length texts ≤ 1024) × (bytes_of texts ≤ 1048576) → HasRoom 0 texts
 HasRoom-short texts short = omega (arith, short.0, short.1)

@@ -1,5 +1,5 @@
-// The answer over the documents that are alive: the hits are counted, their values in the field of the groups are
-// sorted, so that equal ones stand together, and the top list takes the hits one by one.
+// The answer over live documents: the hits are counted, their values in the field of the groups are sorted so that
+// equal ones are adjacent, and the hits are inserted into the top list one by one.
 ghost use Rattle.std.specs.Prelude.{◌≡◌, ◌++◌, ◌∷◌, [], IfOk, OnOk, Ok, option_map, option_to_list};
 ghost use Rattle.std.specs.Prelude.{fold, take};
 ghost use Rattle.fts_base.specs.Results.{Gives};
@@ -18,7 +18,7 @@ use itertools::Itertools;
 use std::alloc::{AllocError, Global};
 use std::cmp::Ordering;
 
-/// Adds a copy of a document, which shares it.
+/// Appends a copy of a document; the copy shares its data.
 fn push_copy(
     documents: &mut Vec<Stamped<Document>>,
     document: &Stamped<Document>,
@@ -31,7 +31,7 @@ fn push_copy(
     Ok(())
 }
 
-/// Adds a copy of a document, if a query matches it.
+/// Appends a copy of a document if a query matches it.
 fn push_if_hit(
     schema: &Schema,
     query: &Query,
@@ -66,7 +66,7 @@ fn hits(
     Ok(hits)
 }
 
-/// The number that a document has in a field.
+/// The number of a document in a field, if it has one.
 fn number_in_field(document: &Document, field: usize) -> Option<Number>
     ensures { result ≡ number_in_field document.now field }
 {
@@ -76,7 +76,7 @@ fn number_in_field(document: &Document, field: usize) -> Option<Number>
     }
 }
 
-/// Puts the value that a hit has in a field after others, if it has one.
+/// Appends the value of a hit in a field, if it has one.
 fn push_value(
     values: &mut Vec<GroupValue>,
     field: usize,
@@ -97,7 +97,7 @@ fn push_value(
     }
 }
 
-/// The values that hits have in a field.
+/// The values of the hits in a field.
 fn values_in(
     alloc: Global,
     field: usize,
@@ -112,7 +112,7 @@ fn values_in(
     Ok(values)
 }
 
-/// The counts of values that are in order: equal values are counted together.
+/// Counts runs of equal values in a sorted list.
 fn counts_of_sorted(
     alloc: Global,
     values: Vec<GroupValue>,
@@ -126,7 +126,7 @@ fn counts_of_sorted(
         .collect(alloc)
 }
 
-/// The values that hits have in a field, rising, each with the number of hits that have it.
+/// Each value of the hits in a field, rising, with the number of hits that have it.
 fn groups(
     alloc: Global,
     field: usize,
@@ -150,7 +150,7 @@ fn comes_before(order: Order, a: &Hit, b: &Hit) -> bool
     }
 }
 
-/// How many hits of a list come before the first that a hit comes before.
+/// The number of hits in an ordered list before the first that `hit` comes before.
 fn hit_place(order: Order, hits: &[Hit], hit: &Hit) -> usize
     ensures { result ≡ hit_place order hits.now hit.now }
 {
@@ -162,7 +162,7 @@ fn hit_place(order: Order, hits: &[Hit], hit: &Hit) -> usize
     hits.len()
 }
 
-/// Puts a hit into a list of at most this many, and drops what is then too many.
+/// Inserts a hit into an ordered list of at most `k`, and drops the last if the list becomes longer.
 fn put_hit(order: Order, k: u64, hits: &mut Vec<Hit>, hit: Hit) -> Result<(), AllocError>
     ensures { OnOk result (hits.new.items ≡ take k (put_hit order hits.old.items hit)) }
 {
@@ -172,7 +172,7 @@ fn put_hit(order: Order, k: u64, hits: &mut Vec<Hit>, hit: Hit) -> Result<(), Al
     Ok(())
 }
 
-/// A hit of a top list by a field, if the document has a number there.
+/// The document as a hit of a top list by a field, if it has a number in the field.
 fn hit_in(field: usize, hit: &Stamped<Document>) -> Result<Option<Hit>, AllocError>
     ensures { IfOk result (λ found. found ≡ hit_in field hit.now) }
 {
@@ -188,7 +188,7 @@ fn hit_in(field: usize, hit: &Stamped<Document>) -> Result<Option<Hit>, AllocErr
     }))
 }
 
-/// Puts a hit into a top list, if it has a number in its field.
+/// Inserts a document into a top list, if it has a number in its field.
 fn take_hit(top: Top, list: &mut Vec<Hit>, hit: &Stamped<Document>) -> Result<(), AllocError>
     ensures { OnOk result (list.new.items
         ≡ fold (λ hits h. take top.k (put_hit top.order hits h)) list.old.items
@@ -200,7 +200,7 @@ fn take_hit(top: Top, list: &mut Vec<Hit>, hit: &Stamped<Document>) -> Result<()
     }
 }
 
-/// The first hits that have a number in a field.
+/// The first hits that have a number in the top list's field.
 fn top(alloc: Global, wanted: Top, hits: &[Stamped<Document>]) -> Result<Vec<Hit>, AllocError>
     ensures { IfOk result (λ list. list.items ≡ top wanted.k wanted.order wanted.by hits.now) }
 {
@@ -211,7 +211,7 @@ fn top(alloc: Global, wanted: Top, hits: &[Stamped<Document>]) -> Result<Vec<Hit
     Ok(list)
 }
 
-/// The groups that are asked for.
+/// The groups, if the request asks for them.
 fn asked_groups(
     alloc: Global,
     request: &Request,
@@ -227,7 +227,7 @@ fn asked_groups(
     }
 }
 
-/// The top list that is asked for.
+/// The top list, if the request asks for one.
 fn asked_top(
     alloc: Global,
     request: &Request,
@@ -243,8 +243,7 @@ fn asked_top(
     }
 }
 
-/// The answer to a query and a request over documents in the order of their stamps. The only
-/// refusal is `Memory`.
+/// The answer to a query and a request over documents in the order of their stamps. The only refusal is `Memory`.
 pub fn answer(
     alloc: Global,
     schema: &Schema,

@@ -1,4 +1,4 @@
-//! What ties the definitions to each other: each contract is a law, and the body is empty.
+//! Laws that tie the definitions to each other: each contract is a law, and the body is empty.
 ghost use Rattle.serde_json.specs.Data.{Data};
 ghost use Rattle.serde_json.specs.Read.{read};
 ghost use Rattle.std.specs.Prelude.{◌≡◌, Some, ◌↔◌, ◌++◌, ◌<◌, ℕ, List, false, filter, All, Contains, IsTrue};
@@ -15,40 +15,38 @@ ghost use Rattle.fts_model.specs.declared.answer.Hit.{Hit};
 ghost use Rattle.fts_model.specs.declared.query.Order.{Order};
 ghost use Rattle.fts_model.specs.declared.value.GroupValue.{GroupValue};
 
-/// The members of each object in what a text is read as are in the order of their names, so the first fault of a
+/// When a text is read as JSON, the members of each object are in the order of their names. So the first fault of a
 /// document, also of one within a command, is the first in that order.
 pub fn members_stand_in_the_order_of_their_names()
     ensures { (text : List ℕ) (value : Data) → read text ≡ Some value → NamesRiseWithin value }
 {}
 
-/// The documents that are alive after some operations stand for these: with more operations after,
-/// that is alive which would be if the documents alone had been added.
+/// The documents alive after some operations can replace these operations: after any more operations, those are alive
+/// that would be alive if only these documents had been added before.
 pub fn alive_stands_for_history()
     ensures { (schema : List Field) (before after : List (Stamped Op)) →
         alive schema (before ++ after) ≡ alive schema (adds (alive schema before) ++ after) }
 {}
 
-/// No stamp occurs twice among the documents alive, if none does among the operations.
+/// No stamp occurs twice among the documents alive if none does among the operations.
 pub fn alive_has_each_stamp_once()
     ensures { (schema : List Field) (ops : List (Stamped Op)) → HasEachStampOnce ops →
         HasEachStampOnce (alive schema ops) }
 {}
 
-/// The stamps of the documents alive rise, where those of the operations do.
+/// The stamps of the documents alive rise if those of the operations do.
 pub fn alive_is_in_the_order_of_stamps()
     ensures { (schema : List Field) (ops : List (Stamped Op)) → StampsRise ops →
         StampsRise (alive schema ops) }
 {}
 
-/// Where the stamps rise, those documents are alive that are added and not struck by an operation
-/// of a later stamp.
+/// If the stamps rise, those documents are alive that are added and not deleted by an operation of a later stamp.
 pub fn alive_is_what_survives()
     ensures { (schema : List Field) (ops : List (Stamped Op)) → StampsRise ops →
         alive schema ops ≡ filter (survives schema ops) (added ops) }
 {}
 
-/// Where the stamps rise, a document is alive exactly if an operation adds it and none of a
-/// later stamp strikes it.
+/// If the stamps rise, a document is alive exactly if an operation adds it and none of a later stamp deletes it.
 pub fn each_document_alive_was_added_and_not_struck()
     ensures { (schema : List Field) (ops : List (Stamped Op)) (document : Stamped DocumentValue) →
         StampsRise ops →
@@ -57,33 +55,32 @@ pub fn each_document_alive_was_added_and_not_struck()
         × All (λ op. document.stamp < op.stamp → strikes schema op.value document.value ≡ false) ops) }
 {}
 
-/// A phrase stands among tokens where each of its members is a token, at its offset from some one
-/// position, which may be before the first.
+/// A phrase occurs among tokens if each of its members is a token at its offset from one common position, which may be
+/// before the first.
 pub fn phrase_stands_at_its_offsets()
     ensures { (tokens : List (ℕ × List ℕ)) (pattern : List (ℕ × List ℕ)) →
         IsTrue (phrase_in tokens pattern) ↔ PhraseIn tokens pattern }
 {}
 
-/// The groups that are folded hit by hit are the groups.
+/// The groups that are computed hit by hit satisfy the definition of groups.
 pub fn groups_are_groups()
     ensures { (field : ℕ) (hits : List (Stamped DocumentValue)) →
         IsGroups field hits (groups field hits) }
 {}
 
-/// There is one list of groups.
+/// Only one list satisfies the definition of groups.
 pub fn there_is_one_list_of_groups()
     ensures { (field : ℕ) (hits : List (Stamped DocumentValue)) (a b : List (GroupValue × ℕ)) →
         IsGroups field hits a → IsGroups field hits b → a ≡ b }
 {}
 
-/// The first hits that have a number in a field are the top list, where no stamp occurs twice among
-/// the hits.
+/// The first hits that have a number in a field are the top list, if no stamp occurs twice among the hits.
 pub fn top_is_a_top_list()
     ensures { (k : ℕ) (order : Order) (field : ℕ) (hits : List (Stamped DocumentValue)) →
         HasEachStampOnce hits → IsTop k order field hits (top k order field hits) }
 {}
 
-/// There is at most one top list, where no stamp occurs twice among the hits.
+/// At most one list is the top list, if no stamp occurs twice among the hits.
 pub fn there_is_one_top_list()
     ensures { (k : ℕ) (order : Order) (field : ℕ) (hits : List (Stamped DocumentValue))
         (a b : List Hit) → HasEachStampOnce hits →

@@ -1,8 +1,8 @@
-//! The plain, slow search, and the laws of what it finds.
+//! The search that scans every document, and the laws of its results.
 //!
-//! [`alive`] applies each operation, [`matches`] and [`answer`] look at each document, one after the
-//! other. Their contracts are the definitions of `fts_model`, so they are what every faster way is
-//! compared with. [`laws`] ties these definitions to each other.
+//! [`alive`] applies each operation in turn, and [`matches`] and [`answer`] look at each document. Their contracts are
+//! the definitions of `fts_model`, so every faster search is compared with them. [`laws`] ties these definitions to
+//! each other.
 //!
 //! ```text
 //! let ops = vec![in alloc; Stamped { stamp: 1, value: Op::Add(document) }]?;

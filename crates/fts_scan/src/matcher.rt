@@ -1,4 +1,4 @@
-// Whether a query matches a document. A text is gone over once for each term or member of a phrase.
+// Decides whether a query matches a document. A text is tokenized once for each term or member of a phrase.
 ghost use Rattle.std.specs.Prelude.{◌≡◌, ◌+◌, ◌^◌, ◌<◌, ◌≤◌, ◌==◌, ◌&&◌, ℕ, List, IfOk, IfSome, Ok, length};
 ghost use Rattle.std.specs.List.{list_any};
 ghost use Rattle.std.specs.Str.{bytes_eq};
@@ -19,7 +19,7 @@ use fts_text::{Token, Tokens};
 use std::alloc::{AllocError, Global};
 use std::ops::Bound;
 
-/// Whether the token at a place is this one, and its position with an offset makes this sum.
+/// Whether the token at a place is this one, and its position plus an offset is this sum.
 fn is_token_at(
     text: &str,
     place: Token,
@@ -41,8 +41,8 @@ fn is_token_at(
     is_token(text, place, token, scratch)
 }
 
-/// Looks for a token of a text whose first span has this number, whose position with an offset makes this sum. Where it
-/// isn't there, the text after begins at the number that comes back.
+/// Looks for a token whose position plus an offset is this sum, in a text whose spans are numbered from `first`. If it
+/// isn't found, the result is the first number of the next text.
 fn seek_token_at(
     text: &str,
     first: usize,
@@ -67,7 +67,7 @@ fn seek_token_at(
 }
 
 /// Whether another member of a pattern is a token of these texts, as far after the position of a member as their
-/// offsets are apart.
+/// offsets differ.
 fn stands_with(
     texts: Strings<'_>,
     member: &(u32, Text),
@@ -93,7 +93,8 @@ fn stands_with(
     Ok(false)
 }
 
-/// Whether the token at a place of one of these texts is the first member of a pattern, and the others stand with it.
+/// Whether the token at a place of one of these texts is the first member of a pattern, and the others are at their
+/// offsets from it.
 fn leads(
     texts: Strings<'_>,
     text: &str,
@@ -120,7 +121,7 @@ fn leads(
     Ok(true)
 }
 
-/// Whether some token of these texts is the first member of a pattern, and the others stand with it.
+/// Whether some token of these texts is the first member of a pattern, and the others are at their offsets from it.
 fn any_leads(
     texts: Strings<'_>,
     first: &(u32, Text),
@@ -147,7 +148,7 @@ fn any_leads(
     Ok(false)
 }
 
-/// Whether a phrase is in these texts.
+/// Whether a phrase occurs in these texts.
 fn has_phrase(
     texts: Strings<'_>,
     pattern: &[(u32, Text)],
@@ -163,7 +164,7 @@ fn has_phrase(
     }
 }
 
-/// Whether a value has a phrase.
+/// Whether a value contains a phrase.
 fn value_has_phrase(
     value: &FieldValue,
     pattern: &[(u32, Text)],
@@ -179,7 +180,7 @@ fn value_has_phrase(
     }
 }
 
-/// Whether one number is below another of its kind.
+/// Whether one number is less than another of its kind.
 fn number_lt(a: Number, b: Number) -> bool
     ensures { result ≡ number_lt a b }
 {
@@ -190,7 +191,7 @@ fn number_lt(a: Number, b: Number) -> bool
     }
 }
 
-/// Whether one number is not above another of its kind.
+/// Whether one number is at most another of its kind.
 fn number_le(a: Number, b: Number) -> bool
     ensures { result ≡ number_le a b }
 {
@@ -201,21 +202,21 @@ fn number_le(a: Number, b: Number) -> bool
     }
 }
 
-/// Whether one text is before another in the order of their bytes.
+/// Whether one text is before another by their bytes.
 fn text_lt(a: &str, b: &str) -> bool
     ensures { result ≡ text_lt a.now b.now }
 {
     a < b
 }
 
-/// Whether one text is not after another in the order of their bytes.
+/// Whether one text is not after another by their bytes.
 fn text_le(a: &str, b: &str) -> bool
     ensures { result ≡ text_le a.now b.now }
 {
     a <= b
 }
 
-/// Whether one value is below another of its kind.
+/// Whether one value is before another of its kind.
 fn value_lt(a: &FieldValue, b: &FieldValue) -> bool
     ensures { result ≡ value_lt a.now b.now }
 {
@@ -226,7 +227,7 @@ fn value_lt(a: &FieldValue, b: &FieldValue) -> bool
     }
 }
 
-/// Whether one value is not above another of its kind.
+/// Whether one value is not after another of its kind.
 fn value_le(a: &FieldValue, b: &FieldValue) -> bool
     ensures { result ≡ value_le a.now b.now }
 {
@@ -305,7 +306,7 @@ pub(crate) fn query_matches(
     }
 }
 
-/// Whether one of these queries is found to be `wanted` of a document: that it matches, or that it doesn't.
+/// Whether one of these queries has the result `wanted` for a document: true if it matches, false if it doesn't.
 #[cycle(matches)]
 fn one_is(
     schema: &Schema,

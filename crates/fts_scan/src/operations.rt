@@ -1,4 +1,4 @@
-// Which documents are alive after operations. Each operation is applied, one after the other.
+// The documents alive after operations, which are applied one after the other.
 ghost use Rattle.std.specs.Prelude.{◌≡◌, ◌++◌, ◌∷◌, [], IfOk, Ok, not, filter};
 ghost use Rattle.fts_base.specs.Results.{Gives};
 ghost use Rattle.fts_model.specs.Operations.{has, strikes, alive};
@@ -7,7 +7,7 @@ use crate::terms::document_has;
 use fts_model::{Document, Op, Refusal, Schema, Stamped, Term};
 use std::alloc::{AllocError, Global};
 
-/// The documents without those that have a term.
+/// The documents that do not have a term.
 fn strike(
     alloc: Global,
     schema: &Schema,
@@ -27,7 +27,7 @@ fn strike(
     Ok(left)
 }
 
-/// What is alive after one more operation.
+/// The documents alive after one more operation.
 fn after(
     alloc: Global,
     schema: &Schema,
@@ -52,11 +52,10 @@ fn after(
     }
 }
 
-/// The documents that are alive after operations in the order of their stamps, each with its own
-/// stamp.
+/// The documents alive after operations in the order of their stamps, each with its own stamp.
 ///
-/// An add costs the same whatever stands around it, a delete goes over each document that is alive
-/// before it. The only refusal is `Memory`.
+/// The cost of an add doesn't depend on the other operations; a delete looks at each document that is alive before it.
+/// The only refusal is `Memory`.
 pub fn alive(
     alloc: Global,
     schema: &Schema,

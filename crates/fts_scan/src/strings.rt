@@ -12,7 +12,7 @@ pub(crate) enum Strings<'a> {
 }
 
 impl<'a> Strings<'a> {
-    /// How many texts there are.
+    /// The number of texts.
     pub(crate) fn len(self) -> usize
         ensures { result ≡ length (strings self.entry) }
     {
@@ -22,7 +22,7 @@ impl<'a> Strings<'a> {
         }
     }
 
-    /// The text of this number, and no bytes if there is none.
+    /// The text of this number, or an empty text if there is none.
     pub(crate) fn get(self, number: usize) -> &'a str
         ensures { result.now ≡ slice_index_or (strings self.entry) number [] }
     {

@@ -1,4 +1,5 @@
-// Whether a document has a term. Its text is gone over once, and its tokens are folded, one at a time, into one buffer.
+// Decides whether a document has a term. Its text is tokenized once, and its tokens are folded, one at a time, into one
+// buffer.
 ghost use Rattle.std.specs.Prelude.{◌≡◌, ◌+◌, ◌^◌, ◌<◌, ◌≤◌, IfOk, IfSome, Ok, length};
 ghost use Rattle.std.specs.Str.{bytes_eq};
 ghost use Rattle.fts_base.specs.Results.{Gives};
@@ -28,8 +29,8 @@ pub(crate) fn is_token(
     Ok(scratch.as_str() == token)
 }
 
-/// Looks for a token in a text whose first span has this number. If it isn't there, the text after begins at the
-/// number that comes back.
+/// Looks for a token in a text whose spans are numbered from `first`. If it isn't found, the result is the first number
+/// of the next text.
 fn seek_token(
     text: &str,
     first: usize,
@@ -50,7 +51,7 @@ fn seek_token(
     Ok(Some(tokens.following()))
 }
 
-/// Whether one of these texts has a token.
+/// Whether one of these texts contains a token.
 fn has_token(texts: Strings<'_>, token: &str, scratch: &mut String) -> Result<bool, AllocError>
     requires { HasRoom 0 (strings texts) }
     ensures { IfOk result (λ found. found ≡ has_token (tokens_of_texts 0 (strings texts.entry)) token.now) }
@@ -65,7 +66,7 @@ fn has_token(texts: Strings<'_>, token: &str, scratch: &mut String) -> Result<bo
     Ok(false)
 }
 
-/// Whether a number of a field of this kind is the one of a term.
+/// Whether a number of a field of this kind equals that of a term.
 fn number_has(kind: Kind, number: Number, term: Number) -> bool
     ensures { result ≡ value_has kind (FieldValue.Number number) (FieldValue.Number term) }
 {

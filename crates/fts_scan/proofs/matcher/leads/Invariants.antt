@@ -6,7 +6,7 @@ use Rattle.fts_model.specs.Queries.{stands_with}
 use Rattle.fts_scan.specs.Scans.{strings}
 use Rattle.fts_scan.proofs.matcher.leads.Given as goal
 
--- the others stand where those stand that are left
+-- the other members are at their offsets if those that are left are
 abbrev pub invariant-loop-other : goal.invariant-loop-other
 invariant-loop-other l =
     let ts = tokens_of_texts 0 (strings l.fn.texts) in
