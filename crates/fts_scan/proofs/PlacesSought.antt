@@ -81,7 +81,7 @@ pub record SeeksOn (texts : List (List ℕ)) (test : ℕ × List ℕ → Bool) (
 pub SeeksOn-start : (texts : List (List ℕ)) (test : ℕ × List ℕ → Bool) → HasRoom 0 texts → SeeksOn texts test 0 0
 SeeksOn-start texts test room = record { room = room; passes = refl }
 
--- the spans of the next text have numbers below 2 ^ 64
+-- the spans of the next text have numbers below 2 ^ 63
 pub SeeksOn-room : (texts : List (List ℕ)) (test : ℕ × List ℕ → Bool) (n first : ℕ) → n < length texts → SeeksOn texts test n first →
     first + length (get_or texts n []) + 2 < 2 ^ 63
 SeeksOn-room texts test n first inside s =
@@ -121,6 +121,6 @@ pub SeeksOn-end : (texts : List (List ℕ)) (test : ℕ × List ℕ → Bool) (n
     false ≡ list_any test (tokens_of_texts 0 texts)
 SeeksOn-end texts test n first past s = ap (λ ts. list_any test (tokens_of_texts first ts)) (sym (drop_all n texts past)) ∙ s.passes
 
--- the spans of a document's texts have numbers below 2 ^ 64
+-- the spans of a document's texts have numbers below 2 ^ 63
 pub HasRoom-short : (texts : List (List ℕ)) → (length texts ≤ 1024) × (bytes_of texts ≤ 1048576) → HasRoom 0 texts
 HasRoom-short texts short = omega (arith, short.0, short.1)

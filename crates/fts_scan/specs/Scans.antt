@@ -35,7 +35,7 @@ abbrev pub strings : Strings → List (List ℕ)
 strings (One text) = text.now ∷ []
 strings (Many texts) = texts.now
 
--- the spans of these texts, numbered from `first`, have numbers below 2 ^ 64
+-- the spans of these texts, numbered from `first`, have numbers below 2 ^ 63
 abbrev pub HasRoom : ℕ → List (List ℕ) → Type 0
 HasRoom first texts = first + bytes_of texts + length texts + 2 < 2 ^ 63
 
