@@ -1,4 +1,4 @@
--- A text has one outcome, and the reading from the left finds it.
+-- A text has one outcome, and reading from the left finds it.
 use Rattle.std.proofs.Common.{◌≡◌, ◌⊎◌, ℕ, true, false, List, [], ◌∷◌, length, subst, Option, Some, None, Result, Ok, Err, refl, sym, ap, ◌∙◌, arith, inl, inr}
 use Rattle.std.proofs.Common.{ltb}
 use Rattle.std.specs.Str.{chars}
@@ -25,7 +25,7 @@ use Rattle.fts_query.proofs.ReadingLemmas.{length-chars, skip_while_more, skip_w
 use Rattle.fts_query.specs.declared.error.QueryError.TheVariants as errors
 
 module _ (schema : List Field) (text : List ℕ) where
-  -- the answer to a fit text is what is read
+  -- the answer for a fit text is what is read
   answer_is_read : IsFit text → (IsBlank (chars text) → ⊥) → answer schema text ≡ answer_from (query_of schema 4096 (chars text))
   unfolding answer
   answer_is_read f b =
@@ -38,7 +38,7 @@ module _ (schema : List Field) (text : List ℕ) where
   read_fit : (m : Meaning) → IsFit text → IsQuery schema (chars text) m → query_of schema 4096 (chars text) ≡ Some m
   read_fit m f q = query_is_read 4096 q (omega (arith, length-chars text, f.short))
 
-  -- the answer to a query is its outcome
+  -- the answer for a query is its outcome
   answer_query : (m : Meaning) → IsFit text → IsQuery schema (chars text) m → answer schema text ≡ outcome_of m
   answer_query m f q = answer_is_read f (no_query_is_blank q) ∙ ap answer_from (read_fit m f q)
 
@@ -98,11 +98,11 @@ module _ (schema : List Field) (text : List ℕ) where
         ]
       ]
 
-  -- two outcomes of a text are one
+  -- two outcomes of a text are equal
   pub one_outcome : (x y : Result QueryValue Refusal) → Reads schema text x → Reads schema text y → without_byte x ≡ without_byte y
   one_outcome x y h k = reads_answer x h ∙ sym (reads_answer y k)
 
--- nothing is left behind white space alone
+-- nothing is left after only white space
 pub blank_skips : (s t : List ℕ) → skip_while is_space s ≡ t → t ≡ [] → list_all is_space s ≡ true
 unfolding skip_while
 blank_skips [] t e f = refl
@@ -112,7 +112,7 @@ blank_skips (c ∷ s) t e f =
       | inr k ↦ absurd (let h : c ∷ s ≡ t = sym (skip_while_stop is_space (c ∷ s) s c refl k) ∙ e in cc)
     ]
 
--- something is left behind white space and more
+-- something is left after white space and a further character
 pub no_blank_skips : (s t u : List ℕ) (c : ℕ) → skip_while is_space s ≡ t → t ≡ c ∷ u → list_all is_space s ≡ false
 unfolding skip_while
 no_blank_skips [] t u c e f = absurd (let h = e in cc)
@@ -122,13 +122,13 @@ no_blank_skips (d ∷ s) t u c e f =
       | inr k ↦ rw k refl
     ]
 
--- what a text reads as fits the schema
+-- the query of a text fits the schema
 reads_fits : (schema : List Field) (text : List ℕ) (q : QueryValue) → Reads schema text (Ok q) → query_fits schema q ≡ true
 reads_fits schema text q (f, inl h) = subst (λ (x : QueryValue). query_fits schema x ≡ true) (sym h.1) refl
 reads_fits schema text q (f, inr h) = query_meaning_fits schema h
 
 module _ (schema : List Field) (text : List ℕ) (f : IsFit text) where
-  -- the answer to a fit text
+  -- the answer for a fit text
   fit_answer : answer schema text ≡ answer_fit schema (chars text)
   unfolding answer
   fit_answer =
@@ -136,23 +136,23 @@ module _ (schema : List Field) (text : List ℕ) (f : IsFit text) where
       let d : is_too_deep Outside 0 (chars text) ≡ false = f.shallow in
       rw (a, d) refl
 
-  -- the answer to a fit text is its outcome
+  -- the answer for a fit text is its outcome
   outcome_reads : (x : Result QueryValue Refusal) → answer_fit schema (chars text) ≡ x → Reads schema text x
   outcome_reads x e = subst (λ (o : Result QueryValue Refusal). Reads schema text o) (fit_answer ∙ e) (answer_reads schema text)
 
-  -- a query that was answered is the outcome
+  -- a query that is returned is the outcome
   pub answered : (r : Result Query Refusal) → IsAnswer r (answer_fit schema (chars text)) → IfOk r (λ q. Reads schema text (Ok (query_value q)))
   answered (Ok q) h = outcome_reads (Ok (query_value q)) h
   answered (Err e) h = tt
 
-  -- a refusal that was answered is the outcome, unless memory ran out
+  -- a refusal that is returned is the outcome, unless memory ran out
   pub refused : (r : Result Query Refusal) → IsAnswer r (answer_fit schema (chars text)) → IfErr r (λ e. (e ≡ Memory) ⊎ Reads schema text (Err e))
   refused (Ok q) h = tt
   refused (Err Memory) h = inl refl
   refused (Err (Syntax byte)) h = inr (outcome_reads (Err (Syntax 0)) h)
   refused (Err e) h = inr (outcome_reads (Err e) h)
 
-  -- a query that was answered fits the schema
+  -- a query that is returned fits the schema
   pub fitted : (r : Result Query Refusal) → IsAnswer r (answer_fit schema (chars text)) → IfOk r (λ q. query_fits schema (query_value q) ≡ true)
   fitted (Ok q) h = reads_fits schema text (query_value q) (outcome_reads (Ok (query_value q)) h)
   fitted (Err e) h = tt

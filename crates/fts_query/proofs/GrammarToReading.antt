@@ -25,7 +25,7 @@ use Rattle.fts_query.proofs.ReadingLemmas.{take_while_more, bytes_eq-encoded, pl
 use Rattle.fts_query.proofs.ReadingLemmas.{word-append, word_at, WordEnds, skip_while-append, skip_while_opens, unquoted_is_read, no_word_char}
 use Rattle.fts_query.specs.Grammar
 
--- how a factor begins, and how a unit does
+-- the beginning of a factor, and of a unit
 record Begins (b : List ℕ) : Type 0 where
   open_ : opens b ≡ true
   no_and : bytes_eq (word b) (codes "AND") ≡ false
@@ -40,7 +40,7 @@ record BeginsUnit (b : List ℕ) : Type 0 where
   no_plus : (head == 43) ≡ false
   no_minus : (head == 45) ≡ false
 
--- a character of a word opens something
+-- a character of a word can begin a factor
 word_opens : (c : ℕ) → is_word_char c ≡ true → (is_space c || c == 41) ≡ false
 word_opens c h =
     elim (cases_Bool (is_space c || c == 41)) [
@@ -48,7 +48,7 @@ word_opens c h =
       | inr e ↦ e
     ]
 
--- no name that is reserved
+-- the bytes of a word that is not reserved are no reserved name
 not_reserved : (w : List ℕ) → is_reserved w ≡ false → (bytes_eq (encode_utf8_all w) (codes "AND") ≡ false) × (bytes_eq (encode_utf8_all w) (codes "OR") ≡ false)
     × (bytes_eq (encode_utf8_all w) (codes "NOT") ≡ false)
 not_reserved w h =
@@ -80,11 +80,11 @@ bare_begins (c ∷ w) r h e =
       no_minus = s.1;
     }
 
--- a field and a value, before what follows
+-- a field and a value, before the rest
 two : (w s r : List ℕ) → (w ++ (58 ∷ s)) ++ r ≡ w ++ (58 ∷ (s ++ r))
 two w s r = append_assoc w (58 ∷ s) r
 
--- a unit begins as one does
+-- a unit begins as the grammar says
 unit_begins : {schema : List Field} {x : List ℕ} {m : Meaning} → IsUnit schema x m → (r : List ℕ) → stops r ≡ true → BeginsUnit (x ++ r)
 unfolding is_word_char skip_while
 unit_begins (Grammar.group v s w cs a l b) r h =
@@ -114,12 +114,12 @@ unit_begins (Grammar.quoted text) r h =
       no_minus = refl;
     }
 
--- a word that begins otherwise is another
+-- a word that begins with another character is another word
 word_other : (c : ℕ) (s name : List ℕ) → is_word_char c ≡ true → bytes_eq (encode_utf8_all (c ∷ take_while is_word_char s)) name ≡ false →
     bytes_eq (word (c ∷ s)) name ≡ false
 word_other c s name h e = ap (λ (x : List ℕ). bytes_eq (encode_utf8_all x) name) (take_while_more is_word_char c s h) ∙ e
 
--- a factor begins as one does
+-- a factor begins as the grammar says
 factor_begins : {schema : List Field} {x : List ℕ} {f : Factor} → IsFactor schema x f → (r : List ℕ) → stops r ≡ true → Begins (x ++ r)
 unfolding is_word_char encode
 factor_begins (Grammar.factor v s Grammar.IsModifier.plain u) r h = (unit_begins u r h).begins
@@ -141,7 +141,7 @@ space_begins : (w t : List ℕ) → IsSpace w → begins_space (w ++ t) ≡ true
 space_begins [] t h = absurd (let k = h.0 in omega arith)
 space_begins (c ∷ w) t h = (and_parts (is_space c) (list_all is_space w) h.1).0
 
--- three parts, before what follows
+-- three parts, before the rest
 three : (a b c d : List ℕ) → (a ++ (b ++ c)) ++ d ≡ a ++ (b ++ (c ++ d))
 three a b c d = simp append_assoc
 
@@ -168,7 +168,7 @@ list_begins (Grammar.several s w t f o c) r h = rw (three s w t r) (disjunction_
 skip_to : (w b : List ℕ) → IsBlank w → opens b ≡ true → skip_while is_space (w ++ b) ≡ b
 skip_to w b h o = skip_while-append w b h ∙ skip_while_opens b o
 
--- what opens closes nothing
+-- a text that can begin a factor closes no list
 opens_closes : (b : List ℕ) → opens b ≡ true → closes b ≡ false
 opens_closes [] h = absurd cc
 opens_closes (c ∷ b) h = (or_parts (is_space c) (c == 41) (not-true _ h)).1
@@ -182,18 +182,18 @@ space_is_read w b h o =
     let k = opens_closes b o in
     rw (a, s, k) refl
 
--- a name that stands between factors
+-- a name that can separate factors
 record IsName (name : List ℕ) : Type 0 where
   word : list_all is_word_char name ≡ true
   itself : bytes_eq (encode_utf8_all name) name ≡ true
   opens_ : (t : List ℕ) → opens (name ++ t) ≡ true
 
--- `AND` is such a name
+-- `AND` can separate factors
 and_name : IsName (codes "AND")
 unfolding is_word_char encode
 and_name = record { word = refl; itself = refl; opens_ = λ t. refl }
 
--- `OR` is such a name
+-- `OR` can separate factors
 or_name : IsName (codes "OR")
 unfolding is_word_char encode
 or_name = record { word = refl; itself = refl; opens_ = λ t. refl }
@@ -224,26 +224,26 @@ operator_none name s h =
       | inr e ↦ rw e refl
     ]
 
--- where a list ends
+-- a list ends at the front of a text
 record Ends (r : List ℕ) : Type 0 where
   stop : stops r ≡ true
   closed : closes (skip_while is_space r) ≡ true
 
--- no word stands where a list closes
+-- a text that closes a list begins with no word
 closed_word : (s : List ℕ) → closes s ≡ true → take_while is_word_char s ≡ []
 unfolding is_word_char
 closed_word [] h = refl
 closed_word (c ∷ s) h = let k : c ≡ 41 = eqb-true c 41 h in rw k refl
 
--- no `AND` stands where a list ends
+-- no `AND` is read if a list ends
 ends_and : (r : List ℕ) → Ends r → operator_at (codes "AND") r ≡ None
 ends_and r e = operator_none (codes "AND") r (ap (λ (x : List ℕ). bytes_eq (encode_utf8_all x) (codes "AND")) (closed_word (skip_while is_space r) e.closed))
 
--- no `OR` stands where a list ends
+-- no `OR` is read if a list ends
 ends_or : (r : List ℕ) → Ends r → operator_at (codes "OR") r ≡ None
 ends_or r e = operator_none (codes "OR") r (ap (λ (x : List ℕ). bytes_eq (encode_utf8_all x) (codes "OR")) (closed_word (skip_while is_space r) e.closed))
 
--- no separator stands where a list ends
+-- no separator is read if a list ends
 ends_space : (r : List ℕ) → Ends r → space_at r ≡ None
 unfolding space_at
 ends_space r e =
@@ -253,7 +253,7 @@ ends_space r e =
       | inr b ↦ rw b refl
     ]
 
--- no (codes "AND") stands behind an (codes "OR"), and neither behind white space and a factor
+-- no `AND` is read at an `OR` operator
 or_no_and : (w b : List ℕ) → IsOperator (codes "OR") w → operator_at (codes "AND") (w ++ b) ≡ None
 unfolding encode
 or_no_and w b o =
@@ -265,11 +265,11 @@ or_no_and w b o =
     operator_none (codes "AND") (w ++ b) (ap (λ (x : List ℕ). bytes_eq (word (skip_while is_space x)) (codes "AND")) e
     ∙ ap (λ (x : List ℕ). bytes_eq (word x) (codes "AND")) s ∙ ap (λ (x : List ℕ). bytes_eq (encode_utf8_all x) (codes "AND")) r)
 
--- no `AND` stands at white space and a factor
+-- no `AND` is read at white space and a factor
 space_no_and : (w b : List ℕ) → IsSpace w → Begins b → operator_at (codes "AND") (w ++ b) ≡ None
 space_no_and w b h g = operator_none (codes "AND") (w ++ b) (ap (λ (x : List ℕ). bytes_eq (word x) (codes "AND")) (skip_to w b h.1 g.open_) ∙ g.no_and)
 
--- no `OR` stands at white space and a factor
+-- no `OR` is read at white space and a factor
 space_no_or : (w b : List ℕ) → IsSpace w → Begins b → operator_at (codes "OR") (w ++ b) ≡ None
 space_no_or w b h g = operator_none (codes "OR") (w ++ b) (ap (λ (x : List ℕ). bytes_eq (word x) (codes "OR")) (skip_to w b h.1 g.open_) ∙ g.no_or)
 
@@ -311,7 +311,7 @@ back_short d s w t l = omega (arith, simp length-append at l)
 enough : (s r : List ℕ) → length s ≤ suc (length (s ++ r))
 enough s r = omega (arith, length-append s r)
 
--- the front of a text that is long enough for d, where it stops
+-- a parser reads the front of a text and leaves the rest
 record Again {A : Type 0} (p : Parser A) (x : List ℕ) (a : A) (r : List ℕ) : Type 0 where
   reads : p (x ++ r) ≡ Some (a, r)
 
@@ -364,7 +364,7 @@ unfolding is_bare
 bare_long [] b n = absurd (let k = b.1 in cc)
 bare_long (c ∷ w) b n = omega arith
 
--- no colon stands where a word may stop
+-- no colon is at the front if a word may stop there
 no_colon : (c : ℕ) → (is_space c || c == 41) ≡ true → (c == 58) ≡ false
 no_colon c h =
     elim (cases_Bool (c == 58)) [
@@ -372,7 +372,7 @@ no_colon c h =
       | inr e ↦ e
     ]
 
--- a character that is no word's isn't one that is
+-- a character outside words differs from one of a word
 word_not : (c k : ℕ) → is_word_char c ≡ true → is_word_char k ≡ false → (c == k) ≡ false
 word_not c k h n =
     elim (cases_Bool (c == k)) [
@@ -380,7 +380,7 @@ word_not c k h n =
       | inr e ↦ e
     ]
 
--- the marks that aren't of a word
+-- the marks outside words
 record AreMarks : Type 0 where
   star : is_word_char 42 ≡ false
   group : is_word_char 40 ≡ false
@@ -430,7 +430,7 @@ bare_is_read : (schema : List Field) (d : ℕ) (w r : List ℕ) → IsBare w →
     unit_of schema (suc d) (w ++ r) ≡ Some (literal_anywhere schema (encode_utf8_all w), r)
 bare_is_read schema d w r b h = bare_then schema d w r b (word_stops r h) ∙ after_stops schema (encode_utf8_all w) r h
 
--- a word is read
+-- a nonempty word is read
 word_is_read : (w r : List ℕ) → IsWord w → WordEnds r → word_of (w ++ r) ≡ Some (encode_utf8_all w, r)
 unfolding word_of
 word_is_read [] r h e = absurd (let k = h.0 in omega arith)
@@ -451,19 +451,19 @@ bound_is_read (Grammar.IsBound.at {w = c ∷ s} w) r h =
     let e : word_of (c ∷ (s ++ r)) ≡ Some (encode_utf8_all (c ∷ s), r) = word_is_read (c ∷ s) r w h in
     rw (k, e) refl
 
--- a bound opens something
+-- a bound can follow white space
 bound_opens : {s : List ℕ} {b : Option (List ℕ)} → IsBound s b → (t : List ℕ) → opens (s ++ t) ≡ true
 bound_opens Grammar.IsBound.none t = refl
 bound_opens (Grammar.IsBound.at {w = []} w) t = absurd (let k = w.0 in omega arith)
 bound_opens (Grammar.IsBound.at {w = c ∷ s} w) t = let g : (is_space c || c == 41) ≡ false =
     word_opens c (and_parts (is_word_char c) (list_all is_word_char s) w.1).0 in ap not g
 
--- `TO` is such a name
+-- `TO` can separate bounds
 to_name : IsName (codes "TO")
 unfolding is_word_char encode
 to_name = record { word = refl; itself = refl; opens_ = λ t. refl }
 
--- a bracket ends a word and is no white space
+-- a bracket ends a word and is not white space
 closer_ends : {e : ℕ} {j : Bool} → Closes e j → (r : List ℕ) → WordEnds (e ∷ r) × (skip_while is_space (e ∷ r) ≡ e ∷ r)
 unfolding is_word_char skip_while
 closer_ends Grammar.Closes.included r = ((refl, refl), refl)
@@ -476,7 +476,7 @@ unfolding range_end
 range_end_is_read Grammar.Closes.included low high r = refl
 range_end_is_read Grammar.Closes.excluded low high r = refl
 
--- no word goes on at white space
+-- white space, or nothing before the end of a word, ends a word
 blank_then : (v r : List ℕ) → IsBlank v → WordEnds r → WordEnds (v ++ r)
 blank_then [] r h e = e
 blank_then (c ∷ v) r h e = word_stops (c ∷ (v ++ r)) (or_left (is_space c) (c == 41) (and_parts (is_space c) (list_all is_space v) h).0)
@@ -542,7 +542,7 @@ quoted_is_read : (t r : List ℕ) → quoted_of (quoted_text t ++ r) ≡ Some (e
 unfolding quoted_of
 quoted_is_read t r = let e = unquoted_is_read t r in rw e refl
 
--- what stands after a field and a colon is read
+-- what follows a field and a colon is read
 value_is_read : {s : List ℕ} {v : Value} → IsValue s v → (r : List ℕ) → stops r ≡ true → value_of (s ++ r) ≡ Some (v, r)
 unfolding value_of quoted_value_of
 value_is_read (Grammar.IsValue.word {w = w} h) r e = value_word w r h (word_stops r e)
@@ -615,7 +615,7 @@ quote_is_read : (schema : List Field) (d : ℕ) (t r : List ℕ) → unit_of sch
 unfolding unit_of unit_by quoted_literal_of
 quote_is_read schema d t r = let e = quoted_is_read t r in rw e refl
 
--- a `)` is no white space
+-- a `)` is not white space
 skip_close : (r : List ℕ) → skip_while is_space (41 ∷ r) ≡ 41 ∷ r
 unfolding skip_while
 skip_close r = refl
@@ -634,7 +634,7 @@ blank_ends (e ∷ w) r b c k =
       closed = rw (skip_while-append (e ∷ w) r b, k) c;
     }
 
--- what begins as a factor isn't empty
+-- the beginning of a factor isn't empty
 long : (s : List ℕ) → Begins (s ++ []) → 0 < length s
 long [] b = absurd (let k = b.open_ in cc)
 long (c ∷ s) b = omega arith
@@ -722,12 +722,12 @@ blank_skip : (s : List ℕ) → IsBlank s → skip_while is_space s ≡ []
 unfolding skip_while
 blank_skip s h = ap (skip_while is_space) (sym (append-nil s)) ∙ skip_while-append s [] h
 
--- what opens still opens before more
+-- a text that can begin a factor still can with more after it
 opens_append : (s t : List ℕ) → opens s ≡ true → opens (s ++ t) ≡ true
 opens_append [] t h = absurd cc
 opens_append (c ∷ s) t h = h
 
--- a list opens something
+-- a list can begin a factor
 list_opens : {schema : List Field} {x : List ℕ} {cs : List (List (List Factor))} → IsList schema x cs → opens x ≡ true
 list_opens {x = x} l = let b = (list_begins l [] refl).open_ in subst (λ (s : List ℕ). opens s ≡ true) (append-nil x) b
 
@@ -743,7 +743,7 @@ no_query_is_blank {s = s} q b =
     let k : opens [] ≡ true = subst (λ (x : List ℕ). opens x ≡ true) e h in
     absurd cc
 
--- what is a query is read as one, if it is not too long for d
+-- a query is read, if it has at most d characters
 pub query_is_read : {schema : List Field} {s : List ℕ} {m : Meaning} (d : ℕ) → IsQuery schema s m → length s ≤ d → query_of schema d s ≡ Some m
 unfolding query_of skip_while
 query_is_read {schema = schema} {s = s} {m = m} d q n =

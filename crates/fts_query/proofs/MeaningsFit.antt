@@ -1,4 +1,4 @@
--- A query that a text reads as fits the schema.
+-- The query of a text fits the schema.
 use Rattle.std.proofs.Common.{◌≡◌, ℕ, ◌+◌, ◌^◌, Bool, true, false, List, [], ◌∷◌, length, get_or, drop, map, Option, Some, None, Result, Ok, Err, refl, sym, ap}
 use Rattle.std.proofs.Common.{subst, ◌∙◌, inl, inr, pos, neg_ℤ, slice_get, option_map}
 use Rattle.std.specs.Option.{option_map_or}
@@ -33,7 +33,7 @@ use Rattle.fts_model.specs.declared.value.Number.TheVariants as numbers
 use Rattle.fts_model.specs.declared.value.FieldValue.TheVariants as values
 use Rattle.fts_query.specs.Grammar
 
--- the field of a number behind others
+-- a field by its number among the fields from that number
 slice_get-drop : {X : Type 0} (xs ys : List X) (i : ℕ) (y : X) → drop i xs ≡ y ∷ ys → (slice_get xs i ≡ Some y) × (drop (i + 1) xs ≡ ys)
 slice_get-drop {X = X} xs ys i y e =
     elim (cases_lt i (length xs)) [
@@ -54,7 +54,7 @@ module _ (schema : List Field) where
   abbrev fit : List QueryValue → Type 0
   fit qs = all_fit schema (query_list qs) ≡ true
 
-  -- a query fits, if there is no error
+  -- a meaning fits, if it is no error
   abbrev pub MeaningFits : Meaning → Type 0
   MeaningFits (Ok q) = fits q
   MeaningFits (Err e) = Unit {0}
@@ -79,12 +79,12 @@ module _ (schema : List Field) where
   ListFits [] = Unit {0}
   ListFits (c ∷ cs) = DisjunctionFits c × ListFits cs
 
-  -- the queries of the members
+  -- the queries of the members fit
   abbrev MembersFit : Result (List (Occur × QueryValue)) QueryError → Type 0
   MembersFit (Err e) = Unit {0}
   MembersFit (Ok qs) = fit (musts qs) × fit (must_nots qs) × fit (shoulds qs)
 
-  -- a member more
+  -- members with one more fit
   cons_fits : (occur : Occur) (m : Meaning) (r : Result (List (Occur × QueryValue)) QueryError) → MeaningFits m → MembersFit r →
       MembersFit (result_and_then (λ q. result_map (λ qs. (occur, q) ∷ qs) r) m)
   cons_fits occur (Err e) r a b = tt
@@ -93,24 +93,24 @@ module _ (schema : List Field) where
   cons_fits MustNot (Ok q) (Ok qs) a b = (b.0, both_true a b.1, b.2)
   cons_fits Should (Ok q) (Ok qs) a b = (b.0, b.1, both_true a b.2)
 
-  -- the members of clauses that fit
+  -- the members of fitting clauses fit
   members_fit : (cs : List Clause) → ClausesFit cs → MembersFit (members cs)
   members_fit [] h = (refl, refl, refl)
   members_fit (c ∷ cs) h = cons_fits c.0 c.1 (members cs) h.0 (members_fit cs h.1)
 
-  -- a node of members that fit
+  -- the node of fitting members fits
   boolean_fits : (ms ns ss : List QueryValue) → fit ms → fit ns → fit ss → MeaningFits (boolean_of ms ns ss)
   boolean_fits [] ns [] a b c = tt
   boolean_fits [] ns (q ∷ ss) a b c = both_true (both_true a b) c
   boolean_fits (q ∷ ms) ns ss a b c = both_true (both_true a b) c
 
-  -- a node of members, or their error
+  -- the node of members, or their error, fits
   joined_fits : (r : Result (List (Occur × QueryValue)) QueryError) → MembersFit r →
       MeaningFits (result_and_then (λ qs. boolean_of (musts qs) (must_nots qs) (shoulds qs)) r)
   joined_fits (Err e) h = tt
   joined_fits (Ok qs) h = boolean_fits (musts qs) (must_nots qs) (shoulds qs) h.0 h.1 h.2
 
-  -- a node of clauses that fit
+  -- the node of fitting clauses fits
   node_fits : (cs : List Clause) → ClausesFit cs → MeaningFits (node cs)
   unfolding node
   node_fits cs h = joined_fits (members cs) (members_fit cs h)
@@ -133,7 +133,7 @@ module _ (schema : List Field) where
   disjunction_fits : (cs : List (List Factor)) → DisjunctionFits cs → MeaningFits (disjunction cs)
   disjunction_fits cs h = node_fits _ (alternatives_fit cs h)
 
-  -- what a disjunction is to its list fits
+  -- the clause of a disjunction in its list fits
   disjunction_clause_fits : (cs : List (List Factor)) → DisjunctionFits cs → MeaningFits (disjunction_clause cs).1
   unfolding disjunction_clause
   disjunction_clause_fits [] h = disjunction_fits [] h
@@ -152,7 +152,7 @@ module _ (schema : List Field) where
   unfolding list_meaning
   list_meaning_fits cs h = node_fits _ (disjunction_clauses_fit cs h)
 
-  -- a value of a field is of its kind
+  -- a value that can be in a field of a kind
   abbrev ValueFits : Kind → Result FieldValue QueryError → Type 0
   ValueFits kind (Ok v) = is_term_of kind v ≡ true
   ValueFits kind (Err e) = Unit {0}
@@ -177,14 +177,14 @@ module _ (schema : List Field) where
   signed_fits false o None = tt
   signed_fits false o (Some n) = refl
 
-  -- what a text is in a field fits
+  -- the value of a text in a field fits
   value_fits : (kind : Kind) (text : List ℕ) → ValueFits kind (value_in kind text)
   value_fits kinds.Text text = tt
   value_fits kinds.Keyword text = refl
   value_fits kinds.U64 text = unsigned_fits (number_below (2 ^ 64) text)
   value_fits kinds.I64 text = signed_fits (begins_minus text) (number_below (2 ^ 63 + 1) (drop 1 text)) (number_below (2 ^ 63) text)
 
-  -- a literal in a field of the schema
+  -- the tokens of a text in a field of the schema fit
   tokens_fit : (field : ℕ) (ts : List (ℕ × List ℕ)) → kind_at schema field ≡ Some kinds.Text → fits (with_tokens field ts)
   tokens_fit field [] e = refl
   tokens_fit field (t ∷ []) e = ap (λ (o : Option Kind). option_map_or (λ k. is_term_of k (values.Text t.1)) o false) e
@@ -197,7 +197,7 @@ module _ (schema : List Field) where
   literal_fits field kinds.U64 text e = field_fits field kinds.U64 e (value_in kinds.U64 text) (value_fits kinds.U64 text)
   literal_fits field kinds.I64 text e = field_fits field kinds.I64 e (value_in kinds.I64 text) (value_fits kinds.I64 text)
 
-  -- the default fields
+  -- the clauses of the default fields fit
   defaults_fit : (i : ℕ) (fields : List Field) (text : List ℕ) → drop i schema ≡ fields → ClausesFit (default_clauses i fields text)
   defaults_fit i [] text e = tt
   defaults_fit i (field ∷ fields) text e =
@@ -209,7 +209,7 @@ module _ (schema : List Field) where
         | inr d ↦ rw d more
       ]
 
-  -- a node of default fields fits
+  -- the node of default fields fits
   some_default_fits : (cs : List Clause) → ClausesFit cs → MeaningFits (some_default cs)
   some_default_fits [] h = tt
   some_default_fits (c ∷ cs) h = node_fits (c ∷ cs) h
@@ -219,18 +219,18 @@ module _ (schema : List Field) where
   unfolding literal_anywhere
   anywhere_fits text = some_default_fits (default_clauses 0 schema text) (defaults_fit 0 schema text refl)
 
-  -- the bounds of a range
+  -- a bound that fits a kind
   BoundFits : Kind → Result (Bound FieldValue) QueryError → Type 0
   BoundFits kind (Ok b) = is_bound_of kind b ≡ true
   BoundFits kind (Err e) = Unit {0}
 
-  -- a bound that is taken in fits
+  -- an included bound fits
   included_fits : (kind : Kind) (r : Result FieldValue QueryError) → ValueFits kind r → BoundFits kind (result_map Included r)
   unfolding BoundFits
   included_fits kind (Ok v) h = h
   included_fits kind (Err e) h = tt
 
-  -- a bound that is left out fits
+  -- an excluded bound fits
   excluded_fits : (kind : Kind) (r : Result FieldValue QueryError) → ValueFits kind r → BoundFits kind (result_map Excluded r)
   unfolding BoundFits
   excluded_fits kind (Ok v) h = h
@@ -252,7 +252,7 @@ module _ (schema : List Field) where
   bounds_fit field kind e n (Ok l) (Err f) a b = tt
   bounds_fit field kind e n (Ok l) (Ok h) a b = ap (λ (o : Option Kind). option_map_or (is_range_of l h) o false) e ∙ both_true (both_true n a) b
 
-  -- what stands after a field fits it
+  -- what follows a field fits it
   meaning_fits : (field : ℕ) (kind : Kind) (v : Value) → kind_at schema field ≡ Some kind → MeaningFits (meaning_in field kind v)
   meaning_fits field kind (literal text) e = literal_fits field kind text e
   meaning_fits field kind (between lower upper) e =
@@ -261,18 +261,18 @@ module _ (schema : List Field) where
         | inr n ↦ rw n tt
       ]
 
-  -- what stands after a number of a field fits
+  -- what follows a field by its number fits
   at_fits : (v : Value) (field : ℕ) (o : Option Kind) → kind_at schema field ≡ o →
       MeaningFits (option_map_or (λ kind. meaning_in field kind v) o (Err UnknownField))
   at_fits v field None e = tt
   at_fits v field (Some kind) e = meaning_fits field kind v e
 
-  -- what stands after a name fits
+  -- what follows a field by its name fits
   named_fits : (v : Value) (o : Option ℕ) → MeaningFits (option_map_or (meaning_at schema v) o (Err UnknownField))
   named_fits v None = tt
   named_fits v (Some field) = at_fits v field (kind_at schema field) refl
 
-  -- a field and what stands after it fit
+  -- a field with what follows it fits
   field_meaning_fits : (name : List ℕ) (v : Value) → MeaningFits (field_meaning schema name v)
   unfolding field_meaning
   field_meaning_fits name v = named_fits v (field_named name schema)

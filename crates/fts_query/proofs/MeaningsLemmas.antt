@@ -1,4 +1,4 @@
--- What literals mean: tokens, default fields, numbers.
+-- The meaning of literals: tokens, default fields, numbers.
 use Rattle.std.proofs.Common.{◌≡◌, ℕ, suc, ◌+◌, ◌-◌, ◌<◌, ◌≤◌, ◌^◌, Bool, true, false, List, [], ◌∷◌, ◌++◌, length, drop, map, refl, sym, ap, subst, ◌∙◌}
 use Rattle.std.proofs.Common.{append_assoc, All, arith, Err, inl, inr, ◌*◌, ◌&&◌, Some, None, ltb}
 use Rattle.std.specs.List.{list_any, list_all}
@@ -24,7 +24,7 @@ use Rattle.fts_model.specs.declared.value.FieldValue.TheVariants as values
 abbrev pub distances : ℕ → List (ℕ × List ℕ) → List (ℕ × List ℕ)
 distances from ts = map (λ t. (t.0 - from, t.1)) ts
 
--- the member of a pattern at a place
+-- the member of a pattern for a token
 abbrev pub member : List ℕ → ℕ → Token → ℕ × List ℕ
 member text from place = ((token_at text place).0 - from, (token_at text place).1)
 
@@ -33,7 +33,7 @@ map-member : (text : List ℕ) (from : ℕ) (ps : List Token) → map (member te
 map-member text from [] = refl
 map-member text from (p ∷ ps) = ap (λ (l : List (ℕ × List ℕ)). member text from p ∷ l) (map-member text from ps)
 
--- the place that comes next, and those after it
+-- the next place is in the text, and so are those after it
 places-first : (text : List ℕ) (place : Token) (left rest : List Token) → left ≡ place ∷ rest → All (IsPlaceFrom 0 text) left →
     IsPlaceFrom 0 text place × All (IsPlaceFrom 0 text) rest
 places-first text place left rest first all =
@@ -62,7 +62,7 @@ pub Gathers-place : (text : List ℕ) (from : ℕ) (done : List (ℕ × List ℕ
     Gathers text from done left → IsPlaceFrom 0 text place
 Gathers-place text from done place left rest first g = (places-first text place left rest first g.within).0
 
--- a member more
+-- one more member is collected
 pub Gathers-next : (text : List ℕ) (from : ℕ) (done more : List (ℕ × List ℕ)) (place : Token) (left rest : List Token) → left ≡ place ∷ rest →
     more ≡ done ++ member text from place ∷ [] → Gathers text from done left → Gathers text from more rest
 Gathers-next text from done more place left rest first e g = record {
@@ -84,17 +84,17 @@ position_fits text place from short at = omega (arith, at.place.nonempty, at.pla
 tokens_of : (text : List ℕ) (left : List Token) → IsUtf8 text → left ≡ places text → tokens text ≡ map (token_at text) left
 tokens_of text left u start = sym (tokens-places 0 text u) ∙ ap (map (token_at text)) (sym start)
 
--- a text without a token
+-- the query of a text without a token
 pub no_token : (field : ℕ) (text : List ℕ) (left : List Token) → IsUtf8 text → left ≡ places text → left ≡ [] → with_tokens field (tokens text) ≡ nothing
 no_token field text left u start none = ap (with_tokens field) (tokens_of text left u start ∙ ap (map (token_at text)) none)
 
--- a text of one token
+-- the query of a text of one token
 pub one_token : (field : ℕ) (text : List ℕ) (left rest : List Token) (first : Token) → IsUtf8 text → left ≡ places text → left ≡ first ∷ rest → rest ≡ [] →
     with_tokens field (tokens text) ≡ with_value field (values.Text (token_at text first).1)
 one_token field text left rest first u start cons none =
     ap (with_tokens field) (tokens_of text left u start ∙ ap (map (token_at text)) (cons ∙ ap (λ (l : List Token). first ∷ l) none))
 
--- a text of two tokens or more
+-- the query of a text of two or more tokens
 pub more_tokens : (field : ℕ) (text : List ℕ) (left rest others : List Token) (first second : Token) → IsUtf8 text → left ≡ places text → left ≡ first ∷ rest →
     rest ≡ second ∷ others → with_tokens field (tokens text) ≡ phrase field (distances first.position (tokens text))
 more_tokens field text left rest others first second u start cons more =
@@ -102,13 +102,13 @@ more_tokens field text left rest others first second u start cons more =
     tokens_of text left u start ∙ ap (map (token_at text)) (cons ∙ ap (λ (l : List Token). first ∷ l) more) in
     ap (with_tokens field) e ∙ ap (λ (ts : List (ℕ × List ℕ)). phrase field (distances first.position ts)) (sym e)
 
--- the first place stands in the text
+-- the first place is in the text
 pub first_place : (text : List ℕ) (left rest : List Token) (first : Token) → IsUtf8 text → left ≡ places text → left ≡ first ∷ rest → IsPlaceIn text first
 first_place text left rest first u start cons =
     let P : List Token → Type 0 = All (IsPlaceIn text) in
     (IsPlaceIn-first text first left rest cons (subst P (sym start) (All-IsPlaceIn 0 text u))).0
 
--- the default fields
+-- a default field
 abbrev pub is_default : Field → Bool
 is_default f = f.default
 
@@ -131,12 +131,12 @@ some_clauses i (field ∷ fields) text e =
       | inr d ↦ let h : list_any is_default fields ≡ true = rw d at e in rw d (some_clauses (i + 1) fields text h)
     ]
 
--- a literal without a default field
+-- a literal without a default field is an error
 pub no_default : (fields : List Field) (text : List ℕ) → list_any is_default fields ≡ false → literal_anywhere fields text ≡ Err NoDefaultField
 unfolding literal_anywhere
 no_default fields text e = ap some_default (no_clauses 0 fields text e)
 
--- a literal in the default fields
+-- a literal is a should in each default field
 pub defaults : (fields : List Field) (text : List ℕ) (i : ℕ) (g : Gathered) → list_any is_default fields ≡ true → length fields ≤ i
     → gather_all g (default_clauses i (drop i fields) text) ≡ gather_all nothing_gathered (default_clauses 0 fields text) →
     gathered_node g ≡ literal_anywhere fields text
@@ -154,7 +154,7 @@ pub grows : (n : ℕ) (w : List ℕ) → n ≤ decimal_after n w
 grows n [] = omega arith
 grows n (c ∷ w) = omega (arith, grows (n * 10 + (c - 48)) w)
 
--- a number at its limit or beyond is none
+-- a number at its limit or above is none
 pub too_large : (limit : ℕ) (w : List ℕ) → limit ≤ decimal w → number_below limit w ≡ None
 unfolding number_below
 too_large limit w h =
@@ -166,7 +166,7 @@ too_large limit w h =
 pub overflows : (n : ℕ) (w all : List ℕ) → decimal_after n w ≡ decimal all → 2 ^ 64 ≤ n → number_below (2 ^ 64) all ≡ None
 overflows n w all e h = too_large (2 ^ 64) all (omega (arith, grows n w))
 
--- one digit or more
+-- a nonempty text is a number if all its characters are digits
 are_digits-nonempty : (w : List ℕ) → (length w == 0) ≡ false → are_digits w ≡ list_all is_digit w
 are_digits-nonempty [] h = absurd (let k = h in cc)
 are_digits-nonempty (c ∷ w) h = refl
@@ -182,16 +182,16 @@ whole_is all [] n l e d k h =
     rw (b, a, t) refl
 whole_is all (c ∷ rest) n l e d k h = absurd (omega arith)
 
--- a number below a smaller limit
+-- numbers below a limit that is at most 2 ^ 64
 module _ (limit : ℕ) (text : List ℕ) (small : limit ≤ 2 ^ 64) where
-  -- a number that was found
+  -- a number that was found is that of the digits
   found : (n : ℕ) → number_below (2 ^ 64) text ≡ Some n → (are_digits text ≡ true) × (decimal text ≡ n)
   unfolding number_below
   found n e =
       let c = cond_some (are_digits text && ltb (decimal text) (2 ^ 64)) (decimal text) n e in
       ((and_parts (are_digits text) (ltb (decimal text) (2 ^ 64)) c.0).0, c.1)
 
-  -- a number that was found below a smaller limit
+  -- a number below the limit is found below the limit
   pub smaller_found : (n : ℕ) → number_below (2 ^ 64) text ≡ Some n → n < limit → number_below limit text ≡ Some n
   unfolding number_below
   smaller_found n e l =
@@ -201,11 +201,11 @@ module _ (limit : ℕ) (text : List ℕ) (small : limit ≤ 2 ^ 64) where
       let t : ltb n limit ≡ true = lt-ltb _ _ l in
       rw (a, d, t) refl
 
-  -- a number that was found beyond a smaller limit
+  -- a number at the limit or above is none below the limit
   pub smaller_beyond : (n : ℕ) → number_below (2 ^ 64) text ≡ Some n → limit ≤ n → number_below limit text ≡ None
   smaller_beyond n e l = too_large limit text (let f = found n e in omega arith)
 
-  -- no number is none below a smaller limit
+  -- if no number is found, none is found below the limit
   pub smaller_none : number_below (2 ^ 64) text ≡ None → number_below limit text ≡ None
   unfolding number_below
   smaller_none e =

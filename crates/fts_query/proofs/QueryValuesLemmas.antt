@@ -6,18 +6,18 @@ use Rattle.fts_model.specs.declared.query.Query.{Query, the_lemmas}
 use Rattle.fts_model.specs.QueryValues.{every, nothing, term, phrase, query_value}
 use Rattle.fts_model.specs.declared.query.Query as queries
 
--- the query for all
+-- the value of the query for all documents
 pub value-all : query_value queries.All ≡ every
 value-all = search (rules, the_lemmas)
 
--- the query for none
+-- the value of the query for no document
 pub value-none : query_value queries.None ≡ nothing
 value-none = search (rules, the_lemmas)
 
--- the query for a term
+-- the value of the query for a term
 pub value-term : (t : Term) → query_value (queries.Term t) ≡ term t
 value-term t = search (rules, the_lemmas)
 
--- the query for a phrase
+-- the value of the query for a phrase
 pub value-phrase : (field : ℕ) (pattern : Vec (ℕ × List ℕ)) → query_value (queries.Phrase field pattern) ≡ phrase field pattern.items
 value-phrase field pattern = search (rules, the_lemmas)

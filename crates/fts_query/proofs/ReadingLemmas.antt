@@ -1,4 +1,4 @@
--- What is at the front of a text: white space, words, quoted texts, units.
+-- The front of a text: white space, words, quoted texts, units.
 use Rattle.std.proofs.Common.{take-append-drop, ◌≡◌, ℕ, Bool, true, false, not, ◌||◌, ◌⊎◌, cond, List, [], ◌∷◌, ◌++◌, codes, Option, Some, None, refl, sym, ap}
 use Rattle.std.proofs.Common.{◌∙◌, arith, inl, inr, zero, suc, ◌+◌, ◌-◌, ◌*◌, ◌≤◌, length, take, drop, subst, length-append, append_assoc, Ok}
 use Rattle.std.specs.Prelude.{◌==◌, take_while}
@@ -22,7 +22,7 @@ use Rattle.fts_model.specs.QueryValues.{every}
 abbrev pub IsPlain : List ℕ → Type 0
 IsPlain name = encode_utf8_all name ≡ name
 
--- the characters are those of a name exactly where the bytes are
+-- characters are those of a name exactly if their bytes are
 pub bytes_eq-encoded : (w name : List ℕ) → IsPlain name → bytes_eq (encode_utf8_all w) name ≡ bytes_eq w name
 bytes_eq-encoded w name p =
     elim (cases_Bool (bytes_eq w name)) [
@@ -59,7 +59,7 @@ pub plain_to : IsPlain (codes "TO")
 unfolding encode
 plain_to = refl
 
--- a word is reserved exactly where its bytes are
+-- a word is reserved exactly if its bytes are
 pub is_reserved-encoded : (w : List ℕ) → is_reserved (encode_utf8_all w) ≡ is_reserved w
 is_reserved-encoded w =
     let a = bytes_eq-encoded w (codes "AND") plain_and in
@@ -94,12 +94,12 @@ take_while_more test c s h = take_while-cons test c s ∙ ap (λ (b : Bool). con
 pub take_while_stop : (test : ℕ → Bool) (c : ℕ) (s : List ℕ) → test c ≡ false → take_while test (c ∷ s) ≡ []
 take_while_stop test c s h = take_while-cons test c s ∙ ap (λ (b : Bool). cond b (c ∷ take_while test s) []) h
 
--- what may stand behind a word
+-- whether a text may follow a word
 abbrev pub stops : List ℕ → Bool
 stops [] = true
 stops (c ∷ s) = is_space c || c == 41
 
--- what may stand behind white space
+-- whether a text may follow white space
 abbrev pub opens : List ℕ → Bool
 opens [] = false
 opens (c ∷ s) = not (is_space c || c == 41)
@@ -113,7 +113,7 @@ no_word_char c h =
       | inr e ↦ let k : c ≡ 41 = eqb-true c 41 e in rw k refl
     ]
 
--- no word goes on where one may stop
+-- no word goes on if it may stop
 pub word_stops : (r : List ℕ) → stops r ≡ true → (take_while is_word_char r ≡ []) × (skip_while is_word_char r ≡ r)
 unfolding skip_while
 word_stops [] h = (refl, refl)
@@ -121,11 +121,11 @@ word_stops (c ∷ s) h =
     let e : is_word_char c ≡ false = no_word_char c h in
     (take_while_stop is_word_char c s e, skip_while_stop is_word_char (c ∷ s) s c refl e)
 
--- no word goes on there
+-- no word goes on at the front of a text
 abbrev pub WordEnds : List ℕ → Type 0
 WordEnds r = (take_while is_word_char r ≡ []) × (skip_while is_word_char r ≡ r)
 
--- a word is read up to where no word goes on
+-- a word is read if no word goes on after it
 pub word_at : (w r : List ℕ) → list_all is_word_char w ≡ true → WordEnds r → (take_while is_word_char (w ++ r) ≡ w) × (skip_while is_word_char (w ++ r) ≡ r)
 unfolding skip_while
 word_at [] r h e = e
@@ -135,12 +135,12 @@ word_at (c ∷ w) r h e =
     let t : is_word_char c ≡ true = p.0 in
     (take_while_more is_word_char c (w ++ r) t ∙ ap (λ (x : List ℕ). c ∷ x) q.0, skip_while_more is_word_char (c ∷ (w ++ r)) (w ++ r) c refl t ∙ q.1)
 
--- a word is read up to where it may stop
+-- a word is read if it may stop after it
 pub word-append : (w r : List ℕ) → list_all is_word_char w ≡ true → stops r ≡ true →
     (take_while is_word_char (w ++ r) ≡ w) × (skip_while is_word_char (w ++ r) ≡ r)
 word-append w r h e = word_at w r h (word_stops r e)
 
--- what is taken passes
+-- the characters of a word that was read pass the test
 taken : (s : List ℕ) → list_all is_word_char (take_while is_word_char s) ≡ true
 taken [] = refl
 taken (c ∷ s) =
@@ -150,26 +150,26 @@ taken (c ∷ s) =
       | inr e ↦ ap (list_all is_word_char) (take_while_stop is_word_char c s e)
     ]
 
--- a text is the word at its front and what follows that
+-- a text is the word at its front and the rest
 pub word_parts : (s : List ℕ) → (s ≡ take_while is_word_char s ++ skip_while is_word_char s) × (list_all is_word_char (take_while is_word_char s) ≡ true)
 unfolding skip_while
 word_parts s = (sym (take-append-drop (prefix_len is_word_char s) s), taken s)
 
--- white space in front makes no difference to what is behind it
+-- white space in front does not change what is left after skipping it
 pub skip_while-append : (w t : List ℕ) → IsBlank w → skip_while is_space (w ++ t) ≡ skip_while is_space t
 skip_while-append [] t h = refl
 skip_while-append (c ∷ w) t h =
     let p = and_parts (is_space c) (list_all is_space w) h in
     skip_while_more is_space (c ∷ (w ++ t)) (w ++ t) c refl p.0 ∙ skip_while-append w t p.1
 
--- nothing is skipped where something opens
+-- nothing is skipped at a text that may follow white space
 pub skip_while_opens : (t : List ℕ) → opens t ≡ true → skip_while is_space t ≡ t
 unfolding skip_while
 skip_while_opens [] h = refl
 skip_while_opens (c ∷ s) h =
     skip_while_stop is_space (c ∷ s) s c refl (or_parts (is_space c) (c == 41) (not-true _ h)).0
 
--- a text is some white space and what follows it
+-- a text is white space and the rest
 pub skip_while_parts : (s : List ℕ) → (w : List ℕ) × IsBlank w × (s ≡ w ++ skip_while is_space s)
 unfolding skip_while
 skip_while_parts [] = ([], refl, refl)
@@ -185,7 +185,7 @@ skip_while_parts (c ∷ s) =
       | inr e ↦ ([], refl, sym (skip_while_stop is_space (c ∷ s) s c refl e))
     ]
 
--- a text that begins with white space is some and what follows it
+-- a text that begins with white space is that white space and the rest
 pub space_parts : (s : List ℕ) → begins_space s ≡ true → (w : List ℕ) × IsSpace w × (s ≡ w ++ skip_while is_space s)
 unfolding skip_while
 space_parts [] h = absurd cc
@@ -202,20 +202,20 @@ abbrev spelled : Bool → List ℕ → List ℕ
 spelled true s = 92 ∷ s
 spelled false s = s
 
--- how a piece of one character is spelled
+-- the spelling of a character that needs no escape
 pub piece_plain : (c : ℕ) → (c == 34) ≡ false → (c == 92) ≡ false → piece c ≡ c ∷ []
 piece_plain c h k = rw (h, k) refl
 
--- a quote or a backslash is spelled with a backslash
+-- the spelling of a quote or a backslash
 pub piece_escaped : (c : ℕ) → (c == 34 || c == 92) ≡ true → piece c ≡ 92 ∷ c ∷ []
 piece_escaped c h = rw h refl
 
--- a choice that gave a value chose one of the two
+-- a conditional that gives a value chose one of the two
 pub chosen : {A : Type 0} (b : Bool) (x y z : A) → cond b x y ≡ z → ((b ≡ true) × (x ≡ z)) ⊎ ((b ≡ false) × (y ≡ z))
 chosen true x y z e = inl (refl, e)
 chosen false x y z e = inr (refl, e)
 
--- a character in front, and the text that was read
+-- a character is put in front of the text that was read
 char_onto_some : (c : ℕ) (o : Option (List ℕ × List ℕ)) (y : List ℕ × List ℕ) → char_onto c o ≡ Some y →
     (x : List ℕ × List ℕ) × (o ≡ Some x) × ((c ∷ x.0) ≡ y.0) × (x.1 ≡ y.1)
 char_onto_some c None y e = absurd cc
@@ -261,7 +261,7 @@ read_is_unquoted false (c ∷ s) y e =
       ]
     ]
 
--- what is spelled so is read as that text
+-- a spelled text is read as the text
 pub unquoted_is_read : (x r : List ℕ) → unquoted false (quoted_text x ++ r) ≡ Some (x, r)
 unfolding unquoted
 unquoted_is_read [] r = refl
@@ -289,22 +289,22 @@ unfolding chars
 length-chars [] = omega arith
 length-chars (b ∷ bs) = let h = length-chars_after (continuation_len b) (lead_bits b) bs in omega arith
 
--- the next character
+-- the characters of a text whose first one is split off
 pub chars-cons : (text rest from to : List ℕ) (c : ℕ) → IsUtf8 text → from ≡ text → rest ≡ to → from ≡ encode_utf8 c ++ to → chars text ≡ c ∷ chars rest
 chars-cons text rest from to c u e f h = chars_past_char text rest c u (sym e ∙ h ∙ ap (λ (x : List ℕ). encode_utf8 c ++ x) (sym f))
 
--- a text is the word at its front and what follows that
+-- a text is the word at its front and the rest
 pub text_parts : (text rest : List ℕ) → IsUtf8 text → IsUtf8 rest → chars rest ≡ skip_while is_word_char (chars text) → text ≡ word (chars text) ++ rest
 text_parts text rest u v e =
     let p = (word_parts (chars text)).0 in
     sym (encodes-chars text u) ∙ ap encode_utf8_all p ∙ encodes-append (take_while is_word_char (chars text)) (skip_while is_word_char (chars text))
     ∙ ap (λ (x : List ℕ). word (chars text) ++ x) (ap encode_utf8_all (sym e) ∙ encodes-chars rest v)
 
--- it may be cut between them
+-- a text may be cut after its word
 abbrev pub WordSplit : (text rest : List ℕ) → ℕ → Type 0
 WordSplit text rest n = IsCharBoundary text n × (take n text ≡ word (chars text)) × (drop n text ≡ rest)
 
--- a text may be cut behind its word
+-- a text may be cut after its word
 pub word_split : (text rest : List ℕ) → IsUtf8 text → IsUtf8 rest → chars rest ≡ skip_while is_word_char (chars text) →
     WordSplit text rest (length text - length rest)
 word_split text rest u v e =
@@ -316,12 +316,12 @@ word_split text rest u v e =
       ap (λ (x : List ℕ). drop (length text - length rest) x) p ∙ drop_at w rest (length text - length rest) n,
     )
 
--- what was said before, and what is still said
+-- a text that was read, with an earlier front
 abbrev pub with_front : List ℕ → Option (List ℕ × List ℕ) → Option (List ℕ × List ℕ)
 with_front front None = None
 with_front front (Some x) = Some (front ++ x.0, x.1)
 
--- a character more that was read
+-- one more character was read
 pub front_more : (front : List ℕ) (c : ℕ) (o : Option (List ℕ × List ℕ)) →
     with_front front (in_bytes (char_onto c o)) ≡ with_front (front ++ encode_utf8 c) (in_bytes o)
 front_more front c None = refl
@@ -350,7 +350,7 @@ module _ (schema : List Field) (d : ℕ) (s : List ℕ) where
   unit_empty e = ap (unit_of schema d) e ∙ unit_at_end schema d
 
   module _ (c : ℕ) (r : List ℕ) (open_ : d ≡ 0 → ⊥) (cons : s ≡ c ∷ r) where
-    -- a unit goes by its first character
+    -- a unit is decided by its first character
     unit_head : unit_of schema d s ≡ unit_by schema (unit_of schema (d - 1)) (c ∷ r)
     unit_head = unit_inner schema d s open_ ∙ ap (unit_by schema (unit_of schema (d - 1))) cons
 
@@ -359,7 +359,7 @@ module _ (schema : List Field) (d : ℕ) (s : List ℕ) where
     unfolding unit_by
     unit_group e = unit_head ∙ rw e refl
 
-    -- a `*` is all
+    -- a `*` is the query for all documents
     pub unit_star : c ≡ 42 → unit_of schema d s ≡ Some (Ok every, r)
     unfolding unit_by
     unit_star e = unit_head ∙ rw e refl

@@ -1,4 +1,4 @@
--- What is read from the front is in the grammar.
+-- A part that is read from the front is in the grammar.
 use Rattle.std.proofs.Common.{◌≡◌, ℕ, zero, suc, ◌<◌, Bool, true, false, not, ◌&&◌, List, [], ◌∷◌, ◌++◌, length, codes, Option, Some, None, Ok, refl, sym, ap}
 use Rattle.std.proofs.Common.{subst, ◌∙◌, append_assoc, arith, inl, inr}
 use Rattle.std.specs.Prelude.{◌==◌, option_and_then, take_while}
@@ -24,7 +24,7 @@ use Rattle.fts_query.proofs.ReadingLemmas.{take_while_more, IsPlain, plain_and, 
 use Rattle.fts_query.proofs.ReadingLemmas.{skip_while_parts, space_parts, read_is_unquoted, chosen}
 use Rattle.fts_query.specs.Grammar
 
--- the front of a text is in the language P, for x
+-- the front of a text is in the language P, with the meaning x
 abbrev pub Front : {A : Type 0} → (List ℕ → A → Type 0) → List ℕ → A × List ℕ → Type 0
 Front P s y = (x : List ℕ) × P x y.0 × (s ≡ x ++ y.1)
 
@@ -32,7 +32,7 @@ Front P s y = (x : List ℕ) × P x y.0 × (s ≡ x ++ y.1)
 abbrev pub FindsOnly : {A : Type 0} → (List ℕ → A → Type 0) → Parser A → Type 0
 FindsOnly {A} P p = (s : List ℕ) (y : A × List ℕ) → p s ≡ Some y → Front P s y
 
--- white space that is read
+-- white space that is read is in the grammar
 pub read_is_space : (s t : List ℕ) → space_at s ≡ Some t → (w : List ℕ) × IsSpace w × (s ≡ w ++ t)
 unfolding space_at
 read_is_space s t e =
@@ -41,7 +41,7 @@ read_is_space s t e =
     let p = space_parts s b.0 in
     (p.0, p.1, p.2 ∙ ap (λ (x : List ℕ). p.0 ++ x) c.1)
 
--- an operator that is read
+-- an operator that is read is in the grammar
 pub read_is_operator : (name : List ℕ) → IsPlain name → (s t : List ℕ) → operator_at name s ≡ Some t → (w : List ℕ) × IsOperator name w × (s ≡ w ++ t)
 unfolding operator_at
 read_is_operator name ascii s t e =
@@ -58,12 +58,12 @@ read_is_operator name ascii s t e =
     p.2 ∙ ap (λ (x : List ℕ). p.0 ++ x) (word ∙ ap (λ (x : List ℕ). name ++ x) (q.2 ∙ ap (λ (x : List ℕ). q.0 ++ x) c.1)) in
     (p.0 ++ (name ++ q.0), (p.0, q.0, refl, p.1, q.1), whole ∙ simp append_assoc)
 
--- what a step that follows another begins from
+-- a step after another succeeds only if both do
 pub and_then_some : {A B : Type 0} (o : Option A) (f : A → Option B) (y : B) → option_and_then f o ≡ Some y → (x : A) × (o ≡ Some x) × (f x ≡ Some y)
 and_then_some None f y e = absurd cc
 and_then_some (Some x) f y e = (x, refl, e)
 
--- the first item of a sequence, and the others
+-- a sequence that is read has a first item and others
 pub onto_some : {A : Type 0} (a : A) (o : Option (List A × List ℕ)) (y : List A × List ℕ) → onto a o ≡ Some y →
     (x : List A × List ℕ) × (o ≡ Some x) × ((a ∷ x.0) ≡ y.0) × (x.1 ≡ y.1)
 onto_some {A} a None y e = absurd cc
@@ -80,7 +80,7 @@ module _ {A : Type 0} (sep : List ℕ → Option (List ℕ)) (item : Parser A) (
   moved : (s : List ℕ) (xs : List A) (r : List ℕ) (y : List A × List ℕ) → xs ≡ y.0 → r ≡ y.1 → Front Seq s (xs, r) → Front Seq s y
   moved s xs r y e f h = let k : ◌≡◌ {A = List A × List ℕ} (xs, r) (y.0, y.1) = cc in subst (λ (p : List A × List ℕ). Front Seq s p) k h
 
-  -- an item and those that follow it, as they are read
+  -- an item and those after it are in the grammar if they are read
   read_is_onto : (o : Option (List ℕ)) (s : List ℕ) (a : A) (rest : List ℕ) (next : Parser (List A)) (y : List A × List ℕ)
       → sep rest ≡ o → Front Item s (a, rest) → FindsOnly Seq next → onto a (follow o rest next) ≡ Some y → Front Seq s y
   read_is_onto None s a rest next y e f h g =
@@ -93,7 +93,7 @@ module _ {A : Type 0} (sep : List ℕ → Option (List ℕ)) (item : Parser A) (
       let parts : s ≡ (f.0 ++ (w.0 ++ i.0)) ++ q.0.1 = f.2 ∙ ap (λ (x : List ℕ). f.0 ++ x) (w.2 ∙ ap (λ (x : List ℕ). w.0 ++ x) i.2) ∙ simp append_assoc in
       moved s (a ∷ q.0.0) q.0.1 y q.2 q.3 (f.0 ++ (w.0 ++ i.0), more f.0 w.0 i.0 a q.0.0 f.1 w.1 i.1, parts)
 
-  -- a sequence that is read
+  -- a sequence that is read is in the grammar
   read_is_seq : (n : ℕ) → FindsOnly Seq (seq_by n sep item)
   unfolding seq_by
   read_is_seq zero s y e = absurd cc
@@ -101,7 +101,7 @@ module _ {A : Type 0} (sep : List ℕ → Option (List ℕ)) (item : Parser A) (
       let b = and_then_some (item s) (λ (x : Read A). onto x.0 (follow (sep x.1) x.1 (λ t. seq_by n sep item t))) y e in
       read_is_onto (sep b.0.1) s b.0.0 b.0.1 (λ t. seq_by n sep item t) y refl (read_is_item s b.0 b.1) (read_is_seq n) b.2
 
--- a modifier at the front
+-- a negation that is read is in the grammar
 read_is_negation : (s t : List ℕ) (y : Modifier × List ℕ) → s ≡ codes "NOT" ++ t → negation_of t ≡ Some y → Front IsModifier s y
 read_is_negation s t y e h =
     elim (chosen (begins_space t) (Some (Minus, skip_while is_space t)) None (Some y) h) [
@@ -113,7 +113,7 @@ read_is_negation s t y e h =
       | inr p ↦ absurd (let k = p.1 in cc)
     ]
 
--- a modifier that is read
+-- a modifier that is read is in the grammar
 read_is_modifier : FindsOnly IsModifier modifier_of
 unfolding modifier_of
 read_is_modifier [] y e = absurd cc
@@ -142,7 +142,7 @@ read_is_modifier (c ∷ s) y e =
     ]
 
 module _ (schema : List Field) (unit : Parser Meaning) (read_is_unit : FindsOnly (IsUnit schema) unit) where
-  -- a factor at the front
+  -- a factor that is read is in the grammar
   pub read_is_factor : FindsOnly (IsFactor schema) (factor_of unit)
   unfolding factor_of
   read_is_factor s y e =
@@ -154,26 +154,26 @@ module _ (schema : List Field) (unit : Parser Meaning) (read_is_unit : FindsOnly
       let parts : s ≡ (v.0 ++ f.0) ++ u.0.1 = v.2 ∙ ap (λ (x : List ℕ). v.0 ++ x) f.2 ∙ sym (append_assoc v.0 f.0 u.0.1) in
       subst (λ (p : Factor × List ℕ). Front (IsFactor schema) s p) h (v.0 ++ f.0, Grammar.factor v.0 f.0 v.1 f.1, parts)
 
-  -- a conjunction that is read
+  -- a conjunction that is read is in the grammar
   read_is_conjunction : FindsOnly (IsConjunction schema) (conjunction_of unit)
   unfolding conjunction_of
   read_is_conjunction s = read_is_seq (operator_at (codes "AND")) (factor_of unit) (IsOperator (codes "AND")) (IsFactor schema) (IsConjunction schema)
       (read_is_operator (codes "AND") plain_and) read_is_factor (λ t a h. Grammar.one h) (λ t w u a xs h k l. Grammar.both t w u h k l) (suc (length s)) s
 
-  -- a disjunction that is read
+  -- a disjunction that is read is in the grammar
   read_is_disjunction : FindsOnly (IsDisjunction schema) (disjunction_of unit)
   unfolding disjunction_of
   read_is_disjunction s = read_is_seq (operator_at (codes "OR")) (conjunction_of unit) (IsOperator (codes "OR")) (IsConjunction schema) (IsDisjunction schema)
       (read_is_operator (codes "OR") plain_or) read_is_conjunction (λ t a h. Grammar.conjunction h) (λ t w u a xs h k l. Grammar.either t w u h k l)
       (suc (length s)) s
 
-  -- a list that is read
+  -- a list that is read is in the grammar
   read_is_list : FindsOnly (IsList schema) (list_of unit)
   unfolding list_of
   read_is_list s = read_is_seq space_at (disjunction_of unit) IsSpace (IsDisjunction schema) (IsList schema) read_is_space read_is_disjunction
       (λ t a h. Grammar.single h) (λ t w u a xs h k l. Grammar.several t w u h k l) (suc (length s)) s
 
--- a `)` that is read
+-- a `)` that is read closes the list
 close_some : (m : Meaning) (s : List ℕ) (y : Meaning × List ℕ) → close m s ≡ Some y → (s ≡ 41 ∷ y.1) × (m ≡ y.0)
 close_some m [] y e = absurd cc
 close_some m (c ∷ s) y e =
@@ -181,7 +181,7 @@ close_some m (c ∷ s) y e =
     let k : c ≡ 41 = eqb-true c 41 b.0 in
     (rw k (ap (λ (p : Meaning × List ℕ). 41 ∷ p.1) b.1), ap (λ (p : Meaning × List ℕ). p.0) b.1)
 
--- what was seen by a view was read
+-- if an image was read, the part was read
 pub over_some : {A B : Type 0} (h : A → B) (o : Option (A × List ℕ)) (y : B × List ℕ) → over h o ≡ Some y →
     (x : A × List ℕ) × (o ≡ Some x) × (h x.0 ≡ y.0) × (x.1 ≡ y.1)
 over_some h None y e = absurd cc
@@ -189,11 +189,11 @@ over_some {B = B} h (Some x) y e =
     let k : ◌≡◌ {A = B × List ℕ} (h x.0, x.1) y = same_Some _ _ e in
     (x, refl, ap (λ (p : B × List ℕ). p.0) k, ap (λ (p : B × List ℕ). p.1) k)
 
--- a list at the front, by its meaning
+-- a list at the front, with its meaning
 abbrev pub FrontMeaning : List Field → List ℕ → Meaning × List ℕ → Type 0
 FrontMeaning schema s y = (x : List ℕ) × (cs : List (List (List Factor))) × IsList schema x cs × (list_meaning cs ≡ y.0) × (s ≡ x ++ y.1)
 
--- a list that is read, by its meaning
+-- a list that is read with its meaning is in the grammar
 read_is_meaning : (schema : List Field) (unit : Parser Meaning) → FindsOnly (IsUnit schema) unit → (s : List ℕ) (y : Meaning × List ℕ) →
     meaning_of unit s ≡ Some y → FrontMeaning schema s y
 unfolding meaning_of
@@ -202,11 +202,11 @@ read_is_meaning schema unit u s y e =
     let f = read_is_list schema unit u s x.0 x.1 in
     (f.0, x.0.0, f.1, x.2, f.2 ∙ ap (λ (t : List ℕ). f.0 ++ t) x.3)
 
--- the word at the front, and its bytes
+-- the word at the front, with its bytes
 WordFront : List ℕ → List ℕ × List ℕ → Type 0
 WordFront s y = (w : List ℕ) × IsWord w × (encode_utf8_all w ≡ y.0) × (s ≡ w ++ y.1)
 
--- a word that is read
+-- a word that is read is in the grammar
 read_is_word : (s : List ℕ) (y : List ℕ × List ℕ) → word_of s ≡ Some y → WordFront s y
 unfolding WordFront word_of
 read_is_word [] y e = absurd cc
@@ -218,7 +218,7 @@ read_is_word (c ∷ s) y e =
     subst (λ (p : List ℕ × List ℕ). (w : List ℕ) × IsWord w × (encode_utf8_all w ≡ p.0) × ((c ∷ s) ≡ w ++ p.1)) b.1
     (take_while is_word_char (c ∷ s), (l, p.1), refl, p.0)
 
--- a bound that is read
+-- a bound that is read is in the grammar
 read_is_bound : FindsOnly IsBound bound_of
 unfolding bound_of WordFront
 read_is_bound [] y e = absurd cc
@@ -236,7 +236,7 @@ read_is_bound (c ∷ s) y e =
           subst (λ (p : Option (List ℕ) × List ℕ). Front IsBound (c ∷ s) p) h (w.0, is, w.3)
     ]
 
--- the end of a range that is read
+-- the end of a range that is read is in the grammar
 read_is_range_end : (low : Bound (List ℕ)) (high : Option (List ℕ)) (s : List ℕ) (y : Value × List ℕ) → range_end low high s ≡ Some y →
     (e : ℕ) × (j : Bool) × Closes e j × (s ≡ e ∷ y.1) × (between low (bound j high) ≡ y.0)
 unfolding range_end
@@ -256,7 +256,7 @@ read_is_range_end low high (c ∷ s) y e =
       ]
     ]
 
--- a range that is read
+-- a range that is read is in the grammar
 read_is_range : (b : ℕ) (i : Bool) → Opens b i → (s : List ℕ) (y : Value × List ℕ) → range_of i s ≡ Some y → Front IsValue (b ∷ s) y
 unfolding range_of
 read_is_range b i o s y e =
@@ -282,17 +282,17 @@ read_is_range b i o s y e =
     let is : IsValue text y.0 = subst (λ (z : Value). IsValue text z) r.4 (Grammar.IsValue.range u.0 low.0 w.0 high.0 v.0 o u.1 low.1 w.1 high.1 v.1 r.2) in
     (text, is, parts)
 
--- a word whose first character is no `=` begins with none
+-- a word whose first character is not `=` does not begin with `=`
 no_equals : (c : ℕ) (s w r : List ℕ) → (c == 61) ≡ false → 0 < length w → c ∷ s ≡ w ++ r → begins_equals w ≡ false
 no_equals c s [] r e l p = absurd (omega arith)
 no_equals c s (d ∷ w) r e l p = let k : c ≡ d = cc in subst (λ (x : ℕ). (x == 61) ≡ false) k e
 
--- a word behind a mark, and `=` before it where it is included
+-- a word after a comparison's mark, and `=` before it if it is included
 pub data IsCompared : List ℕ → Bool × List ℕ → Type 0 where
   equal : {w : List ℕ} → IsWord w → IsCompared (61 ∷ w) (true, encode_utf8_all w)
   other : {w : List ℕ} → IsWord w → begins_equals w ≡ false → IsCompared w (false, encode_utf8_all w)
 
--- the word of a comparison that is read
+-- the word of a comparison that is read is in the grammar
 read_is_compared : FindsOnly IsCompared compared_of
 unfolding compared_of WordFront
 read_is_compared [] y e = absurd cc
@@ -314,17 +314,17 @@ read_is_compared (c ∷ s) y e =
           subst (λ (p : (Bool × List ℕ) × List ℕ). Front IsCompared (c ∷ s) p) h (w.0, is, w.3)
     ]
 
--- a comparison by `>`
+-- a comparison by `>` is in the grammar
 above_is : {w : List ℕ} {x : Bool × List ℕ} → IsCompared w x → IsValue (62 ∷ w) (between (bound x.0 (Some x.1)) Unbounded)
 above_is (IsCompared.equal h) = Grammar.IsValue.at_least h
 above_is (IsCompared.other h n) = Grammar.IsValue.greater h n
 
--- a comparison by `<`
+-- a comparison by `<` is in the grammar
 below_is : {w : List ℕ} {x : Bool × List ℕ} → IsCompared w x → IsValue (60 ∷ w) (between Unbounded (bound x.0 (Some x.1)))
 below_is (IsCompared.equal h) = Grammar.IsValue.at_most h
 below_is (IsCompared.other h n) = Grammar.IsValue.less h n
 
--- a quoted text that is read, in bytes
+-- a quoted text that is read is in the grammar, in bytes
 read_is_in_bytes : (s : List ℕ) (o : Option (List ℕ × List ℕ)) (y : List ℕ × List ℕ) → unquoted false s ≡ o → in_bytes o ≡ Some y →
     (t : List ℕ) × (encode_utf8_all t ≡ y.0) × (s ≡ quoted_text t ++ y.1)
 read_is_in_bytes s None y h e = absurd cc
@@ -333,12 +333,12 @@ read_is_in_bytes s (Some x) y h e =
     let t : s ≡ quoted_text x.0 ++ x.1 = read_is_unquoted false s x h in
     (x.0, ap (λ (p : List ℕ × List ℕ). p.0) k, t ∙ ap (λ (p : List ℕ × List ℕ). quoted_text x.0 ++ p.1) k)
 
--- a quoted text that is read
+-- a quoted text that is read is in the grammar
 read_is_quoted : (s : List ℕ) (y : List ℕ × List ℕ) → quoted_of s ≡ Some y → (t : List ℕ) × (encode_utf8_all t ≡ y.0) × (s ≡ quoted_text t ++ y.1)
 unfolding quoted_of
 read_is_quoted s y e = read_is_in_bytes s (unquoted false s) y refl e
 
--- what is read after a field and a colon
+-- what is read after a field and a colon is in the grammar
 read_is_value : FindsOnly IsValue value_of
 unfolding value_of quoted_value_of above_of below_of plain_of WordFront
 read_is_value [] y e = absurd cc
@@ -383,7 +383,7 @@ read_is_value (c ∷ s) y e =
     ]
 
 module _ (schema : List Field) where
-  -- what is read after a bare word
+  -- what is read after a bare word is in the grammar
   read_is_after : (s t : List ℕ) (y : Meaning × List ℕ) (w : List ℕ) → IsBare w → s ≡ w ++ t → after_bare schema (encode_utf8_all w) t ≡ Some y →
       Front (IsUnit schema) s y
   unfolding after_bare
@@ -419,7 +419,7 @@ module _ (schema : List Field) where
       let k : not (begins_modifier c) ≡ true = q.1 in
       subst (λ (x : List ℕ). is_bare x ≡ true) (sym e) (rw (k, n) refl)
 
-  -- a bare word that is read
+  -- a bare word that is read is in the grammar
   read_is_bare : FindsOnly (IsUnit schema) (bare_of schema)
   unfolding bare_of
   read_is_bare [] y e = absurd cc
@@ -430,7 +430,7 @@ module _ (schema : List Field) where
         | inr p ↦ absurd (let k = p.1 in cc)
       ]
 
-  -- a group that is read
+  -- a group that is read is in the grammar
   read_is_group : (s : List ℕ) (x : Meaning × List ℕ) (y : Meaning × List ℕ) → FrontMeaning schema (skip_while is_space s) x →
       close x.0 (skip_while is_space x.1) ≡ Some y → Front (IsUnit schema) (40 ∷ s) y
   read_is_group s x y f e =
@@ -445,7 +445,7 @@ module _ (schema : List Field) where
       let h : IsUnit schema text y.0 = subst (λ (z : Meaning). IsUnit schema text z) m (Grammar.group v.0 f.0 w.0 f.1 v.1 f.2 w.1) in
       (text, h, parts)
 
-  -- a unit that is read
+  -- a unit that is read is in the grammar
   pub read_is_unit : (d : ℕ) → FindsOnly (IsUnit schema) (unit_of schema d)
   unfolding unit_of unit_by quoted_literal_of group_of
   read_is_unit zero s y e = absurd cc
@@ -475,12 +475,12 @@ module _ (schema : List Field) where
         ]
       ]
 
-  -- a text that ends where it should
+  -- a text that is read whole has no rest
   ended_some : (n : Meaning) (s : List ℕ) (m : Meaning) → ended n s ≡ Some m → (s ≡ []) × (m ≡ n)
   ended_some n [] m e = (refl, sym (same_Some _ _ e))
   ended_some n (c ∷ s) m e = absurd cc
 
-  -- a query that is read
+  -- a query that is read is in the grammar
   pub read_is_query : (d : ℕ) (s : List ℕ) (m : Meaning) → query_of schema d s ≡ Some m → IsQuery schema s m
   unfolding query_of
   read_is_query d s m e =

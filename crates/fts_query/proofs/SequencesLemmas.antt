@@ -1,4 +1,4 @@
--- The levels of a list: what is read item by item is what the productions are read as.
+-- The levels of a list: reading item by item gives what the productions give.
 use Rattle.std.proofs.Common.{◌≡◌, ℕ, zero, suc, ◌<◌, ◌≤◌, List, [], ◌∷◌, ◌++◌, length, map, codes, Option, Some, None, refl, sym, ap, ◌∙◌, arith}
 use Rattle.std.proofs.Common.{length-append}
 use Rattle.std.specs.Prelude.{option_and_then}
@@ -24,7 +24,7 @@ over_over : {A B C : Type 0} (g : B → C) (h : A → B) (o : Option (A × List 
 over_over g h None = refl
 over_over g h (Some x) = refl
 
--- views that agree show the same
+-- views that agree give the same
 over_same : {A B : Type 0} (g h : A → B) (o : Option (A × List ℕ)) → ((x : A) → g x ≡ h x) → over g o ≡ over h o
 over_same g h None e = refl
 over_same {B = B} g h (Some x) e = ap (λ (y : B). Some (y, x.1)) (e x.0)
@@ -34,7 +34,7 @@ onto-over : {A B : Type 0} (h : A → B) (x : A) (o : Option (List A × List ℕ
 onto-over h x None = refl
 onto-over h x (Some y) = refl
 
--- a sequence of items that are seen by a view
+-- a sequence of items under a view
 seq_by-over : {A B : Type 0} (sep : List ℕ → Option (List ℕ)) (item : Parser A) (h : A → B) (seen : Parser B) → ((s : List ℕ) → seen s ≡ over h (item s)) →
     (n : ℕ) (s : List ℕ) → seq_by n sep seen s ≡ over (map h) (seq_by n sep item s)
 unfolding seq_by
@@ -51,11 +51,11 @@ seq_by-over {A} {B} sep item h seen e (suc n) s =
           ]
     ]
 
--- a conjunction and a disjunction, as the level above sees them
+-- a conjunction as an item of the level above
 abbrev conjunction_part : List Factor → Part
 conjunction_part fs = joined levels.Conjunction (map lone fs)
 
--- a disjunction, as the level above sees it
+-- a disjunction as an item of the level above
 abbrev disjunction_part : List (List Factor) → Part
 disjunction_part cs = joined levels.Disjunction (map conjunction_part cs)
 
@@ -72,7 +72,7 @@ conjunction_node fs = ap node (factor_clauses fs)
 should : Meaning → Clause
 should m = (Should, m)
 
--- what a conjunction is to its disjunction
+-- the clause of a conjunction in its disjunction
 conjunction_clause : (fs : List Factor) → clause_of levels.Disjunction (conjunction_part fs) ≡ should (conjunction fs)
 unfolding should
 conjunction_clause [] = refl
@@ -89,7 +89,7 @@ disjunction_node : (cs : List (List Factor)) → node_of levels.Disjunction (map
 unfolding should
 disjunction_node cs = ap node (conjunction_clauses cs)
 
--- what a disjunction is to its list
+-- the clause of a disjunction in its list
 clause_of-disjunction : (cs : List (List Factor)) → clause_of levels.List (disjunction_part cs) ≡ disjunction_clause cs
 unfolding disjunction_clause should
 clause_of-disjunction [] = refl
@@ -138,11 +138,11 @@ module _ (unit : Parser Meaning) where
       sym (e ∙ over_over (node_of levels.List) (map disjunction_part) items ∙ over_same (λ ds. node_of levels.List (map disjunction_part ds)) list_meaning items
       list_node)
 
--- no more is left than there was
+-- a parser leaves no more than there was
 abbrev IsShorter : {A : Type 0} → Parser A → Type 0
 IsShorter {A} p = (s : List ℕ) (y : A × List ℕ) → p s ≡ Some y → length y.1 ≤ length s
 
--- a view leaves what was left
+-- a parser under a view leaves as much as the parser
 over_shorter : {A B : Type 0} (h : A → B) (p : Parser A) → IsShorter p → IsShorter (λ s. over h (p s))
 over_shorter h p short s y e =
     let x = over_some h (p s) y e in
@@ -163,7 +163,7 @@ separator_shorter levels.List s t e =
     omega (arith, ap length w.2, length-append w.0 t, w.1.0)
 
 module _ {A : Type 0} (level : Level) (item : Parser A) (item_shorter : IsShorter item) where
-  -- no more is left behind the items that follow one
+  -- the items after one leave no more than there was
   follow_shorter : (o : Option (List ℕ)) (rest : List ℕ) (next : Parser (List A)) (y : List A × List ℕ) → separator_of level rest ≡ o → IsShorter next →
       follow o rest next ≡ Some y → length y.1 ≤ length rest
   follow_shorter None rest next y e h g =
@@ -171,7 +171,7 @@ module _ {A : Type 0} (level : Level) (item : Parser A) (item_shorter : IsShorte
       omega (arith, ap (λ (p : List A × List ℕ). length p.1) k)
   follow_shorter (Some t) rest next y e h g = omega (arith, h t y g, separator_shorter level rest t e)
 
-  -- no more is left behind a sequence
+  -- a sequence leaves no more than there was
   seq_by_shorter : (n : ℕ) → IsShorter (seq_by n (separator_of level) item)
   unfolding seq_by
   seq_by_shorter zero s y e = absurd cc
@@ -181,23 +181,23 @@ module _ {A : Type 0} (level : Level) (item : Parser A) (item_shorter : IsShorte
       let q = onto_some b.0.0 (follow (separator_of level b.0.1) b.0.1 next) y b.2 in
       omega (arith, item_shorter s b.0 b.1, follow_shorter (separator_of level b.0.1) b.0.1 next q.0 refl (seq_by_shorter n) q.1, ap length q.3)
 
--- no more is left behind a sequence of a level
+-- a sequence of a level leaves no more than there was
 sequence_by_shorter : (level : Level) (item : Parser Part) → IsShorter item → IsShorter (sequence_by level item)
 unfolding sequence_by
 sequence_by_shorter level item short s y e =
     over_shorter (joined level) (seq_by (suc (length s)) (separator_of level) item) (seq_by_shorter level item short (suc (length s))) s y e
 
 module _ (schema : List Field) (depth : ℕ) where
-  -- the units of a nesting
+  -- the parser of units of a nesting
   abbrev unit : Parser Meaning
   unit = unit_of schema depth
 
-  -- no more is left behind a factor
+  -- a factor leaves no more than there was
   factor_shorter : IsShorter (factor_part unit)
   factor_shorter = over_shorter lone (factor_of unit) (λ s y e. let f = read_is_factor schema unit (read_is_unit schema depth) s y e in
       omega (arith, ap length f.2, length-append f.0 y.1))
 
-  -- no more is left behind an item
+  -- an item leaves no more than there was
   item_shorter : (level : Level) → IsShorter (item_of level unit)
   item_shorter levels.Conjunction = factor_shorter
   item_shorter levels.Disjunction = sequence_by_shorter levels.Conjunction (factor_part unit) factor_shorter
@@ -205,23 +205,23 @@ module _ (schema : List Field) (depth : ℕ) where
       sequence_by_shorter levels.Disjunction (item_of levels.Disjunction unit) (sequence_by_shorter levels.Conjunction (factor_part unit) factor_shorter)
 
   module _ (level : Level) where
-    -- the clauses so far and those that follow make the outcome, where enough may follow
+    -- the clauses so far and those that follow give the total, if enough may follow
     pub record Goes (g : Gathered) (rest : List ℕ) (total : Option (Gathered × List ℕ)) : Type 0 where
       pub most : ℕ
       pub enough : length rest ≤ most
       pub whole : then_gathered level g (following most level unit rest) ≡ total
 
-    -- a first item is gathered before the others
+    -- a first item is collected before the others
     onto_gathered : (g : Gathered) (x : Part) (o : Option (List Part × List ℕ)) →
         then_gathered level g (onto x o) ≡ then_gathered level (gather g (clause_of level x)) o
     onto_gathered g x None = refl
     onto_gathered g x (Some y) = refl
 
-    -- the outcome of an item and of those that follow it
+    -- the total of an item and of those that follow it
     abbrev pub total_of : ℕ → Part → List ℕ → Option (Gathered × List ℕ)
     total_of n first text = then_gathered level nothing_gathered (onto first (following n level unit text))
 
-    -- the first item
+    -- the first item is collected
     pub Goes-start : (g : Gathered) (first : Part) (text : List ℕ) (n : ℕ) → g ≡ gather nothing_gathered (clause_of level first) → length text ≤ n →
         Goes g text (total_of n first text)
     Goes-start g first text n e l = record {
@@ -231,29 +231,29 @@ module _ (schema : List Field) (depth : ℕ) where
           ∙ sym (onto_gathered nothing_gathered first (following n level unit text));
     }
 
-    -- what follows a separator
+    -- the items after a separator
     following_next : (m : ℕ) (rest next : List ℕ) → Some next ≡ separator_of level rest →
         following m level unit rest ≡ seq_by m (separator_of level) (item_of level unit) next
     following_next m rest next e = ap (λ (o : Option (List ℕ)). follow o rest (λ t. seq_by m (separator_of level) (item_of level unit) t)) (sym e)
 
-    -- nothing follows where there is no separator
+    -- no items follow if there is no separator
     following_last : (m : ℕ) (rest : List ℕ) → None ≡ separator_of level rest → following m level unit rest ≡ Some ([], rest)
     following_last m rest e = ap (λ (o : Option (List ℕ)). follow o rest (λ t. seq_by m (separator_of level) (item_of level unit) t)) (sym e)
 
-    -- a sequence from its first item on
+    -- a sequence after its first item
     seq_by-item : (m : ℕ) (s left : List ℕ) (p : Part) → item_of level unit s ≡ Some (p, left) → seq_by (suc m) (separator_of level) (item_of level unit) s
         ≡ onto p (following m level unit left)
     unfolding seq_by
     seq_by-item m s left p e =
         ap (option_and_then (λ (x : Read Part). onto x.0 (follow (separator_of level x.1) x.1 (λ t. seq_by m (separator_of level) (item_of level unit) t)))) e
 
-    -- no sequence without a first item
+    -- no sequence is read without a first item
     seq_by-none : (m : ℕ) (s : List ℕ) → item_of level unit s ≡ None → seq_by (suc m) (separator_of level) (item_of level unit) s ≡ None
     unfolding seq_by
     seq_by-none m s e = ap
         (option_and_then (λ (x : Read Part). onto x.0 (follow (separator_of level x.1) x.1 (λ t. seq_by m (separator_of level) (item_of level unit) t)))) e
 
-    -- another item, by how many may follow
+    -- another item is collected, by the number that may follow
     next_step : (m : ℕ) (g h : Gathered) (rest next left : List ℕ) (p : Part) (total : Option (Gathered × List ℕ)) → length rest ≤ m →
         then_gathered level g (following m level unit rest) ≡ total → Some next ≡ separator_of level rest → item_of level unit next ≡ Some (p, left) →
         h ≡ gather g (clause_of level p) → Goes h left total
@@ -267,17 +267,17 @@ module _ (schema : List Field) (depth : ℕ) where
               ∙ sym (ap (then_gathered level g) q) ∙ w;
         }
 
-    -- another item
+    -- another item is collected
     pub Goes-next : (g h : Gathered) (rest next left : List ℕ) (p : Part) (total : Option (Gathered × List ℕ)) → Some next ≡ separator_of level rest →
         item_of level unit next ≡ Some (p, left) → h ≡ gather g (clause_of level p) → Goes g rest total → Goes h left total
     Goes-next g h rest next left p total e i k goes = next_step goes.most g h rest next left p total goes.enough goes.whole e i k
 
-    -- less is left behind a separator and an item
+    -- a separator and an item leave less than there was
     pub Goes-smaller : (rest next left : List ℕ) (p : Part) → Some next ≡ separator_of level rest → item_of level unit next ≡ Some (p, left) →
         length left < length rest
     Goes-smaller rest next left p e i = let s = separator_shorter level rest next (sym e) in let r = item_shorter level next (p, left) i in omega arith
 
-    -- what was gathered is of all items
+    -- the collected clauses are those of all items
     gathered_is : (o : Option (List Part × List ℕ)) (g : Gathered) (rest : List ℕ) → then_gathered level nothing_gathered o ≡ Some (g, rest) →
         over (node_of level) o ≡ Some (gathered_node g, rest)
     gathered_is None g rest e = absurd (let k = e in cc)
@@ -287,25 +287,25 @@ module _ (schema : List Field) (depth : ℕ) where
         k in
         ap (λ (m : Meaning). Some (m, x.1)) n ∙ ap (λ (p : Gathered × List ℕ). Some (gathered_node g, p.1)) k
 
-    -- nothing gathered is nothing read
+    -- if nothing is collected, nothing is read
     gathered_none : {C : Type 0} (view : List Part → C) (o : Option (List Part × List ℕ)) → then_gathered level nothing_gathered o ≡ None → over view o ≡ None
     gathered_none view None e = refl
     gathered_none view (Some x) e = absurd (let k = e in cc)
 
-    -- no other item
+    -- the sequence ends if no separator follows
     pub Goes-last : (n : ℕ) (first : Part) (text rest : List ℕ) (g : Gathered) (m : Meaning) → None ≡ separator_of level rest →
         Goes g rest (total_of n first text) → m ≡ gathered_node g → over (node_of level) (onto first (following n level unit text)) ≡ Some (m, rest)
     Goes-last n first text rest g m e goes k =
         gathered_is (onto first (following n level unit text)) g rest (sym goes.whole ∙ ap (then_gathered level g) (following_last goes.most rest e))
         ∙ ap (λ (x : Meaning). Some (x, rest)) (sym k)
 
-    -- an item that is not there, by how many may follow
+    -- a missing item ends the reading, by the number that may follow
     fail_step : (m : ℕ) (g : Gathered) (rest next : List ℕ) (total : Option (Gathered × List ℕ)) → length rest ≤ m →
         then_gathered level g (following m level unit rest) ≡ total → Some next ≡ separator_of level rest → item_of level unit next ≡ None → total ≡ None
     fail_step zero g rest next total l w e i = absurd (let s = separator_shorter level rest next (sym e) in omega arith)
     fail_step (suc m) g rest next total l w e i = sym w ∙ ap (then_gathered level g) (following_next (suc m) rest next e ∙ seq_by-none m next i)
 
-    -- an item that is not there
+    -- a missing item ends the reading
     pub Goes-fails : (error : ParseError) (n : ℕ) (first : Part) (text rest next : List ℕ) (g : Gathered) → Some next ≡ separator_of level rest →
         Misses error (item_of level unit next) → Goes g rest (total_of n first text) →
         Misses error (over (node_of level) (onto first (following n level unit text)))
@@ -314,13 +314,13 @@ module _ (schema : List Field) (depth : ℕ) where
         gathered_none (node_of level) (onto first (following n level unit text)) (fail_step goes.most g rest next (total_of n first text) goes.enough goes.whole
         e i)
 
-    -- a sequence of one item
+    -- a sequence of one item is that item
     pub sequence_lone : (s rest : List ℕ) (p : Part) → item_of level unit s ≡ Some (p, rest) → None ≡ separator_of level rest →
         sequence_of level unit s ≡ Some (p, rest)
     unfolding sequence_by
     sequence_lone s rest p e f = ap (over (joined level)) (seq_by-item (length s) s rest p e ∙ ap (onto p) (following_last (length s) rest f))
 
-    -- no sequence without a first item
+    -- no sequence is read without a first item
     pub sequence_fails : (error : ParseError) (s : List ℕ) → Misses error (item_of level unit s) → Misses error (sequence_of level unit s)
     unfolding sequence_by
     sequence_fails Memory s e = tt
@@ -337,7 +337,7 @@ module _ (schema : List Field) (depth : ℕ) where
         let k : b.0.0 ∷ q.0.0 ≡ [] = q.2 in
         cc
 
-    -- two items or more are joined to a node
+    -- two or more items are joined to a node
     joined_several : (p : Part) (o : Option (List Part × List ℕ)) (next : List ℕ) (n : ℕ) (m : Meaning) (rest : List ℕ) →
         seq_by n (separator_of level) (item_of level unit) next ≡ o → over (node_of level) (onto p o) ≡ Some (m, rest) →
         over (joined level) (onto p o) ≡ Some (several m, rest)
@@ -347,7 +347,7 @@ module _ (schema : List Field) (depth : ℕ) where
         let k : ◌≡◌ {A = Meaning × List ℕ} (node_of level (p ∷ q ∷ ps), t) (m, rest) = same_Some _ _ h in
         ap (λ (x : Meaning × List ℕ). Some (several x.0, x.1)) k
 
-    -- a sequence of several items
+    -- a sequence of several items is their node
     pub sequence_several : (s rest next left : List ℕ) (p : Part) (m : Meaning) → item_of level unit s ≡ Some (p, rest) → Some next ≡ separator_of level rest →
         over (node_of level) (onto p (following (length s) level unit rest)) ≡ Some (m, left) → sequence_of level unit s ≡ Some (several m, left)
     unfolding sequence_by
@@ -356,12 +356,12 @@ module _ (schema : List Field) (depth : ℕ) where
         following_next (length s) rest next f in
         ap (over (joined level)) (seq_by-item (length s) s rest p e) ∙ joined_several p (following (length s) level unit rest) next (length s) m left (sym k) h
 
-    -- nothing read shows nothing
+    -- if nothing is read under one view, nothing is read under another
     none_onto : {C D : Type 0} (view : List Part → C) (other : List Part → D) (o : Option (List Part × List ℕ)) → over view o ≡ None → over other o ≡ None
     none_onto view other None e = refl
     none_onto view other (Some x) e = absurd (let k = e in cc)
 
-    -- no sequence where a later item is not there
+    -- no sequence is read if a later item is missing
     pub sequence_stops : (error : ParseError) (s rest : List ℕ) (p : Part) → item_of level unit s ≡ Some (p, rest) →
         Misses error (over (node_of level) (onto p (following (length s) level unit rest))) → Misses error (sequence_of level unit s)
     unfolding sequence_by
@@ -370,16 +370,16 @@ module _ (schema : List Field) (depth : ℕ) where
         ap (over (joined level)) (seq_by-item (length s) s rest p e) ∙ none_onto (node_of level) (joined level) (onto p (following (length s) level unit rest))
         h
 
-  -- a list, from its first item on
+  -- a list after its first item
   pub meaning_of-first : (s rest : List ℕ) (p : Part) → item_of levels.List unit s ≡ Some (p, rest) →
       meaning_of unit s ≡ over (node_of levels.List) (onto p (following (length s) levels.List unit rest))
   meaning_of-first s rest p e = meaning_of-items unit s ∙ ap (over (node_of levels.List)) (seq_by-item levels.List (length s) s rest p e)
 
-  -- no list without a first item
+  -- no list is read without a first item
   pub meaning_of_fails : (error : ParseError) (s : List ℕ) → Misses error (item_of levels.List unit s) → Misses error (meaning_of unit s)
   meaning_of_fails Memory s e = tt
   meaning_of_fails (Syntax left) s e = meaning_of-items unit s ∙ ap (over (node_of levels.List)) (seq_by-none levels.List (length s) s e)
 
-  -- what is left behind a list's first item is no more than the list
+  -- a list's first item leaves no more than there was
   pub first_shorter : (level : Level) (s rest : List ℕ) (p : Part) → item_of level unit s ≡ Some (p, rest) → length rest ≤ length s
   first_shorter level s rest p e = item_shorter level s (p, rest) e

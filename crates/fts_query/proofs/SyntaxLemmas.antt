@@ -39,7 +39,7 @@ module _ (s t : List Field) where
     list_of_another (Grammar.several x w y c o cs) = let d = disjunction_of_another c in let ds = list_of_another cs in
         (d.0 ∷ ds.0, Grammar.several x w y d.1 o ds.1)
 
-  -- a query of one schema is one of another
+  -- a query under one schema is one under another
   query_of_another : {text : List ℕ} {m : Meaning} → IsQuery s text m → (n : Meaning) × IsQuery t text n
   query_of_another q =
       let k = list_of_another q.list in (
@@ -62,16 +62,16 @@ module _ (s t : List Field) where
 syntax_of_another : (s t : List Field) (text : List ℕ) (byte : ℕ) → Reads s text (Err (Syntax byte)) → Reads t text (Err (Syntax byte))
 syntax_of_another s t text byte h = (h.0, h.1, λ m q. let k = query_of_another t s q in h.2 k.0 k.1)
 
--- what reads as anything else is no syntax error
+-- a text with another outcome is no syntax error
 told_none : (schema : List Field) (text : List ℕ) (x : Result QueryValue Refusal) → (without_byte x ≡ Err (Syntax 0) → ⊥) → Reads schema text x →
     TellsSyntax text None
 told_none schema text x other h = λ s byte k. other (one_outcome schema text x (Err (Syntax byte)) h (syntax_of_another s schema text byte k))
 
--- a query is none
+-- a query is reported without a byte
 pub told_query : (schema : List Field) (text : List ℕ) (q : QueryValue) → Reads schema text (Ok q) → TellsSyntax text None
 told_query schema text q h = told_none schema text (Ok q) (λ k. absurd (let e = k in cc)) h
 
--- a refusal is told by its byte
+-- a refusal is reported with its byte
 told_refusal : (schema : List Field) (text : List ℕ) (e : Refusal) → (e ≡ Memory) ⊎ Reads schema text (Err e) → byte_of e ≤ length text → (at : Option ℕ) →
     IsByteOf e at → TellsSyntax text at
 told_refusal schema text Memory h within at is = absurd is
@@ -80,7 +80,7 @@ told_refusal schema text (Syntax byte) (inr h) within at is = subst (TellsSyntax
 told_refusal schema text e (inl k) within at is = absurd (let g = k in cc)
 told_refusal schema text e (inr h) within at is = subst (TellsSyntax text) (sym is) (told_none schema text (Err e) (λ k. absurd (let g = k in cc)) h)
 
--- what was told of a refusal
+-- the byte of a refusal is that of the text
 pub told : {X : Type 0} (schema : List Field) (text : List ℕ) (e : Refusal) → (e ≡ Memory) ⊎ Reads schema text (Err e) → byte_of e ≤ length text →
     (r : Result (Option ℕ) X) → IfOk r (IsByteOf e) → IfOk r (TellsSyntax text)
 told schema text e h within (Ok at) is = told_refusal schema text e h within at is

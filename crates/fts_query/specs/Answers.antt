@@ -1,4 +1,4 @@
--- The one outcome of a text, as a reading from the left finds it.
+-- The one outcome of a text, as reading from the left finds it.
 use Rattle.std.specs.Prelude.{◌≡◌, ℕ, nat_lt, List, length, Option, Some, None, Result, Ok, Err, if◌then◌else◌}
 use Rattle.std.specs.List.{list_all}
 use Rattle.std.specs.Str.{chars}
@@ -16,7 +16,7 @@ use Rattle.fts_query.specs.Grammar.{is_space}
 use Rattle.fts_query.specs.Outcomes.{is_too_deep}
 use Rattle.fts_query.specs.Reading.{query_of}
 
--- the refusal that an error is
+-- the refusal for an error
 abbrev pub refusal_of : QueryError → Refusal
 refusal_of errors.UnknownField = UnknownField
 refusal_of errors.BadNumber = BadNumber
@@ -36,20 +36,20 @@ answer_from (Some m) = outcome_of m
 abbrev pub answer_fit : List Field → List ℕ → Result QueryValue Refusal
 answer_fit schema text = if list_all is_space text then Ok nothing else answer_from (query_of schema 4096 text)
 
--- the one outcome that a text reads as, the byte of a syntax error aside
+-- the one outcome of a text, with 0 as the byte of a syntax error
 unfoldable pub answer : List Field → List ℕ → Result QueryValue Refusal
 answer schema text =
     if nat_lt 4096 (length text) then Err TooLong
     else (if is_too_deep Outside 0 (chars text) then Err TooDeep
     else answer_fit schema (chars text))
 
--- the refusal is the outcome, the byte of a syntax error aside, unless memory ran out
+-- a refusal is the outcome except for the byte of a syntax error, or memory ran out
 abbrev pub IsRefusal : Refusal → Result QueryValue Refusal → Type 0
 IsRefusal Memory outcome = Unit {0}
 IsRefusal (Syntax byte) outcome = outcome ≡ Err (Syntax 0)
 IsRefusal refusal outcome = outcome ≡ Err refusal
 
--- what the code answered is the outcome
+-- the result of the code is the outcome
 abbrev pub IsAnswer : Result Query Refusal → Result QueryValue Refusal → Type 0
 IsAnswer (Ok query) outcome = outcome ≡ Ok (query_value query)
 IsAnswer (Err refusal) outcome = IsRefusal refusal outcome

@@ -1,4 +1,4 @@
--- The characters that the query language gives a meaning.
+-- The characters that have a meaning in the query language.
 use Rattle.std.specs.Prelude.{ℕ}
 
 abbrev pub tab : ℕ

@@ -1,4 +1,4 @@
--- A Boolean node while its clauses come one by one.
+-- A Boolean node that collects its clauses one by one.
 --
 -- Only proofs and contracts within the crate need this file.
 use Rattle.std.specs.Prelude.{List, [], ◌∷◌, ◌++◌, Option, Some, None, Result, Ok, Err, map}
@@ -8,7 +8,7 @@ use Rattle.fts_query.specs.declared.clauses.Clauses.{Clauses}
 use Rattle.fts_model.specs.QueryValues.{QueryValue, query_value}
 use Rattle.fts_query.specs.Meanings.{Meaning, Clause, boolean_of}
 
--- musts, must-nots and shoulds, or the first error
+-- the musts, must-nots and shoulds that were collected, or the first error
 abbrev pub Gathered : Type 0
 Gathered = Result (List QueryValue × List QueryValue × List QueryValue) QueryError
 
@@ -32,7 +32,7 @@ abbrev pub gather_all : Gathered → List Clause → Gathered
 gather_all g [] = g
 gather_all g (c ∷ cs) = gather_all (gather g c) cs
 
--- the node of what was gathered
+-- the node of the collected clauses
 abbrev pub gathered_node : Gathered → Meaning
 gathered_node (Err error) = Err error
 gathered_node (Ok g) = boolean_of g.0 g.1 g.2

@@ -1,4 +1,4 @@
--- Which texts are queries of a schema, and what each means. A text is a list of characters.
+-- The texts that are queries of a schema, each with its meaning. A text is a list of characters.
 use Rattle.std.specs.Prelude.{◌≡◌, ℕ, ◌<◌, Bool, true, false, not, ◌&&◌, ◌||◌, ◌==◌, List, [], ◌∷◌, ◌++◌, length, codes}
 use Rattle.std.specs.Prelude.{Option, Some, None, Ok, if◌then◌else◌}
 use Rattle.std.specs.List.{list_all, list_any}
@@ -27,11 +27,11 @@ is_special c = list_any (λ s. s == c) (codes "()\":[]{}<>^~*\\")
 unfoldable pub is_word_char : ℕ → Bool
 is_word_char c = not (is_space c || is_special c)
 
--- none or any number of spaces
+-- a text of only white space, possibly empty
 abbrev pub IsBlank : List ℕ → Type 0
 IsBlank w = list_all is_space w ≡ true
 
--- one or more
+-- a nonempty text of only white space
 abbrev pub IsSpace : List ℕ → Type 0
 IsSpace w = (0 < length w) × IsBlank w
 
@@ -46,20 +46,20 @@ is_bare (c ∷ w) = not (c == plus || c == minus) && not (is_reserved (c ∷ w))
 abbrev pub IsBare : List ℕ → Type 0
 IsBare w = (list_all is_word_char w ≡ true) × (is_bare w ≡ true)
 
--- a character between quotes: `"` and `\` come after a `\`
+-- a character between quotes: `"` and `\` are written after a `\`
 abbrev pub piece : ℕ → List ℕ
 piece c = if c == quote || c == backslash then backslash ∷ c ∷ [] else c ∷ []
 
--- a text and the closing quote
+-- a text between quotes, with the closing quote
 abbrev pub quoted_text : List ℕ → List ℕ
 quoted_text [] = quote ∷ []
 quoted_text (c ∷ cs) = piece c ++ quoted_text cs
 
--- a word between white space
+-- a word with white space on both sides
 abbrev pub IsOperator : List ℕ → List ℕ → Type 0
 IsOperator name w = (u v : List ℕ) × (w ≡ u ++ (name ++ v)) × IsSpace u × IsSpace v
 
--- a bound, if there is one
+-- a bound of a range: a word, or `*` for none
 pub data IsBound : List ℕ → Option (List ℕ) → Type 0 where
   none : IsBound (star ∷ []) None
   at : {w : List ℕ} → IsWord w → IsBound w (Some (encode_utf8_all w))
@@ -69,7 +69,7 @@ bound included None = Unbounded
 bound true (Some w) = Included w
 bound false (Some w) = Excluded w
 
--- `[` and `]` include the bound, `{` and `}` exclude it
+-- an opening bracket: `[` includes its bound, `{` excludes it; and likewise a closing one, `]` or `}`
 pub data Opens : ℕ → Bool → Type 0 where
   included : Opens open_bracket true
   excluded : Opens open_brace false
@@ -82,7 +82,7 @@ abbrev pub begins_equals : List ℕ → Bool
 begins_equals [] = false
 begins_equals (c ∷ w) = c == equals
 
--- what comes after a field and a colon
+-- what follows a field and a colon
 pub data IsValue : List ℕ → Value → Type 0 where
   word : {w : List ℕ} → IsWord w → IsValue w (literal (encode_utf8_all w))
   quoted : (unquoted : List ℕ) → IsValue (quote ∷ quoted_text unquoted) (literal (encode_utf8_all unquoted))
@@ -98,7 +98,7 @@ pub data IsValue : List ℕ → Value → Type 0 where
   less : {w : List ℕ} → IsWord w → begins_equals w ≡ false
       → IsValue (less_than ∷ w) (between Unbounded (Excluded (encode_utf8_all w)))
 
--- nothing, `+`, `-`, or `NOT` and white space
+-- a modifier: nothing, `+`, `-`, or `NOT` and white space
 pub data IsModifier : List ℕ → Modifier → Type 0 where
   plain : IsModifier [] Plain
   required : IsModifier (plus ∷ []) Plus
@@ -106,7 +106,7 @@ pub data IsModifier : List ℕ → Modifier → Type 0 where
   negated : {w : List ℕ} → IsSpace w → IsModifier (codes "NOT" ++ w) Minus
 
 mutual
-  -- a list in parentheses, `*`, a literal, or a field and what comes after it
+  -- a unit: a list in parentheses, `*`, a literal, or a field with what follows it
   pub data IsUnit (schema : List Field) : List ℕ → Meaning → Type 0 where
     group : (v s w : List ℕ) (disjunctions : List (List (List Factor)))
         → IsBlank v → IsList schema s disjunctions → IsBlank w
@@ -118,31 +118,31 @@ mutual
     field : (w s : List ℕ) {v : Value} → IsBare w → IsValue s v
         → IsUnit schema (w ++ (colon ∷ s)) (field_meaning schema (encode_utf8_all w) v)
 
-  -- a modifier, then a unit
+  -- a factor: a modifier, then a unit
   pub data IsFactor (schema : List Field) : List ℕ → Factor → Type 0 where
     factor : (v s : List ℕ) {modifier : Modifier} {m : Meaning} → IsModifier v modifier → IsUnit schema s m
         → IsFactor schema (v ++ s) (modifier, m)
 
-  -- factors with `AND` between them
+  -- a conjunction: factors separated by `AND`
   pub data IsConjunction (schema : List Field) : List ℕ → List Factor → Type 0 where
     one : {s : List ℕ} {f : Factor} → IsFactor schema s f → IsConjunction schema s (f ∷ [])
     both : (s w t : List ℕ) {f : Factor} {fs : List Factor} → IsFactor schema s f → IsOperator (codes "AND") w
         → IsConjunction schema t fs → IsConjunction schema (s ++ (w ++ t)) (f ∷ fs)
 
-  -- conjunctions with `OR` between them
+  -- a disjunction: conjunctions separated by `OR`
   pub data IsDisjunction (schema : List Field) : List ℕ → List (List Factor) → Type 0 where
     conjunction : {s : List ℕ} {c : List Factor} → IsConjunction schema s c → IsDisjunction schema s (c ∷ [])
     either : (s w t : List ℕ) {c : List Factor} {cs : List (List Factor)}
         → IsConjunction schema s c → IsOperator (codes "OR") w → IsDisjunction schema t cs
         → IsDisjunction schema (s ++ (w ++ t)) (c ∷ cs)
 
-  -- disjunctions with white space between them
+  -- a list: disjunctions separated by white space
   pub data IsList (schema : List Field) : List ℕ → List (List (List Factor)) → Type 0 where
     single : {s : List ℕ} {c : List (List Factor)} → IsDisjunction schema s c → IsList schema s (c ∷ [])
     several : (s w t : List ℕ) {c : List (List Factor)} {cs : List (List (List Factor))}
         → IsDisjunction schema s c → IsSpace w → IsList schema t cs → IsList schema (s ++ (w ++ t)) (c ∷ cs)
 
--- a list, with white space round it
+-- a query: a list with white space around it
 pub record IsQuery (schema : List Field) (text : List ℕ) (m : Meaning) : Type 0 where
   pub before : List ℕ
   pub inner : List ℕ

@@ -1,4 +1,4 @@
--- What a text reads as: a query, or a refusal.
+-- The outcome of reading a text: a query, or a refusal.
 use Rattle.std.specs.Prelude.{◌≡◌, ℕ, ◌+◌, ◌-◌, ◌<◌, ◌≤◌, ◌⊎◌, Bool, true, false, ◌==◌, nat_lt, List, [], ◌∷◌, length}
 use Rattle.std.specs.Prelude.{Result, Ok, Err, Option, Some, None, if◌then◌else◌}
 use Rattle.std.specs.Str.{chars}
@@ -15,7 +15,7 @@ use Rattle.fts_query.specs.Characters.{quote, open_parenthesis, close_parenthesi
 use Rattle.fts_query.specs.Meanings.{Meaning}
 use Rattle.fts_query.specs.Grammar.{IsBlank, IsQuery}
 
--- whether the parentheses outside of quotes nest over 32 deep, where this many are open before
+-- whether the parentheses outside quotes nest over 32 deep, if `depth` are open before
 unfoldable pub is_too_deep : Quoting → ℕ → List ℕ → Bool
 is_too_deep quoting depth [] = false
 is_too_deep Outside depth (c ∷ cs) =
@@ -34,12 +34,11 @@ pub record IsFit (text : List ℕ) : Type 0 where
   pub short : length text ≤ 4096
   pub shallow : is_too_deep Outside 0 (chars text) ≡ false
 
--- a text of white space alone is the query for no document
+-- a text of only white space is the query for no document
 abbrev pub IsNothing : List ℕ → QueryValue → Type 0
 IsNothing text query = IsBlank (chars text) × (query ≡ nothing)
 
--- what a text reads as under a schema: a query or a refusal, by the checks in their order, the grammar and what it
--- means
+-- the outcome of a text under a schema: a query or a refusal, by the checks in their order, the grammar and the meaning
 abbrev pub Reads : List Field → List ℕ → Result QueryValue Refusal → Type 0
 Reads schema text (Ok query) = IsFit text × (IsNothing text query ⊎ IsQuery schema (chars text) (Ok query))
 Reads schema text (Err TooLong) = 4096 < length text
@@ -53,30 +52,29 @@ Reads schema text (Err NoDefaultField) = IsFit text × IsQuery schema (chars tex
 Reads schema text (Err AllNegative) = IsFit text × IsQuery schema (chars text) (Err errors.AllNegative)
 Reads schema text (Err refusal) = ⊥
 
--- the byte that a refusal names, or 0
+-- the byte of a syntax error, or 0 for another refusal
 abbrev pub byte_of : Refusal → ℕ
 byte_of (Syntax byte) = byte
 byte_of refusal = 0
 
--- what a refusal tells of a byte: a syntax error has one, any other has none, and of what had no memory nothing is
--- known
+-- the byte of a refusal: a syntax error has one, any other refusal has none; `Memory` says nothing of the text
 abbrev pub IsByteOf : Refusal → Option ℕ → Type 0
 IsByteOf Memory at = ⊥
 IsByteOf (Syntax byte) at = at ≡ Some byte
 IsByteOf refusal at = at ≡ None
 
--- a refusal and an outcome, the byte of a syntax error aside
+-- a refusal with 0 as the byte of a syntax error
 abbrev pub refusal_without_byte : Refusal → Refusal
 refusal_without_byte (Syntax byte) = Syntax 0
 refusal_without_byte refusal = refusal
 
--- an outcome without the byte of a syntax error
+-- an outcome with 0 as the byte of a syntax error
 abbrev pub without_byte : Result QueryValue Refusal → Result QueryValue Refusal
 without_byte (Ok query) = Ok query
 without_byte (Err refusal) = Err (refusal_without_byte refusal)
 
--- A text that isn't in the grammar is a syntax error under each schema, and is told with a byte of it, or its end; any
--- other is told with none.
+-- a text that isn't in the grammar is a syntax error under each schema, reported with a byte of the text or its end;
+-- any other text is reported with none
 abbrev pub TellsSyntax : List ℕ → Option ℕ → Type 0
 TellsSyntax text None = (schema : List Field) (byte : ℕ) → Reads schema text (Err (Syntax byte)) → ⊥
 TellsSyntax text (Some byte) = (byte ≤ length text) × ((schema : List Field) → Reads schema text (Err (Syntax byte)))

@@ -1,7 +1,7 @@
--- Reading from left to right: what is at the front of a text, and what follows it.
+-- Reading from left to right: a part at the front of a text, and the rest after it.
 --
--- The code finds exactly what is said here, and the proofs tie it to the grammar. No public contract of this crate
--- names it.
+-- The code computes exactly these functions, and the proofs tie them to the grammar. No public contract of this crate
+-- names them.
 use Rattle.std.specs.Prelude.{ℕ, zero, suc, Bool, true, false, not, ◌&&◌, ◌||◌, ◌==◌, List, [], ◌∷◌, length, drop}
 use Rattle.std.specs.Prelude.{take_while, codes, Option, Some, None, option_and_then, Ok, if◌then◌else◌}
 use Rattle.std.specs.List.{prefix_len}
@@ -22,14 +22,14 @@ use Rattle.fts_query.specs.Meanings.{Meaning, Factor, Value, literal, between, l
 use Rattle.fts_query.specs.Meanings.{field_meaning}
 use Rattle.fts_query.specs.Grammar.{is_space, is_word_char, bound}
 
--- what was read, and what follows it
+-- a part that was read, and the rest after it
 abbrev pub Read : Type 0 → Type 0
 Read A = A × List ℕ
 
 abbrev pub Parser : Type 0 → Type 0
 Parser A = List ℕ → Option (Read A)
 
--- what follows the characters at the front that pass a test
+-- the rest after the longest prefix of characters that pass a test
 unfoldable pub skip_while : (ℕ → Bool) → List ℕ → List ℕ
 skip_while test s = drop (prefix_len test s) s
 
@@ -50,7 +50,7 @@ abbrev pub closes : List ℕ → Bool
 closes [] = true
 closes (c ∷ s) = c == close_parenthesis
 
--- what follows a separator
+-- the rest after a separator, if there is one
 unfoldable pub space_at : List ℕ → Option (List ℕ)
 space_at s = if begins_space s && not (closes (skip_while is_space s)) then Some (skip_while is_space s) else None
 
@@ -66,18 +66,18 @@ abbrev pub onto : {A : Type 0} → A → Option (List A × List ℕ) → Option 
 onto x None = None
 onto x (Some y) = Some (x ∷ y.0, y.1)
 
--- what is found after a separator, or nothing more if there is none
+-- the items after a separator, or no more items if there is none
 abbrev pub follow : {A : Type 0} → Option (List ℕ) → List ℕ → Parser (List A) → Option (List A × List ℕ)
 follow None rest next = Some ([], rest)
 follow (Some t) rest next = next t
 
--- items with separators, n at most
+-- at most n items with separators
 unfoldable pub seq_by : {A : Type 0} → ℕ → (List ℕ → Option (List ℕ)) → Parser A → Parser (List A)
 seq_by {A} zero sep item s = None
 seq_by {A} (suc n) sep item s =
     option_and_then (λ (x : Read A). onto x.0 (follow (sep x.1) x.1 (λ t. seq_by n sep item t))) (item s)
 
--- `NOT` and white space, after `NOT`
+-- the rest of a negation, after the word `NOT`: white space
 abbrev pub negation_of : Parser Modifier
 negation_of t = if begins_space t then Some (Minus, skip_while is_space t) else None
 
@@ -89,7 +89,7 @@ modifier_of (c ∷ s) =
     else (if bytes_eq (word (c ∷ s)) (codes "NOT") then negation_of (skip_while is_word_char (c ∷ s))
     else Some (Plain, c ∷ s)))
 
--- a modifier, then a unit
+-- a factor: a modifier, then a unit
 unfoldable pub factor_of : Parser Meaning → Parser Factor
 factor_of unit s =
     option_and_then
@@ -105,21 +105,21 @@ disjunction_of unit s = seq_by (suc (length s)) (operator_at (codes "OR")) (conj
 unfoldable pub list_of : Parser Meaning → Parser (List (List (List Factor)))
 list_of unit s = seq_by (suc (length s)) space_at (disjunction_of unit) s
 
--- what was read, seen by a function
+-- a part that was read, replaced by its image
 abbrev pub over : {A B : Type 0} → (A → B) → Option (A × List ℕ) → Option (B × List ℕ)
 over h None = None
 over h (Some x) = Some (h x.0, x.1)
 
--- a list, by its meaning
+-- the meaning of a list
 unfoldable pub meaning_of : Parser Meaning → Parser Meaning
 meaning_of unit s = over list_meaning (list_of unit s)
 
--- after a list in parentheses
+-- the closing parenthesis of a list
 abbrev pub close : Meaning → Parser Meaning
 close m [] = None
 close m (c ∷ s) = if c == close_parenthesis then Some (m, s) else None
 
--- after an opening parenthesis
+-- a list in parentheses, after the opening one
 unfoldable pub group_of : Parser Meaning → Parser Meaning
 group_of unit s =
     option_and_then (λ (x : Read Meaning). close x.0 (skip_while is_space x.1))
@@ -129,7 +129,7 @@ abbrev pub char_onto : ℕ → Option (List ℕ × List ℕ) → Option (List �
 char_onto c None = None
 char_onto c (Some x) = Some (c ∷ x.0, x.1)
 
--- after an opening quote, or after an escape: the text of the pieces up to the closing quote
+-- a quoted text, after its opening quote or an escape: the text of the pieces up to the closing quote
 unfoldable pub unquoted : Bool → List ℕ → Option (List ℕ × List ℕ)
 unquoted escaped [] = None
 unquoted false (c ∷ s) =
@@ -146,7 +146,7 @@ in_bytes (Some x) = Some (encode_utf8_all x.0, x.1)
 unfoldable pub quoted_of : Parser (List ℕ)
 quoted_of s = in_bytes (unquoted false s)
 
--- a word, which may not be empty
+-- a nonempty word
 unfoldable pub word_of : Parser (List ℕ)
 word_of [] = None
 word_of (c ∷ s) = if is_word_char c then Some (word (c ∷ s), skip_while is_word_char (c ∷ s)) else None
@@ -157,7 +157,7 @@ bound_of (c ∷ s) =
     if c == star then Some (None, s)
     else option_and_then (λ (x : Read (List ℕ)). Some (Some x.0, x.1)) (word_of (c ∷ s))
 
--- after the upper bound of a range
+-- the end of a range, after the upper bound
 unfoldable pub range_end : Bound (List ℕ) → Option (List ℕ) → Parser Value
 range_end low high [] = None
 range_end low high (c ∷ s) =
@@ -173,7 +173,7 @@ range_of i s =
     (operator_at (codes "TO") x.1))
     (bound_of (skip_while is_space s))
 
--- after a mark: the word after it, and whether `=` stands between
+-- the word of a comparison, after its mark, and whether `=` is between them
 unfoldable pub compared_of : Parser (Bool × List ℕ)
 compared_of [] = None
 compared_of (c ∷ s) =
@@ -196,7 +196,7 @@ quoted_value_of s = option_and_then (λ (x : Read (List ℕ)). Some (literal x.0
 unfoldable pub plain_of : Parser Value
 plain_of s = option_and_then (λ (x : Read (List ℕ)). Some (literal x.0, x.1)) (word_of s)
 
--- after a field and a colon
+-- what follows a field and a colon
 unfoldable pub value_of : Parser Value
 value_of [] = None
 value_of (c ∷ s) =
@@ -207,14 +207,14 @@ value_of (c ∷ s) =
     else (if c == less_than then below_of s
     else plain_of (c ∷ s)))))
 
--- after a bare word
+-- what follows a bare word
 unfoldable pub after_bare : List Field → List ℕ → Parser Meaning
 after_bare schema w [] = Some (literal_anywhere schema w, [])
 after_bare schema w (c ∷ s) =
     if c == colon then option_and_then (λ (v : Read Value). Some (field_meaning schema w v.0, v.1)) (value_of s)
     else Some (literal_anywhere schema w, c ∷ s)
 
--- whether a character begins no bare word
+-- whether no bare word begins with a character
 abbrev pub begins_modifier : ℕ → Bool
 begins_modifier c = c == plus || c == minus
 
@@ -225,12 +225,12 @@ bare_of schema (c ∷ s) =
     then after_bare schema (word (c ∷ s)) (skip_while is_word_char (c ∷ s))
     else None
 
--- after an opening quote
+-- a quoted text as a literal, after the opening quote
 unfoldable pub quoted_literal_of : List Field → Parser Meaning
 quoted_literal_of schema s =
     option_and_then (λ (x : Read (List ℕ)). Some (literal_anywhere schema x.0, x.1)) (quoted_of s)
 
--- a unit, whose inner units are read by unit
+-- a unit, whose inner units are read by `unit`
 unfoldable pub unit_by : List Field → Parser Meaning → Parser Meaning
 unit_by schema unit [] = None
 unit_by schema unit (c ∷ s) =

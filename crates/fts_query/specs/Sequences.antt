@@ -14,7 +14,7 @@ use Rattle.fts_query.specs.Meanings.{Meaning, Factor, Clause, occur_in_conjuncti
 use Rattle.fts_query.specs.Gathering.{Gathered, gather_all}
 use Rattle.fts_query.specs.Reading.{Parser, operator_at, space_at, follow, seq_by, over, factor_of}
 
--- what a sequence is to the level above: its only factor, or the node of its clauses
+-- a sequence as an item of the level above: its only factor, or the node of its clauses
 pub data Part : Type 0 where
   lone : Factor → Part
   several : Meaning → Part
@@ -26,7 +26,7 @@ abbrev pub part_seen : CodePart → Part
 part_seen (parts.Lone f) = lone (factor_seen f)
 part_seen (parts.Several m) = several (result_map query_value m)
 
--- what an item is to the node of its level
+-- an item as a clause of the node of its level
 abbrev pub clause_of : Level → Part → Clause
 clause_of levels.Conjunction (lone f) = (occur_in_conjunction f.0, f.1)
 clause_of levels.Disjunction (lone f) = (Should, conjunction (f ∷ []))
@@ -36,19 +36,19 @@ clause_of level (several m) = (Should, m)
 abbrev pub node_of : Level → List Part → Meaning
 node_of level ps = node (map (clause_of level) ps)
 
--- one item stands for itself
+-- a sequence of items: a single item is itself, and several make a node
 abbrev pub joined : Level → List Part → Part
 joined level [] = several (node_of level [])
 joined level (p ∷ []) = p
 joined level (p ∷ q ∷ ps) = several (node_of level (p ∷ q ∷ ps))
 
--- what follows the separator of a level
+-- the rest after the separator of a level, if there is one
 abbrev pub separator_of : Level → List ℕ → Option (List ℕ)
 separator_of levels.Conjunction s = operator_at (codes "AND") s
 separator_of levels.Disjunction s = operator_at (codes "OR") s
 separator_of levels.List s = space_at s
 
--- a sequence of items that item reads
+-- a sequence of items that `item` reads
 unfoldable pub sequence_by : Level → Parser Part → Parser Part
 sequence_by level item s = over (joined level) (seq_by (suc (length s)) (separator_of level) item s)
 
@@ -65,11 +65,11 @@ item_of levels.List unit s = sequence_by levels.Disjunction (sequence_by levels.
 abbrev pub sequence_of : Level → Parser Meaning → Parser Part
 sequence_of level unit s = sequence_by level (item_of level unit) s
 
--- the items that follow one at its level, n at most
+-- the items that follow one at its level, at most n
 abbrev pub following : ℕ → Level → Parser Meaning → Parser (List Part)
 following n level unit s = follow (separator_of level s) s (λ t. seq_by n (separator_of level) (item_of level unit) t)
 
--- the clauses so far, and those of the items that are read
+-- the clauses so far with those of the items that are read
 abbrev pub then_gathered : Level → Gathered → Option (List Part × List ℕ) → Option (Gathered × List ℕ)
 then_gathered level g None = None
 then_gathered level g (Some x) = Some (gather_all g (map (clause_of level) x.0), x.1)

@@ -1,4 +1,4 @@
--- What comes after a field, without where it is in memory.
+-- What follows a field, independent of memory.
 --
 -- Only proofs and contracts within the crate need this file.
 use Rattle.std.specs.Prelude.{ℕ, ◌≤◌, List, length}

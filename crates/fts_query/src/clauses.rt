@@ -1,4 +1,4 @@
-// A Boolean node while its clauses are read.
+// A Boolean node under construction, while its clauses are read.
 ghost use Rattle.std.specs.Prelude.{◌≡◌};
 ghost use Rattle.fts_query.specs.Meanings.{occur_in_conjunction, occur_alone};
 
@@ -9,10 +9,10 @@ use std::alloc::{AllocError, Global};
 /// A query, or the first error in it.
 pub(crate) type Meaning = Result<Query, QueryError>;
 
-/// What comes before a unit.
+/// The modifier of a unit.
 #[derive(Clone, Copy, Debug, PartialEq, Eq)]
 pub enum Modifier {
-    /// Nothing.
+    /// No modifier.
     Plain,
     /// `+`.
     Plus,
@@ -20,7 +20,7 @@ pub enum Modifier {
     Minus,
 }
 
-/// What a clause is to its node.
+/// The role of a clause in its Boolean node.
 #[derive(Clone, Copy, Debug, PartialEq, Eq)]
 pub enum Occur {
     Must,
@@ -28,7 +28,7 @@ pub enum Occur {
     Should,
 }
 
-/// What a factor of a conjunction is to it.
+/// The role of a factor in a conjunction.
 pub(crate) fn occur_in_conjunction(modifier: Modifier) -> Occur
     ensures { result ≡ occur_in_conjunction modifier }
 {
@@ -38,7 +38,7 @@ pub(crate) fn occur_in_conjunction(modifier: Modifier) -> Occur
     }
 }
 
-/// What a factor that is a disjunction by itself is to its list.
+/// The role in a list of a factor that is a whole disjunction.
 pub(crate) fn occur_alone(modifier: Modifier) -> Occur
     ensures { result ≡ occur_alone modifier }
 {
@@ -64,7 +64,7 @@ impl Clauses {
     ghost use Rattle.fts_model.specs.QueryValues.{query_value};
     ghost use Rattle.fts_query.specs.Gathering.{gathered_of, gather, gathered_node};
 
-    /// No clauses.
+    /// No clauses yet.
     pub(crate) fn new(alloc: Global) -> Clauses
         ensures { gathered_of result ≡ Ok ([], [], []) }
     {
@@ -76,7 +76,7 @@ impl Clauses {
         }
     }
 
-    /// Adds a clause. After an error nothing is kept.
+    /// Adds a clause. After an error no further query is stored.
     pub(crate) fn push(&mut self, occur: Occur, meaning: Meaning) -> Result<(), AllocError>
         ensures { OnOk result (gathered_of self.new
             ≡ gather (gathered_of self.old) (occur, result_map query_value meaning)) }
@@ -99,7 +99,7 @@ impl Clauses {
         Ok(())
     }
 
-    /// The node of the clauses, of which there is one or more: `AllNegative` if all are must-nots.
+    /// The node of the clauses, of which there is at least one. It is `AllNegative` if all are must-nots.
     pub(crate) fn into_node(self) -> Meaning
         ensures { result_map query_value result ≡ gathered_node (gathered_of self) }
     {

@@ -1,4 +1,4 @@
-// Whether a query nests too deep to be read.
+// Decides whether a query nests too deep to be read.
 ghost use Rattle.std.specs.Prelude.{◌≡◌};
 ghost use Rattle.std.specs.Str.{chars};
 ghost use Rattle.fts_query.specs.declared.depth.Quoting.TheVariants.{Outside};
@@ -6,21 +6,21 @@ ghost use Rattle.fts_query.specs.Outcomes.{is_too_deep};
 
 use crate::input::split_first;
 
-/// Where a look from the left stands, by quotes.
+/// The state of a scan with respect to quotes.
 #[derive(Clone, Copy, Debug, PartialEq, Eq)]
 pub enum Quoting {
-    /// Outside of quotes.
+    /// Outside quotes.
     Outside,
-    /// Between quotes.
+    /// Inside quotes.
     Quoted,
-    /// Between quotes, after a `\`.
+    /// Inside quotes, after a `\`.
     Escaped,
 }
 
-/// The most parentheses that may be open at a time.
+/// The greatest depth of nested parentheses.
 const DEEPEST: u32 = 32;
 
-/// Whether the parentheses outside of quotes nest over 32 deep. A `)` too many closes nothing.
+/// Whether the parentheses outside quotes nest over 32 deep. A `)` without a `(` closes nothing.
 #[tactic(auto, unfolding(crate::specs::Outcomes::is_too_deep))]
 pub(crate) fn is_too_deep(text: &str) -> bool
     ensures { result ≡ is_too_deep Outside 0 (chars text.now) }

@@ -1,12 +1,12 @@
-// Why a text is no query: it isn't in the grammar, or it means nothing under the schema.
+// The reasons for which a text is no query: it isn't in the grammar, or it has no meaning under the schema.
 use std::alloc::{AllocError, AllocFailed};
 
-/// Why a reading stopped before its end.
+/// The reason for which a parse stopped early.
 #[derive(Clone, Copy, Debug, PartialEq, Eq)]
 pub enum ParseError {
-    /// A growth was refused.
+    /// The allocator refused a growth.
     Memory,
-    /// The text isn't in the grammar, where this many bytes are left.
+    /// The text isn't in the grammar; this many bytes were not read.
     Syntax(usize),
 }
 
@@ -32,17 +32,17 @@ impl<T: Drop> From<AllocFailed<T>> for ParseError {
     }
 }
 
-/// Why a text that is in the grammar is no query of a schema.
+/// The reason for which a text in the grammar is no query of a schema.
 #[derive(Clone, Copy, Debug, PartialEq, Eq)]
 pub enum QueryError {
     /// The schema has no field of that name.
     UnknownField,
     /// A literal or a bound of a number field is no number of its kind.
     BadNumber,
-    /// A range or a comparison on a text field.
+    /// A text field has a range or a comparison.
     RangeOnText,
-    /// A literal without a field, and no default field.
+    /// A literal has no field, and the schema has no default field.
     NoDefaultField,
-    /// A Boolean node of must-nots alone.
+    /// A Boolean node has only must-nots.
     AllNegative,
 }

@@ -1,4 +1,4 @@
-// What is left of a text, and what is at its front: white space, words and operators.
+// The rest of a text, and what it begins with: white space, words and operators.
 ghost use Rattle.std.specs.Prelude.{◌≡◌, ◌≤◌, ◌∷◌, ◌++◌, [], length, MatchOption, IfOk, string_bytes, false};
 ghost use Rattle.std.specs.Char.{encode_utf8};
 ghost use Rattle.std.specs.Str.{chars};
@@ -43,7 +43,7 @@ pub(crate) fn is_reserved(word: &str) -> bool
     word == "AND" || word == "OR" || word == "NOT"
 }
 
-/// The first character, and what follows it.
+/// The first character and the text after it.
 pub(crate) fn split_first(text: &str) -> Option<(char, &str)>
     ensures chars { MatchOption result (chars text.now ≡ []) (λ x. chars text.now ≡ x.0 ∷ chars x.1.now) }
     ensures bytes { MatchOption result (length text.now ≡ 0) (λ x. text.now ≡ encode_utf8 x.0 ++ x.1.now) }
@@ -59,7 +59,7 @@ pub(crate) fn split_first(text: &str) -> Option<(char, &str)>
 pub enum Class {
     /// White space.
     Space,
-    /// What a word may have.
+    /// A character of a word.
     Word,
 }
 
@@ -73,7 +73,7 @@ fn is_of(class: Class, c: char) -> bool
     }
 }
 
-/// What follows the characters of a class at the front.
+/// The text after the longest prefix of characters of a class.
 #[tactic(auto, using(crate::proofs::ReadingLemmas::skip_while_end, crate::proofs::ReadingLemmas::skip_while_more, crate::proofs::ReadingLemmas::skip_while_stop))]
 fn skip_while(class: Class, text: &str) -> &str
     ensures chars { chars result.now ≡ skip_while (is_of class) (chars text.now) }
@@ -89,7 +89,7 @@ fn skip_while(class: Class, text: &str) -> &str
     rest
 }
 
-/// The word at the front, which may be empty, and what follows it.
+/// The word at the front, which may be empty, and the text after it.
 fn split_word(text: &str) -> (&str, &str)
     ensures word { result.0.now ≡ word (chars text.now) }
     ensures rest { chars result.1.now ≡ skip_while is_word_char (chars text.now) }
@@ -100,8 +100,8 @@ fn split_word(text: &str) -> (&str, &str)
     text.split_at(text.len() - rest.len())
 }
 
-/// A quoted text, after its opening quote, with its escapes resolved, and what follows it. It is refused at the byte
-/// from which on nothing closes it, or at a `\\` before another character than `"` and `\\`.
+/// A quoted text with its escapes resolved, and the text after it; the opening quote was already read. It is refused at
+/// the byte from which nothing closes it, or at a `\\` before a character other than `"` and `\\`.
 #[tactic(auto, using(crate::proofs::ReadingLemmas::front_more), unfolding(crate::specs::Reading::unquoted, crate::specs::Reading::quoted_of))]
 fn unquote(alloc: Global, text: &str) -> Result<(String, &str), ParseError>
     ensures unquoted { Finds (λ x. (string_bytes x.0, chars x.1.now)) result (quoted_of (chars text.now)) }
@@ -130,7 +130,7 @@ fn unquote(alloc: Global, text: &str) -> Result<(String, &str), ParseError>
     Err(ParseError::Syntax(0))
 }
 
-/// What is left of a query to read. Contracts see its characters.
+/// The rest of a query. Contracts see its characters.
 #[derive(Drop)]
 pub(crate) struct Input<'a> {
     rest: &'a str,
@@ -155,7 +155,7 @@ impl<'a> Input<'a> {
     ghost use Rattle.fts_query.specs.Reading.{word, quoted_of, begins_space, closes, space_at, operator_at, skip_while};
     ghost use Rattle.fts_query.specs.Steps.{Finds};
 
-    /// All of a text.
+    /// A whole text as input.
     pub(crate) fn new(text: &'a str) -> Input<'a>
         requires { length text.now ≤ 4096 }
         ensures { result ≡ chars text.entry.now }
@@ -163,19 +163,19 @@ impl<'a> Input<'a> {
         Input { rest: text }
     }
 
-    /// How many bytes are left.
+    /// The number of bytes that are left.
     pub(crate) fn len(&self) -> usize {
         self.rest.len()
     }
 
-    /// The same again, to look ahead.
+    /// A copy of the input, to look ahead.
     pub(crate) fn fork(&self) -> Input<'a>
         ensures { result ≡ self.now }
     {
         Input { rest: self.rest }
     }
 
-    /// The first character, and what follows it.
+    /// The first character and the input after it.
     pub(crate) fn split_first(self) -> Option<(char, Input<'a>)>
         ensures { MatchOption result (self.entry ≡ []) (λ x. self.entry ≡ x.0 ∷ x.1) }
     {
@@ -191,7 +191,7 @@ impl<'a> Input<'a> {
         Some(first)
     }
 
-    /// What follows the white space at the front.
+    /// The input after the white space at the front.
     pub(crate) fn after_space(self) -> Input<'a>
         ensures { result ≡ skip_while is_space self.entry }
     {
@@ -200,7 +200,7 @@ impl<'a> Input<'a> {
         }
     }
 
-    /// The word at the front, which may be empty, and what follows it.
+    /// The word at the front, which may be empty, and the input after it.
     pub(crate) fn split_word(self) -> (&'a str, Input<'a>)
         ensures word { result.0.now ≡ word self.entry }
         ensures short { length result.0.now ≤ 4096 }
@@ -210,7 +210,7 @@ impl<'a> Input<'a> {
         (word, Input { rest })
     }
 
-    /// A quoted text, after its opening quote, with its escapes resolved, and what follows it.
+    /// A quoted text with its escapes resolved, and the input after it; the opening quote was already read.
     pub(crate) fn unquote(self, alloc: Global) -> Result<(String, Input<'a>), ParseError>
         ensures unquoted { Finds (λ x. (string_bytes x.0, x.1)) result (quoted_of self.entry) }
         ensures short { IfOk result (λ x. length (string_bytes x.0) ≤ 4096) }
@@ -219,7 +219,7 @@ impl<'a> Input<'a> {
         Ok((unquoted, Input { rest }))
     }
 
-    /// Whether white space is at the front.
+    /// Whether the input begins with white space.
     pub(crate) fn begins_space(&self) -> bool
         ensures { result ≡ begins_space self.now }
     {
@@ -239,7 +239,7 @@ impl<'a> Input<'a> {
         }
     }
 
-    /// What follows the white space at the front, if a list goes on after it.
+    /// The input after the white space at the front, if a list goes on after it.
     #[tactic(auto, unfolding(crate::specs::Reading::space_at))]
     pub(crate) fn after_gap(&self) -> Option<Input<'a>>
         ensures { option_map (λ x. x) result ≡ space_at self.now }
@@ -252,7 +252,7 @@ impl<'a> Input<'a> {
         }
     }
 
-    /// What follows a word that stands between white space.
+    /// The input after the word `name` with white space on both sides, if that is at the front.
     #[tactic(auto, unfolding(crate::specs::Reading::operator_at))]
     pub(crate) fn after_operator(&self, name: &str) -> Option<Input<'a>>
         ensures { option_map (λ x. x) result ≡ operator_at name.now self.now }

@@ -1,7 +1,7 @@
 //! The query language: [`parse`] reads a text under a schema as a query, or says why it is none.
 //!
-//! A text is what somebody types: words and quoted texts, fields, ranges, `AND`, `OR`, `NOT`, `+`, `-` and parentheses,
-//! much as Lucene's and Tantivy's parsers take them. docs/QUERIES.md has the whole language.
+//! A text is what a user types: words and quoted texts, fields, ranges, `AND`, `OR`, `NOT`, `+`, `-` and parentheses,
+//! much as Lucene's and Tantivy's parsers read them. docs/QUERIES.md has the whole language.
 //!
 //! # Example
 //!
@@ -15,14 +15,14 @@
 //!
 //! # Why it is built so
 //!
-//! - The grammar is a relation between a text and its meaning, one constructor a production (`specs/Grammar.antt`), so
-//!   that it can be read beside docs/QUERIES.md; no parser occurs in it. `parse` is proved against it in both
-//!   directions, and [`laws`] say that each text has an outcome, and only one.
-//! - The clauses of a node are gathered as they are read, and there is no tree of the syntax beside the query. An error
-//!   in what a part means is kept until the text is known to be in the grammar, since a syntax error comes first.
+//! - The grammar is a relation between a text and its meaning, with one constructor per production
+//!   (`specs/Grammar.antt`), so that it can be read beside docs/QUERIES.md; no parser occurs in it. `parse` is proved
+//!   against it in both directions, and [`laws`] say that each text has an outcome, and only one.
+//! - The clauses of a node are collected as they are read, and there is no syntax tree beside the query. An error in
+//!   the meaning of a part is held back until the text is known to be in the grammar, since a syntax error comes first.
 //! - The conjunctions, disjunctions and lists of the grammar are one sequence at three levels (`reader.rt`).
 //! - Length and nesting are checked before anything is read, so the depth of the recursion is bounded, and a text that
-//!   is too long, too deep or blank has its outcome whatever memory there is.
+//!   is too long, too deep or blank has its outcome even if no memory is left.
 #![tactic(auto)]
 
 mod clauses;

@@ -1,4 +1,4 @@
-// What literals and fields mean under a schema.
+// The meaning of literals and fields under a schema.
 ghost use Rattle.std.specs.Prelude.{◌≡◌, ◌≤◌, ◌-◌, length, map, IfOk};
 ghost use Rattle.std.specs.List.{list_any};
 ghost use Rattle.fts_text.specs.Tokens.{tokens};
@@ -28,7 +28,7 @@ fn token(alloc: Global, text: &str, place: Token) -> Result<Text, AllocError>
     Ok(Text::new(token))
 }
 
-/// The tokens of a text, each with how far it comes after a position.
+/// The tokens of a text, each with its distance from a position.
 fn pattern(alloc: Global, text: &str, from: usize) -> Result<Vec<(u32, Text)>, AllocError>
     requires { length text.now ≤ 4096 }
     ensures { IfOk result (λ p. p.items ≡ map (λ t. (t.0 - from, t.1)) (tokens text.now)) }
@@ -41,7 +41,7 @@ fn pattern(alloc: Global, text: &str, from: usize) -> Result<Vec<(u32, Text)>, A
     Ok(pattern)
 }
 
-/// The documents with the tokens of a text in a text field.
+/// The query for the documents that have the tokens of a text in a text field.
 fn with_tokens(alloc: Global, field: usize, text: &str) -> Result<Query, AllocError>
     requires { length text.now ≤ 4096 }
     ensures { IfOk result (λ q. query_value q ≡ with_tokens field (tokens text.now)) }
@@ -62,7 +62,7 @@ fn with_tokens(alloc: Global, field: usize, text: &str) -> Result<Query, AllocEr
     }
 }
 
-/// The number that a text is in a number field of this kind.
+/// The number of a text in a number field of this kind.
 fn number_value(kind: Kind, text: &str) -> Result<FieldValue, QueryError>
     ensures { result ≡ number_value kind text.now }
 {
@@ -72,7 +72,7 @@ fn number_value(kind: Kind, text: &str) -> Result<FieldValue, QueryError>
     }
 }
 
-/// The value that a text is in a field whose values have an order: a keyword as it is written, or a number.
+/// The value of a text in a field whose values have an order: a keyword as it is written, or a number.
 fn value_in(
     alloc: Global,
     kind: Kind,
@@ -90,7 +90,7 @@ fn value_in(
     }
 }
 
-/// The documents with a value in a field.
+/// The query for the documents that have a value in a field.
 fn with_value(field: usize, value: Result<FieldValue, QueryError>) -> Meaning
     ensures { result_map query_value result ≡ result_map (λ v. with_value field v) value }
 {
@@ -98,7 +98,7 @@ fn with_value(field: usize, value: Result<FieldValue, QueryError>) -> Meaning
     Ok(Query::Term(Term { field, value }))
 }
 
-/// What a word or a quoted text means in a field.
+/// The meaning of a word or a quoted text in a field.
 fn literal_in(alloc: Global, field: usize, kind: Kind, text: &str) -> Result<Meaning, AllocError>
     requires { length text.now ≤ 4096 }
     ensures { IfOk result (λ m. result_map query_value m ≡ literal_in field kind text.now) }
@@ -119,7 +119,7 @@ fn has_default(schema: &Schema) -> bool
     schema.fields().iter().any(|field| field.default)
 }
 
-/// What a literal without a field means: a should in each default field.
+/// The meaning of a literal without a field: a should in each default field.
 #[tactic(auto, unfolding(crate::specs::Meanings::literal_anywhere))]
 pub(crate) fn literal_anywhere(
     alloc: Global,
@@ -156,7 +156,7 @@ fn bound_in(
     }
 }
 
-/// The documents with a value of a field within bounds.
+/// The query for the documents with a value of a field within bounds.
 fn within(
     field: usize,
     lower: Result<Bound<FieldValue>, QueryError>,
@@ -173,7 +173,7 @@ fn within(
     })
 }
 
-/// What bounds mean in a field.
+/// The meaning of bounds in a field.
 fn range_in(
     alloc: Global,
     field: usize,
@@ -192,7 +192,7 @@ fn range_in(
     Ok(within(field, lower, upper))
 }
 
-/// What comes after a field, in the field of this number and kind.
+/// The meaning of what follows a field, for the field of this number and kind.
 fn meaning_in(
     alloc: Global,
     field: usize,
@@ -209,7 +209,7 @@ fn meaning_in(
     }
 }
 
-/// What a field, by its name, and what comes after it mean.
+/// The meaning of a field, by its name, with what follows it.
 #[tactic(auto, unfolding(crate::specs::Meanings::field_meaning))]
 pub(crate) fn field_meaning(
     alloc: Global,

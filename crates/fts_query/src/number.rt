@@ -10,7 +10,7 @@ fn is_digit(byte: u8) -> bool
     byte >= b'0' && byte <= b'9'
 }
 
-/// The number that one or more digits are, if it fits a `u64`.
+/// The number of one or more digits, if it fits a `u64`.
 #[tactic(auto, using(crate::proofs::MeaningsLemmas::overflows), unfolding(crate::specs::Meanings::number_below))]
 fn unsigned(text: &[u8]) -> Option<u64>
     ensures { result ≡ number_below (2 ^ 64) text.now }
@@ -30,7 +30,7 @@ fn unsigned(text: &[u8]) -> Option<u64>
     Some(value)
 }
 
-/// The number that one or more digits are, if it is below a limit.
+/// The number of one or more digits, if it is below a limit.
 fn below(limit: u64, digits: &[u8]) -> Option<u64>
     ensures value { result ≡ number_below limit digits.now }
     ensures small { IfSome result (λ n. n < limit) }
@@ -58,7 +58,7 @@ fn negated(value: u64) -> i64
     }
 }
 
-/// The number that digits after a `-` are negated, if it fits an `i64`.
+/// The negated number of the digits after a `-`, if it fits an `i64`.
 fn negative(digits: &[u8]) -> Option<i64>
     ensures { result ≡ option_map (λ n. neg_ℤ (pos n)) (number_below (2 ^ 63 + 1) digits.now) }
 {
@@ -66,7 +66,7 @@ fn negative(digits: &[u8]) -> Option<i64>
     Some(negated(value))
 }
 
-/// The number that digits are, if it fits an `i64`.
+/// The number of digits, if it fits an `i64`.
 fn positive(digits: &[u8]) -> Option<i64>
     ensures { result ≡ option_map (λ n. pos n) (number_below (2 ^ 63) digits.now) }
 {
@@ -74,7 +74,7 @@ fn positive(digits: &[u8]) -> Option<i64>
     Some(value as i64)
 }
 
-/// The number that a text is in a field of this kind: digits, after a `-` too in an `i64` field.
+/// The number of a text in a field of this kind: digits, also after a `-` in an `i64` field.
 pub(crate) fn number_in(kind: Kind, text: &str) -> Option<Number>
     ensures { result ≡ number_in kind text.now }
 {
@@ -85,7 +85,7 @@ pub(crate) fn number_in(kind: Kind, text: &str) -> Option<Number>
     }
 }
 
-/// The number that a text is in an `i64` field.
+/// The number of a text in an `i64` field.
 fn signed(text: &[u8]) -> Option<i64>
     ensures { option_map (λ z. Number.I64 z) result ≡ number_in Kind.I64 text.now }
 {

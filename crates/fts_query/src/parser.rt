@@ -1,4 +1,4 @@
-// The query that a text is.
+// Reads a text as a query.
 ghost use Rattle.std.specs.Prelude.{◌≡◌, ◌⊎◌, ◌≤◌, length, Ok, Err, IfOk, IfErr, true};
 ghost use Rattle.std.specs.List.{list_all};
 ghost use Rattle.std.specs.Str.{chars};
@@ -16,7 +16,7 @@ use crate::reader::query_at;
 use fts_model::{Query, Refusal, Schema};
 use std::alloc::Global;
 
-/// The refusal that an error is.
+/// The refusal for an error.
 fn refusal_of(error: QueryError) -> Refusal
     ensures { result ≡ refusal_of error }
 {
@@ -29,7 +29,7 @@ fn refusal_of(error: QueryError) -> Refusal
     }
 }
 
-/// Whether a text is white space alone.
+/// Whether a text is only white space.
 #[tactic(auto, using(crate::proofs::AnswersLemmas::blank_skips, crate::proofs::AnswersLemmas::no_blank_skips))]
 fn is_blank(text: Input<'_>) -> bool
     ensures { result ≡ list_all is_space text.entry }
@@ -55,16 +55,16 @@ fn outcome_of(alloc: Global, schema: &Schema, text: &str) -> Result<Query, Refus
     }
 }
 
-/// The query that a text is under a schema.
+/// Reads a text as a query under a schema.
 ///
-/// A text is refused as `TooLong` (over 4,096 bytes), else as `TooDeep` (parentheses outside of quotes nest over 32
-/// deep), else as `Syntax` (it is neither white space alone nor in the grammar, which docs/QUERIES.md has; the byte
-/// says how far it could be read), else by the first error from the left: `UnknownField`, `RangeOnText`, `BadNumber`,
-/// `NoDefaultField` (a literal without a field, where no field is a default) or `AllNegative` (must-nots alone). A
-/// text of white space alone is the query for no document.
+/// A text is refused as `TooLong` (over 4,096 bytes), else as `TooDeep` (parentheses outside quotes nest over 32 deep),
+/// else as `Syntax` (it is neither only white space nor in the grammar, which docs/QUERIES.md has; the byte says how
+/// far it could be read), else by the first error from the left: `UnknownField`, `RangeOnText`, `BadNumber`,
+/// `NoDefaultField` (a literal has no field, and no field is a default) or `AllNegative` (only must-nots). A text of
+/// only white space is the query for no document.
 ///
-/// `Memory` is answered only if a growth was refused; a text that is too long, too deep or white space alone needs
-/// none, and has its outcome whatever memory there is.
+/// The result is `Memory` only if the allocator refused a growth. A text that is too long, too deep or only white space
+/// needs no memory, so it always has its outcome.
 pub fn parse(alloc: Global, schema: &Schema, text: &str) -> Result<Query, Refusal>
     ensures reads { IfOk result (λ query. Reads schema.now text.now (Ok (query_value query))) }
     ensures refused { IfErr result (λ refusal. (refusal ≡ Memory) ⊎ Reads schema.now text.now (Err refusal)) }

@@ -1,4 +1,4 @@
-// Reading a query from left to right: units, factors, and the sequences that they are in.
+// Reads a query from left to right: units, factors, and sequences of them.
 ghost use Rattle.std.specs.Prelude.{◌≡◌, ◌≤◌, ◌∷◌, [], ℕ, length, IfOk, OnOk, option_map};
 ghost use Rattle.fts_base.specs.Results.{result_map};
 ghost use Rattle.fts_model.specs.QueryValues.{query_value};
@@ -18,32 +18,32 @@ use crate::value::value_at;
 use fts_model::{Query, Schema};
 use std::alloc::{AllocError, Global};
 
-/// The levels of a list: each is a sequence of items of the one before it, the first of factors.
+/// The levels of a list. Each is a sequence of items of the level before it; a conjunction is one of factors.
 #[derive(Clone, Copy, Debug, PartialEq, Eq)]
 pub enum Level {
-    /// Factors with `AND` between them.
+    /// Factors separated by `AND`.
     Conjunction,
-    /// Conjunctions with `OR` between them.
+    /// Conjunctions separated by `OR`.
     Disjunction,
-    /// Disjunctions with white space between them.
+    /// Disjunctions separated by white space.
     List,
 }
 
-/// A unit, and what comes before it.
+/// A unit with its modifier.
 #[derive(Drop)]
 pub(crate) struct Factor {
     modifier: Modifier,
     unit: Meaning,
 }
 
-/// What a sequence is to the next level: its only factor, or the node of its clauses.
+/// A sequence as an item of the next level: its only factor, or the node of its clauses.
 #[derive(Drop)]
 pub(crate) enum Part {
     Lone(Factor),
     Several(Meaning),
 }
 
-/// What a factor means as a conjunction.
+/// The meaning of a factor as a conjunction.
 fn conjunction_of_one(alloc: Global, factor: Factor) -> Result<Meaning, AllocError>
     ensures { IfOk result (λ m. result_map query_value m ≡ conjunction (factor_seen factor ∷ [])) }
 {
@@ -52,7 +52,7 @@ fn conjunction_of_one(alloc: Global, factor: Factor) -> Result<Meaning, AllocErr
     Ok(clauses.into_node())
 }
 
-/// Adds the clause that an item is to the node of its level.
+/// Adds an item as a clause to the node of its level.
 fn push_item(
     alloc: Global,
     level: Level,
@@ -77,7 +77,7 @@ fn push_item(
     }
 }
 
-/// What follows the separator of a level, where one stands.
+/// The input after the separator of a level, if there is one.
 fn after_separator<'a>(level: Level, text: &Input<'a>) -> Option<Input<'a>>
     ensures { option_map (λ x. x) result ≡ separator_of level text.now }
 {
@@ -88,7 +88,7 @@ fn after_separator<'a>(level: Level, text: &Input<'a>) -> Option<Input<'a>>
     }
 }
 
-/// A bare word that ends, or a field and what comes after it.
+/// A bare word that ends here, or a field with what follows it.
 #[tactic(auto, unfolding(crate::specs::Reading::after_bare))]
 fn after_bare_at<'a>(
     alloc: Global,
@@ -111,7 +111,7 @@ fn after_bare_at<'a>(
     }
 }
 
-/// A bare word, alone or as a field.
+/// A bare word, as a literal or as a field.
 #[tactic(auto, unfolding(crate::specs::Reading::bare_of))]
 fn bare_at<'a>(
     alloc: Global,
@@ -133,7 +133,7 @@ fn bare_at<'a>(
     }
 }
 
-/// A quoted text, after its opening quote.
+/// A quoted text as a literal; the opening quote was already read.
 #[tactic(auto, unfolding(crate::specs::Reading::quoted_literal_of))]
 fn quoted_literal_at<'a>(
     alloc: Global,
@@ -146,7 +146,7 @@ fn quoted_literal_at<'a>(
     Ok((literal_anywhere(alloc, schema, literal.as_str())?, rest))
 }
 
-/// What follows a list in parentheses.
+/// The input after the closing parenthesis of a list.
 fn close_at<'a>(meaning: Meaning, text: Input<'a>) -> Result<(Meaning, Input<'a>), ParseError>
     ensures { Finds (λ x. (result_map query_value x.0, x.1)) result
         (close (result_map query_value meaning) text.entry) }
@@ -163,7 +163,7 @@ fn close_at<'a>(meaning: Meaning, text: Input<'a>) -> Result<(Meaning, Input<'a>
     }
 }
 
-/// The modifier at the front of a factor, and what follows it.
+/// The modifier at the front of a factor, and the input after it.
 #[tactic(auto, unfolding(crate::specs::Reading::modifier_of))]
 fn modifier_at<'a>(text: Input<'a>) -> Result<(Modifier, Input<'a>), ParseError>
     ensures { Finds (λ x. x) result (modifier_of text.entry) }
@@ -190,7 +190,7 @@ fn modifier_at<'a>(text: Input<'a>) -> Result<(Modifier, Input<'a>), ParseError>
     }
 }
 
-/// A unit of at most this many nestings.
+/// A unit with a limit of nestings.
 #[cycle(reading)]
 fn unit_at<'a>(
     alloc: Global,
@@ -220,7 +220,7 @@ fn unit_at<'a>(
     }
 }
 
-/// A list after an opening parenthesis.
+/// A list in parentheses; the opening one was already read.
 #[cycle(reading)]
 #[tactic(auto, unfolding(crate::specs::Reading::group_of))]
 fn group_at<'a>(
@@ -235,7 +235,7 @@ fn group_at<'a>(
     close_at(meaning, rest.after_space())
 }
 
-/// A modifier, then a unit.
+/// A factor: a modifier, then a unit.
 #[cycle(reading)]
 #[tactic(auto, unfolding(crate::specs::Reading::factor_of))]
 fn factor_at<'a>(
@@ -272,7 +272,7 @@ fn item_at<'a>(
     }
 }
 
-/// The node of an item, which comes before the text, and of those that follow it at its level.
+/// The node of an item, which was already read, and of those that follow it at its level.
 #[cycle(reading)]
 fn node_at<'a>(
     alloc: Global,
@@ -319,7 +319,7 @@ fn sequence_at<'a>(
     }
 }
 
-/// A list: the node of one disjunction or more.
+/// A list: the node of one or more disjunctions.
 #[cycle(reading)]
 fn list_at<'a>(
     alloc: Global,

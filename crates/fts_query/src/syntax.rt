@@ -1,4 +1,4 @@
-// Where a text that isn't in the grammar can't be read any further.
+// Finds the byte at which a text leaves the grammar.
 ghost use Rattle.std.specs.Prelude.{IfOk};
 ghost use Rattle.fts_query.specs.Outcomes.{IsByteOf, TellsSyntax};
 
@@ -6,7 +6,7 @@ use crate::parser::parse;
 use fts_model::{Field, Kind, Refusal, Schema, Text};
 use std::alloc::{AllocError, Global};
 
-/// Some schema: whether a text is in the grammar doesn't depend on which.
+/// Some schema; whether a text is in the grammar doesn't depend on the schema.
 fn some_schema(alloc: Global) -> Result<Schema, AllocError> {
     let name = Text::new(String::from_str(alloc, "a")?);
     let mut fields = Vec::new(alloc);
@@ -21,7 +21,7 @@ fn some_schema(alloc: Global) -> Result<Schema, AllocError> {
     }
 }
 
-/// The byte of a refusal, if it is a `Syntax`. Of `Memory` nothing is known.
+/// The byte of a refusal, if it is a `Syntax`. `Memory` is an error, since then the byte isn't known.
 fn byte_in(refusal: Refusal) -> Result<Option<usize>, AllocError>
     ensures { IfOk result (IsByteOf refusal) }
 {
@@ -32,8 +32,8 @@ fn byte_in(refusal: Refusal) -> Result<Option<usize>, AllocError>
     }
 }
 
-/// The byte of a `Syntax`, as [`parse`] tells it: how far a text could be read that isn't in the grammar. Any other
-/// text has none, be it a query or refused for something else. It is the same under each schema.
+/// The byte of a `Syntax` refusal, as [`parse`] gives it: how far a text that isn't in the grammar could be read. Any
+/// other text has none, whether it is a query or refused for another reason. The byte doesn't depend on the schema.
 pub fn syntax_at(alloc: Global, text: &str) -> Result<Option<usize>, AllocError>
     ensures { IfOk result (TellsSyntax text.now) }
 {

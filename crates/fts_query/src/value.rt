@@ -1,4 +1,4 @@
-// What comes after a field and a colon.
+// Reads what follows a field and a colon.
 ghost use Rattle.std.specs.Prelude.{◌≡◌, ◌≤◌, length, option_map, IfOk, true, false, codes};
 ghost use Rattle.fts_query.specs.Steps.{Finds};
 ghost use Rattle.fts_query.specs.Values.{value_seen, bound_seen, IsShort};
@@ -11,7 +11,7 @@ use crate::input::{Input, is_word_char};
 use std::alloc::Global;
 use std::ops::Bound;
 
-/// What comes after a field and a colon: a literal, or the bounds of a range.
+/// What follows a field and a colon: a literal, or the bounds of a range.
 #[derive(Drop)]
 pub(crate) enum Value<'a> {
     Word(&'a str),
@@ -19,7 +19,7 @@ pub(crate) enum Value<'a> {
     Range(Bound<&'a str>, Bound<&'a str>),
 }
 
-/// A word, which isn't empty.
+/// A nonempty word.
 #[tactic(auto, unfolding(crate::specs::Reading::word_of))]
 fn word_at<'a>(text: Input<'a>) -> Result<(&'a str, Input<'a>), ParseError>
     ensures read { Finds (λ x. (x.0.now, x.1)) result (word_of text.entry) }
@@ -55,7 +55,7 @@ fn bound_at<'a>(text: Input<'a>) -> Result<(Option<&'a str>, Input<'a>), ParseEr
     }
 }
 
-/// A bound that includes its word or not.
+/// The bound of a word, included or not, or none.
 fn bound_of_word(included: bool, word: Option<&str>) -> Bound<&str>
     ensures { bound_seen result ≡ bound included (option_map (λ w. w.now) word.entry) }
 {
@@ -71,7 +71,7 @@ fn bound_of_word(included: bool, word: Option<&str>) -> Bound<&str>
     }
 }
 
-/// The end of a range, after its upper bound.
+/// The end of a range; the upper bound was already read.
 #[tactic(auto, unfolding(crate::specs::Reading::range_end))]
 fn range_end_at<'a>(
     lower: Bound<&'a str>,
@@ -99,7 +99,7 @@ fn range_end_at<'a>(
     }
 }
 
-/// A range, after what opens it.
+/// A range; its opening bracket was already read.
 #[tactic(auto, unfolding(crate::specs::Reading::range_of))]
 fn range_at<'a>(included: bool, text: Input<'a>) -> Result<(Value<'a>, Input<'a>), ParseError>
     ensures read { Finds (λ x. (value_seen x.0, x.1)) result (range_of included text.entry) }
@@ -134,7 +134,7 @@ fn compared_at<'a>(text: Input<'a>) -> Result<((bool, &'a str), Input<'a>), Pars
     }
 }
 
-/// A comparison, after its `>`.
+/// A comparison; its `>` was already read.
 #[tactic(auto, unfolding(crate::specs::Reading::above_of))]
 fn above_at<'a>(text: Input<'a>) -> Result<(Value<'a>, Input<'a>), ParseError>
     ensures read { Finds (λ x. (value_seen x.0, x.1)) result (above_of text.entry) }
@@ -145,7 +145,7 @@ fn above_at<'a>(text: Input<'a>) -> Result<(Value<'a>, Input<'a>), ParseError>
     Ok((Value::Range(lower, Bound::Unbounded), rest))
 }
 
-/// A comparison, after its `<`.
+/// A comparison; its `<` was already read.
 #[tactic(auto, unfolding(crate::specs::Reading::below_of))]
 fn below_at<'a>(text: Input<'a>) -> Result<(Value<'a>, Input<'a>), ParseError>
     ensures read { Finds (λ x. (value_seen x.0, x.1)) result (below_of text.entry) }
@@ -156,7 +156,7 @@ fn below_at<'a>(text: Input<'a>) -> Result<(Value<'a>, Input<'a>), ParseError>
     Ok((Value::Range(Bound::Unbounded, upper), rest))
 }
 
-/// A quoted text, after its opening quote.
+/// A quoted text as a value; the opening quote was already read.
 #[tactic(auto, unfolding(crate::specs::Reading::quoted_value_of))]
 fn quoted_value_at<'a>(alloc: Global, text: Input<'a>) -> Result<(Value<'a>, Input<'a>), ParseError>
     ensures read { Finds (λ x. (value_seen x.0, x.1)) result (quoted_value_of text.entry) }
@@ -166,7 +166,7 @@ fn quoted_value_at<'a>(alloc: Global, text: Input<'a>) -> Result<(Value<'a>, Inp
     Ok((Value::Quoted(unquoted), rest))
 }
 
-/// A word.
+/// A word as a value.
 #[tactic(auto, unfolding(crate::specs::Reading::plain_of))]
 fn unquoted_at<'a>(text: Input<'a>) -> Result<(Value<'a>, Input<'a>), ParseError>
     ensures read { Finds (λ x. (value_seen x.0, x.1)) result (plain_of text.entry) }
@@ -176,7 +176,7 @@ fn unquoted_at<'a>(text: Input<'a>) -> Result<(Value<'a>, Input<'a>), ParseError
     Ok((Value::Word(word), rest))
 }
 
-/// What comes after a field and a colon, and what follows it.
+/// What follows a field and a colon, and the input after it.
 #[tactic(auto, unfolding(crate::specs::Reading::value_of))]
 pub(crate) fn value_at<'a>(
     alloc: Global,

@@ -6,7 +6,7 @@ use Rattle.fts_query.proofs.SequencesLemmas.{Goes, total_of}
 use Rattle.fts_query.specs.declared.reader.Level.TheVariants as levels
 use Rattle.fts_query.proofs.reader.+reading.Given as goal
 
--- how far above a factor a level stands
+-- the number of levels from a factor to a level
 abbrev height : Level → ℕ
 height levels.Conjunction = 1
 height levels.Disjunction = 4
