@@ -56,7 +56,7 @@ numbers_where-has {X} p n (y ∷ xs) (suc k) x at is = by (p y) refl (numbers_wh
 numbers_where-at : {X : Type 0} (p : X → Bool) (xs : List X) (k : ℕ) (x : X) → slice_get xs k ≡ Some x → p x ≡ true → Contains (numbers_where p 0 xs) k
 numbers_where-at p xs k x at is = let start : 0 + k ≡ k = omega arith in subst (Contains (numbers_where p 0 xs)) start (numbers_where-has p 0 xs k x at is)
 
--- those from one place to another
+-- the lists from one index to another have the documents with a number within bounds
 pub AreBetween-cut : (column : List (Option ℕ)) (lists : List (List ℕ)) (key : ℕ → ℕ) (low high start end : ℕ) → AreKeyed column lists key → start ≤ end →
     end ≤ length lists →
     ((k : ℕ) → k < start → key k < low) → ((k : ℕ) → start ≤ k → k < end → (low ≤ key k) × (key k ≤ high)) →
@@ -116,7 +116,7 @@ AreKeyed-numbers column numbers lists index =
           );
     }
 
--- the text of an ordinal's value
+-- the text of an ordinal's value is the name at the ordinal
 ordinal_text : (texts : List (List ℕ)) (v : Option FieldValue) (x : ℕ) → option_map (before texts) (keyword_of kinds.Keyword v) ≡ Some x →
     (text : List ℕ) × (v ≡ Some (values.Text text)) × (before texts text ≡ x)
 ordinal_text texts None x is = cc
@@ -238,7 +238,7 @@ rising xs up i j le within = elim (cases_order i j) [
   | inr (inr higher) ↦ absurd (omega arith)
 ]
 
--- where a number stands, those before it are below it
+-- a number at an index cuts the rising numbers there
 pub IsCut-found : (xs : List ℕ) (x i : ℕ) → IsStrictlyIncreasing xs → i < length xs → get_or xs i 0 ≡ x → IsCut xs x i
 IsCut-found xs x i up within is = record {
   within = omega arith;
@@ -246,7 +246,7 @@ IsCut-found xs x i up within is = record {
   behind = λ k more inside. omega (arith, rising xs up i k more inside, is);
 }
 
--- the lists of a number index between two places
+-- the lists of a number index between two cuts have the documents within bounds
 pub between_numbers : (column : List (Option ℕ)) (numbers : List ℕ) (lists : List (List ℕ)) (low high start from end : ℕ) → IsNumberIndex column numbers lists →
     IsCut numbers low from → IsCut numbers (high + 1) end → start ≡ min from end → AreBetween column low high (take (end - start) (drop start lists))
 between_numbers column numbers lists low high start from end index lower upper is =
@@ -257,7 +257,7 @@ between_numbers column numbers lists low high start from end index lower upper i
     (λ k more less. (lower.behind k (omega (arith, more, less, is)) (omega (arith, less, upper.within)), omega (arith, upper.before k less)))
     (λ k more less. omega (arith, upper.behind k more (omega (arith, less, count))))
 
--- places are cut where a bound is
+-- the indexes of lists are cut at a bound
 pub IsCut-places : (count bound place : ℕ) → place ≡ min bound count → IsCut (range_with_len 0 count) bound place
 IsCut-places count bound place is =
     let size : length (range_with_len 0 count) ≡ count = length-range_with_len 0 count in

@@ -1,4 +1,4 @@
--- How many numbers of a column are between two, by the lists of its numbers.
+-- The number of a column's documents within bounds, from the lists of its numbers.
 use Rattle.std.proofs.Common.{◌≡◌, ◌+◌, ◌-◌, ◌<◌, ◌≤◌, ℕ, zero, suc, Bool, true, false, cond, ◌&&◌, nat_le, List, [], ◌∷◌, Option, Some, None, length, get_or}
 use Rattle.std.proofs.Common.{min, take, refl, sym, ap, ◌∙◌, arith, inl, inr}
 use Rattle.std.specs.Prelude.{filter, slice_get}
@@ -16,7 +16,7 @@ use Rattle.fts_segment.proofs.FieldLemmas.{is_number-is}
 use Rattle.fts_segment.proofs.HoldingLemmas.{numbers_where-cons}
 use Rattle.fts_segment.proofs.SumsLemmas.{total-next}
 
--- one, where it is true
+-- 1 for true and 0 for false
 abbrev one : Bool → ℕ
 one true = 1
 one false = 0
@@ -28,7 +28,7 @@ count-cons p x xs = by (p x)
     by true = omega arith
     by false = omega arith
 
--- those of one test are those of two others
+-- the count of one test is the sum of the counts of two others
 count-split : {X : Type 0} (p q r : X → Bool) (xs : List X) → ((k : ℕ) (x : X) → slice_get xs k ≡ Some x → one (p x) ≡ one (q x) + one (r x)) →
     length (filter p xs) ≡ length (filter q xs) + length (filter r xs)
 count-split p q r [] split = refl
@@ -68,7 +68,7 @@ one-not x y other = elim (cases_Bool (is_number x (Some y))) [
   | inr unknown ↦ ap one unknown
 ]
 
--- those up to a bound are those below another and those between
+-- the numbers up to a bound are those below another and those between
 within-split : (low high : ℕ) → low ≤ high + 1 → (v : Option ℕ) → one (below (high + 1) v) ≡ one (below low v) + one (is_within low high v)
 within-split low high order None = refl
 within-split low high order (Some x) = elim (cases_lt x low) [
@@ -113,7 +113,7 @@ pub record AreCounted (column : List (Option ℕ)) (lists : List (List ℕ)) (ke
   pub rises : (i j : ℕ) → i < j → j < length lists → key i < key j
 
 module _ (column : List (Option ℕ)) (lists : List (List ℕ)) (key : ℕ → ℕ) (counted : AreCounted column lists key) where
-  -- the lists of the numbers below a bound have as many documents as have one of these
+  -- the lists of the numbers below a bound have as many documents as have one of these numbers
   total-below : (j bound : ℕ) → j ≤ length lists → ((k : ℕ) → k < j → key k < bound) → ((k : ℕ) → j ≤ k → k < length lists → bound ≤ key k) →
       total (take j lists) ≡ length (filter (below bound) column)
   total-below zero bound inside before behind = sym (count-none (below bound) column none)
@@ -170,7 +170,7 @@ module _ (column : List (Option ℕ)) (lists : List (List ℕ)) (key : ℕ → �
             ]
           ]
 
-  -- all lists have no more documents than there are
+  -- all lists together have no more documents than the column
   pub total-all : total lists ≤ length column
   total-all =
       let n = length lists in
@@ -183,7 +183,7 @@ module _ (column : List (Option ℕ)) (lists : List (List ℕ)) (key : ℕ → �
       let whole : take n lists ≡ lists = take_all n lists (omega arith) in
       omega (arith, is, ap total whole, length-filter (below bound) column, count_by-le-length (below bound) column)
 
-  -- the lists between two places have as many documents as have a number between two
+  -- the lists between two cuts have as many documents as have a number within bounds
   pub total-between : (low high start from end : ℕ) → from ≤ length lists → ((k : ℕ) → k < from → key k < low) →
       ((k : ℕ) → from ≤ k → k < length lists → low ≤ key k) →
       end ≤ length lists → ((k : ℕ) → k < end → key k ≤ high) → ((k : ℕ) → end ≤ k → k < length lists → high < key k) → start ≡ min from end →
@@ -222,7 +222,7 @@ AreCounted-numbers column numbers lists index =
       rises = λ i j less inside. AllPairs-from_increasing numbers index.rises i j 0 less (omega (arith, inside, count));
     }
 
--- the lists of a number index between two places have as many documents as have a number there
+-- the lists of a number index between two cuts have as many documents as have a number within bounds
 pub count_numbers : (column : List (Option ℕ)) (numbers : List ℕ) (lists : List (List ℕ)) (low high start from end : ℕ) → IsNumberIndex column numbers lists →
     IsCut numbers low from → IsCut numbers (high + 1) end → start ≡ min from end →
     total (take end lists) - total (take start lists) ≡ count_between low high column

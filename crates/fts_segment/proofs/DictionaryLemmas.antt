@@ -55,7 +55,7 @@ group_cons names id q e es false here there others =
     ∙ sym (ap (λ b. map place_of (cond b (occurrence_value names e ∷ filter (is_term q) (occurrence_values names es))
     (filter (is_term q) (occurrence_values names es)))) there)
 
--- a term's group is where it occurs
+-- a term's group is its places
 group_places : (names : List (List ℕ)) → Ascends names → (id : ℕ) (q : List ℕ) → slice_get names id ≡ Some q → (es : List Occurrence) → AreNamed names es →
     places_of id es ≡ places_with q (occurrence_values names es)
 group_places names up id q found [] named = refl
@@ -74,7 +74,7 @@ groups_are names log groups up named count grouped =
     get_or_default groups k d [] within ∙ grouped k inside ∙ group_places names up k (get_or names k []) (slice_get-get_or names k [] inside) log named
     ∙ sym (get_or-map places names k [] d inside))
 
--- a term that occurs has a number
+-- a term that occurs has an id
 named_where : (names : List (List ℕ)) (q : List ℕ) (es : List Occurrence) → AreNamed names es → occurs (occurrence_values names es) q ≡ true →
     (id : ℕ) × (slice_get names id ≡ Some q)
 named_where names q [] named is = absurd (let clash : false ≡ true = is in cc)
@@ -84,7 +84,7 @@ named_where names q (e ∷ es) named is = elim (cases_Bool (is_term q (occurrenc
       (ap (λ ns. nat_lt 0 (length ns)) (sym (docs_of-cons q (occurrence_value names e) (occurrence_values names es) false is_other)) ∙ is)
 ]
 
--- names that ascend still do where some are left out
+-- ascending names ascend after some are left out
 Ascends-filter : (p : List ℕ → Bool) (names : List (List ℕ)) → Ascends names → Ascends (filter p names)
 Ascends-filter p names up i j lower within =
     AllPairs-filter (λ a b. slice_cmp nat_cmp a b ≡ Less) p names
@@ -116,7 +116,7 @@ listed_step f groups i places lists after within there put so_far =
 pub docs_with_places : (q : List ℕ) (os : List OccurrenceValue) → map (λ (p : DocPosition). p.doc) (places_with q os) ≡ docs_of q os
 docs_with_places q os = map-map (λ (p : DocPosition). p.doc) place_of (filter (is_term q) os)
 
--- a term has a place exactly where it occurs
+-- a term has a place exactly if it occurs
 occurs_where : (os : List OccurrenceValue) (q : List ℕ) (places : List DocPosition) → map (λ (p : DocPosition). p.doc) places ≡ docs_of q os →
     occurs os q ≡ nat_lt 0 (length places)
 occurs_where os q [] same = ap (λ ns. nat_lt 0 (length ns)) (sym same)
@@ -131,7 +131,7 @@ cond_before : {X : Type 0} (b : Bool) (x : X) (xs : List X) → cond b (x ∷ []
 cond_before true x xs = refl
 cond_before false x xs = refl
 
--- what is listed are the terms that occur
+-- the listed names are the terms that occur
 names_listed-is : (os : List OccurrenceValue) (names : List (List ℕ)) → names_listed (map (λ q. places_with q os) names) names ≡ filter (occurs os) names
 names_listed-is os [] = refl
 names_listed-is os (q ∷ names) =
@@ -144,7 +144,7 @@ unless_none_map : {X : Type 0} (f : List DocPosition → X) (g : List ℕ → X)
 unless_none_map f g [] q same = refl
 unless_none_map f g (p ∷ ps) q same = ap (λ x. x ∷ []) same
 
--- what is listed is what each of the names gives
+-- the list for the names is their images
 listed_by-is : {X : Type 0} (f : List DocPosition → X) (g : List ℕ → X) (os : List OccurrenceValue) (names : List (List ℕ)) →
     ((q : List ℕ) → f (places_with q os) ≡ g q) →
     listed_by f (map (λ q. places_with q os) names) ≡ map g (names_listed (map (λ q. places_with q os) names) names)
@@ -163,7 +163,7 @@ contains_at p (y ∷ ys) (suc k) x within here passes =
     let rest = contains_at p ys k x (omega arith) here passes in
     elim (p y) as (λ b. Contains (cond b (y ∷ filter p ys) (filter p ys)) x) [ true ↦ (suc rest.0, omega (arith, rest.1), rest.2) | false ↦ rest ]
 
--- the documents of a term's places, each once
+-- the documents of a term's places, without duplicates, are those of its occurrences
 docs_right : (q : List ℕ) (os : List OccurrenceValue) → docs_in (places_with q os) ≡ docs_with q os
 docs_right q os = ap (dedup nat_eq) (docs_with_places q os)
 
@@ -189,7 +189,7 @@ IsDictionaryOf-listed names log up named =
           (get_or_from_slice_get names number.0 q q number.1) occurring);
     }
 
--- the same where terms were numbered anew by their order
+-- the names with the groups of their places, after terms got new ids by their order
 pub record IsGrouped (names sorted : List (List ℕ)) (log : List Occurrence) (groups : List (List DocPosition)) : Type 0 where
   pub groups_are : groups ≡ map (λ q. places_with q (occurrence_values names log)) sorted
   pub dictionary_is : IsDictionaryOf (occurrence_values names log) (names_listed groups sorted) (listed_by docs_in groups) (listed_by position_lists_of groups)
@@ -220,7 +220,7 @@ lists_rise names os up =
     All-map (λ places. IsStrictlyIncreasing (docs_in places)) (λ q. places_with q os) names (λ k d within.
     let P : List ℕ → Type 0 = λ ns. IsStrictlyIncreasing ns in subst P (sym (docs_right (get_or names k d) os)) (up (get_or names k d)))
 
--- and its positions are position lists
+-- the positions of each group are position lists
 pub groups_have_position_lists : (names : List (List ℕ)) (os : List OccurrenceValue) → ((q : List ℕ) → All IsPositionList (position_lists_with q os)) →
     All (λ places. All IsPositionList (position_lists_of places)) (map (λ q. places_with q os) names)
 groups_have_position_lists names os lists =

@@ -64,7 +64,7 @@ AreFirst-push {schema} {documents} {count} {indexes} index at here is s = record
   ];
 }
 
--- a value has a text as a term where one of its tokens is the text
+-- a value has a text as a term if one of its tokens is the text
 pub holds-tokens : (kind : Kind) (text : List ℕ) (v : Option FieldValue) → list_any (is_token text) (tokens_of kind v) ≡ holds kind (values.Text text) v
 holds-tokens kind text None = refl
 holds-tokens kinds.Text text (Some (values.Text t)) = refl
@@ -88,7 +88,7 @@ docs_with-holds kind text vs = docs_with-occurrences text kind 0 vs
     ∙ numbers_where-same (λ v. list_any (is_token text) (tokens_of kind v)) (holds kind (values.Text text)) 0 vs
     (λ k d h. holds-tokens kind text (get_or vs k d))
 
--- what is not among the terms no document has
+-- no document has a term that is not in the dictionary
 pub text_absent : {kind : Kind} {vs : List (Option FieldValue)} {dictionary : Dictionary} (text : List ℕ) → AreTerms kind vs dictionary →
     ((i : ℕ) → slice_get dictionary.names i ≡ Some text → ⊥) →
     numbers_where (holds kind (values.Text text)) 0 vs ≡ []
@@ -158,7 +158,7 @@ int_test n m f g = elim (cases_Bool (int_eq n m)) [
   ]
 ]
 
--- a value has a number as a term where it is that number
+-- a value has a number as a term if it is that number
 number_test : (kind : Kind) (term : FieldValue) (x : ℕ) (v : Option FieldValue) → number_of kind (Some term) ≡ Some x → Fits64 kind term →
     IfSome v (Fits64 kind) → holds kind term v ≡ is_number x (number_of kind v)
 number_test kind term x None is f g = refl
@@ -197,7 +197,7 @@ pub is_number-is : (x : ℕ) (v : Option ℕ) → is_number x v ≡ true → v �
 is_number-is x None h = absurd (let clash : false ≡ true = h in cc)
 is_number-is x (Some y) h = ap Some (eqb-true y x h)
 
--- what is not among the numbers no document has
+-- no document has a number that is not in the index
 pub number_absent : {kind : Kind} {vs : List (Option FieldValue)} {index : NumberIndex} (term : FieldValue) (x : ℕ) → AreNumbers kind vs index →
     number_of kind (Some term) ≡ Some x → Fits64 kind term →
     ((i : ℕ) → slice_get index.numbers.items i ≡ Some x → ⊥) → numbers_where (holds kind term) 0 vs ≡ []
@@ -295,7 +295,7 @@ no_field segment term at =
     numbers_where-none (λ (d : Stamped DocumentValue). has segment.schema d.value term) 0 segment.documents
     (λ k d h. ap (λ f. field_has f (value_in_field (get_or segment.documents k d).value term.field) term.value) at)
 
--- one document more
+-- the values of documents with one more
 pub values-more : (field : ℕ) (ds : List (Stamped DocumentValue)) (i : ℕ) (d : Stamped DocumentValue) → i < length ds → d ≡ get_or ds i d →
     values_in field (take (i + 1) ds) ≡ values_in field (take i ds) ++ value_in_field d.value field ∷ []
 values-more field ds i d within here =
@@ -310,7 +310,7 @@ pub copied : (P : FieldValue → Type 0) (o : Option (Bor FieldValue)) → IfSom
 copied P None h = tt
 copied P (Some v) h = h
 
--- a field has the kind
+-- a field of a schema has its kind
 pub field_at : (o : Option Field) (kind : Kind) → option_map (λ f. f.kind) o ≡ Some kind → (field : Field) × (o ≡ Some field) × (field.kind ≡ kind)
 field_at None kind h = absurd (let clash : None ≡ Some kind = h in cc)
 field_at (Some field) kind h = (field, refl, (let same : Some field.kind ≡ Some kind = h in cc))
@@ -333,7 +333,7 @@ postings-kind segment term kind here =
     let field = field_at (slice_get segment.schema term.field) kind here in
     ap (λ k. numbers_where (holds k term.value) 0 (values_in term.field segment.documents)) (sym field.2) ∙ sym (postings-values segment term field.0 field.1)
 
--- the same where its place is known
+-- the index of a field, at a known number, is that of its values
 pub index_found : {schema : List Field} {documents : List (Stamped DocumentValue)} {indexes : List FieldIndex} (f : ℕ) (kind : Kind) (index : FieldIndex) →
     AreIndexes schema documents indexes →
     option_map (λ f. f.kind) (slice_get schema f) ≡ Some kind → f < length indexes → index ≡ get_or indexes f index →
@@ -357,12 +357,12 @@ numbers_of-values segment f kind here =
     sym (map-map (number_of kind) (λ (d : Stamped DocumentValue). value_in_field d.value f) segment.documents)
     ∙ ap (λ k. map (λ (d : Stamped DocumentValue). option_and_then (λ kind. number_of kind (value_in_field d.value f)) k) segment.documents) (sym here)
 
--- and the ordinals of these are those of the documents
+-- the ordinals of the values of a field are those of the documents
 pub ordinals_of-values : (segment : SegmentValue) (f : ℕ) (kind : Kind) → option_map (λ f. f.kind) (slice_get segment.schema f) ≡ Some kind →
     ordinals_of kind (values_in f segment.documents) ≡ ordinals segment f
 ordinals_of-values segment f kind here = ap (λ k. option_map_or (λ kind. ordinals_of kind (values_in f segment.documents)) k []) (sym here)
 
--- and so are their texts
+-- the texts of the values of a field are those of the documents
 pub texts_of-values : (segment : SegmentValue) (f : ℕ) (kind : Kind) → option_map (λ f. f.kind) (slice_get segment.schema f) ≡ Some kind →
     texts_of kind (values_in f segment.documents) ≡ keywords segment f
 texts_of-values segment f kind here = ap (λ k. option_map_or (λ kind. texts_of kind (values_in f segment.documents)) k []) (sym here)

@@ -1,4 +1,4 @@
--- A search by halving.
+-- A binary search.
 use Rattle.std.proofs.Common.{◌≡◌, ◌+◌, ◌<◌, ◌≤◌, ℕ, List, [], length, get_or, sym, ap, subst, ◌∙◌, inl, inr, arith, Ordering, Less, Equal, Greater}
 use Rattle.std.specs.Prelude.{slice_get, Some}
 use Rattle.std.specs.Ordering.{nat_cmp, is_eq, is_lt, is_le, ordering_reverse}
@@ -13,7 +13,7 @@ use Rattle.fts_segment.specs.Sorted.{Ascends}
 use Rattle.fts_segment.specs.Keywords.{before, up_to}
 use Rattle.fts_segment.proofs.KeywordsLemmas.{count_front}
 
--- what is below `low` is before the term, and what is from `high` on behind it
+-- the names below `low` are before the term, and those from `high` are after it
 pub record Narrows (names : List (List ℕ)) (term : List ℕ) (low high : ℕ) : Type 0 where
   pub ordered : low ≤ high
   pub within : high ≤ length names
@@ -69,7 +69,7 @@ pub Narrows-found : (names : List (List ℕ)) (term : List ℕ) (middle : ℕ) �
     slice_get names middle ≡ Some term
 Narrows-found names term middle within equal = slice_get-get_or names middle [] within ∙ ap Some (same_from_equal (get_or names middle []) term equal)
 
--- where nothing is left between them, `low` names are before the term, and none is the term
+-- if nothing is left between them, `low` names are before the term, and none is the term
 pub Narrows-before : {names : List (List ℕ)} {term : List ℕ} {low high : ℕ} → Narrows names term low high → high ≤ low → before names term ≡ low
 Narrows-before {names} {term} {low} {high} n met =
     count_front (λ t. text_lt t term) names low (omega (arith, n.ordered, n.within, met)) (λ i h. ap is_lt (n.before i h))
@@ -80,7 +80,7 @@ Narrows-up_to {names} {term} {low} {high} n met =
     count_front (λ t. text_le t term) names low (omega (arith, n.ordered, n.within, met)) (λ i h. ap is_le (n.before i h))
     (λ i h within. ap is_le (n.behind i (omega (arith, met, h)) within))
 
--- a name that is there isn't behind itself, nor are those before it
+-- a name at an index and those before it are not after it
 pub up_to-found : (names : List (List ℕ)) (term : List ℕ) (i : ℕ) → Ascends names → slice_get names i ≡ Some term → up_to names term ≡ i + 1
 up_to-found names term i up found =
     let within : i < length names = slice_get_within names i term found in

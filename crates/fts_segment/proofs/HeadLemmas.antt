@@ -1,4 +1,4 @@
--- Heads of names, and the order that they tell.
+-- Heads of names, and the order that they decide.
 use Rattle.std.proofs.Common.{◌≡◌, ◌+◌, ◌*◌, ◌^◌, ◌<◌, ◌≤◌, ℕ, zero, suc, List, [], ◌∷◌, ◌++◌, length, get_or, refl, sym, ap, ◌∙◌, arith}
 use Rattle.std.proofs.Common.{Ordering, Less, Equal, false, inl, inr}
 use Rattle.std.proofs.Common.{add-one, pow-suc}
@@ -23,7 +23,7 @@ head-below (suc n) (byte ∷ bytes) small =
     let most : byte * 256 ^ n ≤ 255 * 256 ^ n = mul-le-mul_right (256 ^ n) (omega arith) in
     omega (arith, most, head-below n bytes (λ i. small (suc i)), pow-suc 256 n)
 
--- a head of one byte more
+-- the head of one more byte
 head-suc : (n : ℕ) (bytes : List ℕ) → head (suc n) bytes ≡ head n bytes * 256 + get_or bytes n 0
 unfolding head
 head-suc zero [] = omega arith
@@ -34,12 +34,12 @@ head-suc (suc n) (byte ∷ bytes) = omega (arith, head-suc n bytes, ap (λ p. by
 pub head-more : (n : ℕ) (bytes : List ℕ) → head (n + 1) bytes ≡ head n bytes * 256 + get_or bytes n 0
 head-more n bytes = rw add-one (head-suc n bytes)
 
--- and it fits eight bytes where it has no more
+-- the head of one more byte fits, if the head has fewer than eight
 pub head-fits : (n : ℕ) (bytes : List ℕ) → AreBytes bytes → n < 8 → head n bytes * 256 + get_or bytes n 0 < 2 ^ 64
 head-fits n bytes small few =
     omega (arith, head-suc n bytes, head-below (suc n) bytes small, pow-le-pow_right {n = 256} (omega arith) {i = suc n} {j = 8} (omega (arith, few)))
 
--- a lower head is a name before
+-- a name with a lower head comes before
 pub lower : (n : ℕ) (xs ys : List ℕ) → AreBytes ys → head n xs < head n ys → slice_cmp nat_cmp xs ys ≡ Less
 unfolding head
 lower zero xs ys small less = absurd (omega (arith, less))
@@ -55,7 +55,7 @@ lower (suc n) (x ∷ xs) (y ∷ ys) small less =
     let more : suc y * 256 ^ n ≤ x * 256 ^ n = mul-le-mul_right (256 ^ n) (omega arith) in
     absurd (omega (arith, less, more, head-below n ys (λ i. small (suc i)))))
 
--- heads that differ are in the order of the names
+-- heads that differ have the order of the names
 pub order_of_heads : (n : ℕ) (xs ys : List ℕ) (o : Ordering) → AreBytes xs → AreBytes ys → o ≡ nat_cmp (head n xs) (head n ys) → (o ≡ Equal → ⊥) →
     o ≡ slice_cmp nat_cmp xs ys
 order_of_heads n xs ys o these those is differ =
@@ -64,7 +64,7 @@ order_of_heads n xs ys o these those is differ =
     (λ equal same. absurd (differ equal))
     (λ greater behind. greater ∙ sym (turned ys xs Less (lower n ys xs these behind)))
 
--- names whose heads differ are not the same
+-- names whose heads differ are different
 pub heads-differ : (a b : ℕ) (xs ys : List ℕ) → IsHead a xs → IsHead b ys → (a ≡ b → ⊥) → bytes_eq xs ys ≡ false
 heads-differ a b xs ys these those differ = elim (cases_Bool (bytes_eq xs ys)) [
   | inl same ↦ absurd (differ (these.is ∙ ap (head 8) ((bytes_eq-Decides xs ys).0 same) ∙ sym those.is))

@@ -1,4 +1,4 @@
--- The documents that hold a term.
+-- The documents that have a term.
 use Rattle.std.proofs.Common.{◌≡◌, ◌+◌, ◌<◌, ◌≤◌, ◌||◌, ℕ, suc, Bool, true, false, cond, List, [], ◌∷◌, ◌++◌, Option, Some, Contains, ⊎_elim, map, filter}
 use Rattle.std.proofs.Common.{length, refl, sym, ap, subst, ◌∙◌, arith, All, nat_eq}
 use Rattle.std.specs.List.{list_any, dedup, dedup_from, AllPairs, enumerate_from}
@@ -17,7 +17,7 @@ use Rattle.fts_model.specs.declared.value.FieldValue.{FieldValue}
 use Rattle.fts_segment.specs.Occurrences.{OccurrenceValue, occurrence_at, tokens_of, occurrences_at, occurrences, is_token, is_term, docs_of, docs_with}
 use Rattle.fts_segment.specs.Segments.{numbers_where}
 
--- these are of one document
+-- all occurrences are in one document
 abbrev AreOf : ℕ → List OccurrenceValue → Type 0
 AreOf doc os = All (λ o. o.doc ≡ doc) os
 
@@ -25,7 +25,7 @@ tokens_are_of : (doc : ℕ) (ts : List (ℕ × List ℕ)) → AreOf doc (map (oc
 tokens_are_of doc [] = All-nil (λ (o : OccurrenceValue). o.doc ≡ doc)
 tokens_are_of doc (t ∷ ts) = All-cons (λ (o : OccurrenceValue). o.doc ≡ doc) (occurrence_at doc t) (map (occurrence_at doc) ts) refl (tokens_are_of doc ts)
 
--- an occurrence stands in a document from the first number on
+-- an occurrence is in a document from the first number
 pub from_first : (kind : Kind) (doc : ℕ) (vs : List (Option FieldValue)) → All (λ o. doc ≤ o.doc) (occurrences kind doc vs)
 from_first kind doc [] = All-nil (λ (o : OccurrenceValue). doc ≤ o.doc)
 from_first kind doc (v ∷ vs) =
@@ -69,7 +69,7 @@ one_document q doc (o ∷ os) xs of above =
       | false ↦ λ is. ap (λ ns. dedup_from nat_eq doc (ns ++ xs)) (docs_of-cons q o os false is) ∙ others
     ] refl
 
--- the occurrences of one document, behind which come others
+-- the documents of one document's occurrences, followed by others
 document_first : (q : List ℕ) (doc : ℕ) (os : List OccurrenceValue) (xs : List ℕ) → AreOf doc os → All (λ n. doc < n) xs →
     dedup nat_eq (docs_of q os ++ xs) ≡ cond (list_any (is_term q) os) (doc ∷ dedup nat_eq xs) (dedup nat_eq xs)
 document_first q doc [] xs of above = refl
@@ -95,7 +95,7 @@ numbers_where-cons {X} p n x xs =
     (filter (λ y. p y.1) (enumerate_from (n + 1) xs)))
     ≡ cond b (n ∷ numbers_where p (n + 1) xs) (numbers_where p (n + 1) xs)) [ true ↦ refl | false ↦ refl ]
 
--- a number of an element that passes a test is that of one
+-- the number of an element that passes a test is the number of one
 pub numbers_where-holds : {X : Type 0} (p : X → Bool) (n : ℕ) (xs : List X) (k : ℕ) → Contains (numbers_where p n xs) k →
     (i : ℕ) × (k ≡ n + i) × (x : X) × (slice_get xs i ≡ Some x) × (p x ≡ true)
 numbers_where-holds p n [] k at = absurd (omega (arith, at.1))
@@ -144,7 +144,7 @@ numbers_where-none {X} p n (x ∷ xs) never =
     numbers_where-cons p n x xs ∙ ap (λ b. cond b (n ∷ numbers_where p (n + 1) xs) (numbers_where p (n + 1) xs)) (All-head (λ (x : X). p x ≡ false) x xs never)
     ∙ numbers_where-none p (n + 1) xs (All-tail (λ (x : X). p x ≡ false) x xs never)
 
--- the documents of a term's occurrences, each once, are those with a token that is the term
+-- the documents of a term's occurrences, without duplicates, are those with a token that is the term
 pub docs_with-occurrences : (q : List ℕ) (kind : Kind) (doc : ℕ) (vs : List (Option FieldValue)) →
     docs_with q (occurrences kind doc vs) ≡ numbers_where (λ v. list_any (is_token q) (tokens_of kind v)) doc vs
 docs_with-occurrences q kind doc [] = refl
@@ -200,7 +200,7 @@ docs_with-rise q kind doc vs =
     let P : List ℕ → Type 0 = IsStrictlyIncreasing in
     subst P (sym (docs_with-occurrences q kind doc vs)) (numbers_rise (λ v. list_any (is_token q) (tokens_of kind v)) doc vs)
 
--- no more elements pass a test than there are, by their numbers
+-- no more elements pass a test than there are
 pub length-numbers_where : {X : Type 0} (p : X → Bool) (first : ℕ) (xs : List X) → length (numbers_where p first xs) ≤ length xs
 length-numbers_where {X} p first xs =
     let all = enumerate_from first xs in

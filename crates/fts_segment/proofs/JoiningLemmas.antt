@@ -1,4 +1,4 @@
--- What was joined of parts, and what is left of them.
+-- The merged terms of streams, and the terms that are left.
 use Rattle.std.proofs.Common.{◌≡◌, ◌≢◌, ◌⊎◌, inl, inr, ⊎_elim, ℕ, suc, true, false, cond, List, [], ◌∷◌, ◌++◌, Option, Some, None, map, flat_map, Contains}
 use Rattle.std.proofs.Common.{refl, sym, ap, ap₂, subst, ◌∙◌, Less, Equal, Greater}
 use Rattle.std.specs.Prelude.{slice_get}
@@ -19,16 +19,16 @@ use Rattle.fts_segment.proofs.KeywordsLemmas.{here, either, none}
 use Rattle.fts_segment.proofs.PartLemmas.{IsFrom, AreFrom, IsMet, IsBelowAll, joined-given, joined-passed, joined-other, sound-all, below-all-after}
 use Rattle.fts_segment.proofs.PartLemmas.{below-all-passed, met-below}
 
--- where there is no document there is no posting
+-- postings without documents are empty
 pub no_documents : (postings : List Posting) → documents postings ≡ [] → postings ≡ []
 no_documents [] h = refl
 no_documents (p ∷ postings) h = absurd (let no : p.doc ∷ documents postings ≡ [] = h in cc)
 
--- nothing is put for no posting
+-- nothing is appended for no posting
 pub none_put : {X : Type 0} (xs : List X) (x : X) (postings : List Posting) → postings ≡ [] → xs ≡ xs ++ unless_none postings x
 none_put {X} xs x postings none = sym (let P : List Posting → List X = λ ps. xs ++ unless_none ps x in ap P none ∙ append-nil xs)
 
--- and one element for some
+-- one element is appended for some postings
 pub some_put : {X : Type 0} (xs new : List X) (x : X) (postings : List Posting) → postings ≢ [] → new ≡ xs ++ x ∷ [] → new ≡ xs ++ unless_none postings x
 some_put xs new x [] some put = absurd (some refl)
 some_put xs new x (p ∷ postings) some put = put
@@ -49,7 +49,7 @@ all-push : {X : Type 0} (P : X → Type 0) (xs : List X) (x : X) → AllByRecurs
 all-push P [] x h p = (p, tt)
 all-push P (y ∷ xs) x h p = (h.0, all-push P xs x h.1 p)
 
--- how far parts are joined: what the names have is all that the parts had, and of other terms all is left
+-- the progress of a merge: the names have all postings of the streams, and every other term is left
 pub record IsJoining (all rest : List PartValue) (names lists : List (List ℕ)) (positions : List (List (List ℕ))) : Type 0 where
   pub sound : AllByRecursion IsSound rest
   pub ascend : Ascend names
@@ -76,14 +76,14 @@ all-below-after : (term : List ℕ) (rest : List PartValue) (names : List (List 
 all-below-after term rest [] h = tt
 all-below-after term rest (n ∷ names) h = (below-all-after n term rest h.0, all-below-after term rest names h.1)
 
--- a term that is still to come is none of the names
+-- a term that is left is none of the names
 not-among : (term : List ℕ) (names : List (List ℕ)) → AreBefore term names → Contains names term → ⊥
 not-among term [] h c = none term c
 not-among term (n ∷ names) h c = ⊎_elim
     (λ (same : n ≡ term). let clash : Less ≡ Equal = sym h.0 ∙ ap (λ x. slice_cmp nat_cmp x term) same ∙ tied_itself nat_list_cmp_total term in cc)
     (λ behind. not-among term names h.1 behind) (either n term names c)
 
--- what the parts have for the next term is all that they had
+-- the postings that the streams give for the next term are all that they had
 pub all-given : (term : List ℕ) (postings : List Posting) (all rest : List PartValue) (names lists : List (List ℕ)) (positions : List (List (List ℕ))) →
     IsJoining all rest names lists positions →
     AreFrom term rest → IsMet term rest → postings ≡ flat_map (given term) rest → joined all term ≡ postings
@@ -91,7 +91,7 @@ all-given term postings all rest names lists positions j from met is = ⊎_elim
     (λ (among : Contains names term). absurd (not-among term names (are-before term rest names met j.below) among))
     (λ (same : joined rest term ≡ joined all term). sym same ∙ joined-given term rest j.sound from ∙ sym is) (j.left term)
 
--- so these postings are such as can be written
+-- the postings of the next term rise
 pub postings-rise : (term : List ℕ) (postings : List Posting) (all rest : List PartValue) (names lists : List (List ℕ)) (positions : List (List (List ℕ))) →
     IsJoining all rest names lists positions →
     AreFrom term rest → IsMet term rest → postings ≡ flat_map (given term) rest → ((q : List ℕ) → IsStrictlyIncreasing (documents (joined all q))) →
@@ -100,7 +100,7 @@ postings-rise term postings all rest names lists positions j from met is rise =
     let P : List Posting → Type 0 = λ ps. IsStrictlyIncreasing (documents ps) in
     subst P (all-given term postings all rest names lists positions j from met is) (rise term)
 
--- a term is passed that no part has a posting for
+-- the merge goes past a term that has no posting
 pass-none : (term : List ℕ) (all rest : List PartValue) (names lists : List (List ℕ)) (positions : List (List (List ℕ))) →
     IsJoining all rest names lists positions →
     AreFrom term rest → joined all term ≡ [] → IsJoining all (map (passed term) rest) names lists positions
@@ -120,7 +120,7 @@ pass-none term all rest names lists positions j from no_posting = record {
   ] refl;
 }
 
--- and one that they have postings for
+-- the merge goes past a term that has postings
 pass-some : (term : List ℕ) (all rest : List PartValue) (names lists : List (List ℕ)) (positions : List (List (List ℕ))) →
     IsJoining all rest names lists positions →
     AreFrom term rest → IsMet term rest → joined all term ≢ [] →
@@ -143,7 +143,7 @@ pass-some term all rest names lists positions j from met some_posting = record {
   ] refl;
 }
 
--- a term is passed
+-- the merge goes past a term
 pub IsJoining-next : (term : List ℕ) (postings : List Posting) (all rest : List PartValue) (names lists : List (List ℕ)) (positions : List (List (List ℕ))) →
     IsJoining all rest names lists positions →
     AreFrom term rest → IsMet term rest → joined all term ≡ postings →
@@ -158,7 +158,7 @@ IsJoining-next term (p ∷ postings) all rest names lists positions j from met i
     λ ps. IsJoining all (map (passed term) rest) (names ++ term ∷ []) (lists ++ documents ps ∷ []) (positions ++ position_lists ps ∷ []) in
     subst P is (pass-some term all rest names lists positions j from met (λ no. let clash : p ∷ postings ≡ [] = sym is ∙ no in cc))
 
--- a part with no name has nothing
+-- a stream without a name has no posting
 nothing : (p : PartValue) (term : List ℕ) → p.names ≡ [] → moved p.numbers (found p.names p.postings term) ≡ []
 nothing p term e = ap (λ ns. moved p.numbers (found ns p.postings term)) e
 
@@ -172,7 +172,7 @@ none-first (Some a) (n ∷ names) h =
       | false ↦ λ no. absurd (let e : Some a ≡ None = no in cc)
     ] h
 
--- no part has a name left
+-- if there is no least name, no stream has a name left
 pub least-none : (o : Option (List ℕ)) (ps : List PartValue) → least_of o ps ≡ None → (o ≡ None) × ((term : List ℕ) → joined ps term ≡ [])
 least-none o [] h = (h, λ term. refl)
 least-none o (p ∷ ps) h =
@@ -180,7 +180,7 @@ least-none o (p ∷ ps) h =
     let first = none-first o p.names rest.0 in
     (first.0, λ term. ap₂ (λ a b. a ++ b) (nothing p term first.1) (rest.1 term))
 
--- a name that may be the first is not before the term
+-- an optional name is not before the term
 abbrev pub NotBefore : List ℕ → Option (List ℕ) → Type 0
 NotBefore term None = Unit {0}
 NotBefore term (Some a) = slice_cmp nat_cmp a term ≢ Less
@@ -209,7 +209,7 @@ first-met (Some a) (n ∷ names) term h =
       | false ↦ λ f. inl f
     ] h
 
--- the first of the next names: no part is before it
+-- no stream has a name before the least of the next names
 pub least-from : (o : Option (List ℕ)) (ps : List PartValue) (term : List ℕ) → least_of o ps ≡ Some term → NotBefore term o × AreFrom term ps
 least-from o [] term h =
     let P : Option (List ℕ) → Type 0 = λ x. NotBefore term x in
@@ -220,7 +220,7 @@ least-from o (p ∷ ps) term h =
     let first = first-from o p.names term rest.0 in
     (first.0, (first.1, rest.1))
 
--- and a part begins with it
+-- some stream begins with the least of the next names
 pub least-met : (o : Option (List ℕ)) (ps : List PartValue) (term : List ℕ) → least_of o ps ≡ Some term → (o ≡ Some term) ⊎ IsMet term ps
 least-met o [] term h = inl h
 least-met o (p ∷ ps) term h =
@@ -238,7 +238,7 @@ met-of-least ps term h = elim (least-met None ps term h) as (λ w. IsMet term ps
   | inr met ↦ met
 ]
 
--- at the end all is joined
+-- a merge that is finished has all postings
 pub IsJoined-end : (all rest : List PartValue) (names lists : List (List ℕ)) (positions : List (List (List ℕ))) → IsJoining all rest names lists positions →
     least_of None rest ≡ None → IsJoined all names lists positions
 IsJoined-end all rest names lists positions j h = record {

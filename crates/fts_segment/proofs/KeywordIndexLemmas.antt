@@ -1,4 +1,4 @@
--- The dictionary of a keyword field has the texts of its documents, in order, each once.
+-- The dictionary of a keyword field has the distinct texts of its documents, in order.
 use Rattle.std.proofs.lemmas.Bool.{lt-ltb}
 use Rattle.std.proofs.lemmas.Option.{slice_get_within, get_or_from_slice_get}
 use Rattle.std.proofs.lemmas.Slice.Eq.{bytes_eq-Decides}
@@ -78,7 +78,7 @@ text_among vs t h = in_order-has (texts vs) t (there_is vs h)
     there_is (Some (values.Texts ts) ∷ vs) (suc k, less, is) = there_is vs (k, omega (arith, less), is)
     there_is (Some (values.Text s) ∷ vs) (suc k, less, is) = there s t (texts vs) (there_is vs (k, omega (arith, less), is))
 
--- a text that stands at a number has as many texts before it
+-- a text at an index has as many texts before it
 pub number_of_text : (names : List (List ℕ)) (i : ℕ) (t : List ℕ) → Ascends names → slice_get names i ≡ Some t → i ≡ before names t
 number_of_text names i t up found =
     sym (before-at names i (climbs_by_place names up) (slice_get_within names i t found)) ∙ ap (before names) (get_or_from_slice_get names i t [] found)

@@ -1,4 +1,4 @@
--- Texts in order, each once, and what comes before a text among them.
+-- Distinct texts in order, and the number of those before a text.
 use Rattle.std.proofs.lemmas.Bool.{false≢true}
 use Rattle.std.proofs.lemmas.Bool.Decides.{nat_tests}
 use Rattle.std.proofs.Common.{cond, ◌≡◌, ◌+◌, ◌<◌, ◌≤◌, ◌⊎◌, ℕ, zero, suc, Bool, true, false, List, [], ◌∷◌, length, filter, fold, All, Contains, get_or, refl}
@@ -19,7 +19,7 @@ cmp = slice_cmp nat_cmp
 abbrev Behind : List ℕ → List (List ℕ) → Type 0
 Behind t ts = All (λ k. cmp t k ≡ Less) ts
 
--- each text is before all behind it
+-- each text is before all after it
 abbrev pub Climbs : List (List ℕ) → Type 0
 Climbs [] = Unit {0}
 Climbs (t ∷ ts) = Behind t ts × Climbs ts
@@ -55,7 +55,7 @@ behind_trans s t ts h b = λ k d less. nat_list_cmp_total.trans s t (get_or ts k
 behind_first : (s t : List ℕ) (ts : List (List ℕ)) → cmp s t ≡ Less → Behind t ts → Behind s (t ∷ ts)
 behind_first s t ts h b = All-cons (λ k. cmp s k ≡ Less) t ts h (behind_trans s t ts h b)
 
--- what holds of a text and of all others holds of these with it
+-- a property of a text and of all others holds with the text inserted
 with-all : (P : List ℕ → Type 0) (ts : List (List ℕ)) (t : List ℕ) → P t → All P ts → All P (with_text ts t)
 with-all P [] t h all = All-cons P t [] h all
 with-all P (s ∷ ts) t h all = by (cmp t s) (with-all P ts t h (λ k d less. all (suc k) d (omega (arith, less))))
@@ -129,7 +129,7 @@ in_order-has texts x h = fold-has texts [] x (inr h)
 pub in_order-only : (texts : List (List ℕ)) (x : List ℕ) → Contains (in_order texts) x → Contains texts x
 in_order-only texts x h = ⊎_elim (λ k. absurd (none x k)) (λ k. k) (fold-only texts [] x h)
 
--- two lists in order that have the same texts are the same
+-- two lists in order that have the same texts are equal
 same_head : (x y : List ℕ) (xs ys : List (List ℕ)) → Behind x xs → Behind y ys → Contains (y ∷ ys) x → Contains (x ∷ xs) y → x ≡ y
 same_head x y xs ys a b h k = ⊎_elim (λ is. sym is)
     (λ later. ⊎_elim (λ is. is)
@@ -152,7 +152,7 @@ same_texts (x ∷ xs) (y ∷ ys) a b f g =
     (λ z h. behind_it y z ys xs b.0 h (subst (λ w. Contains (w ∷ xs) z) is (g z (there y z ys h)))) in
     cc
 
--- texts of which each is before those with greater numbers climb
+-- texts that are each before those at greater indexes ascend
 pub climbs_by_place : (ts : List (List ℕ)) → ((i j : ℕ) → i < j → j < length ts → cmp (get_or ts i []) (get_or ts j []) ≡ Less) → Climbs ts
 climbs_by_place [] h = tt
 climbs_by_place (t ∷ ts) h = (
@@ -165,7 +165,7 @@ climbs_by_place (t ∷ ts) h = (
     behind t [] h = All-nil _
     behind t (x ∷ ts) h = All-cons (λ k. cmp t k ≡ Less) x ts (h 0 (omega arith)) (behind t ts (λ k less. h (suc k) (omega (arith, less))))
 
--- what a test counts for
+-- 1 for a test that passes and 0 otherwise
 abbrev one : Bool → ℕ
 one true = 1
 one false = 0
@@ -186,7 +186,7 @@ count_none p (t ∷ ts) failed =
     let first : one (p t) ≡ 0 = ap (λ b. one b) (failed 0 t (omega arith)) in
     omega (arith, count-cons p t ts, first, count_none p ts (λ k d less. failed (suc k) d (omega (arith, less))))
 
--- where exactly the first texts pass, these are counted
+-- if exactly the first texts pass, their number is the count
 pub count_front : (p : List ℕ → Bool) (ts : List (List ℕ)) (k : ℕ) → k ≤ length ts → ((i : ℕ) → i < k → p (get_or ts i []) ≡ true) →
     ((i : ℕ) → k ≤ i → i < length ts → p (get_or ts i []) ≡ false) → length (filter p ts) ≡ k
 count_front p [] k few front back = omega (arith, few)
@@ -205,7 +205,7 @@ one_le true false f = absurd (false≢true (f refl))
 one_le false true f = omega arith
 one_le false false f = omega arith
 
--- what passes more counts more
+-- a weaker test counts no less
 count-le : (p q : List ℕ → Bool) (ts : List (List ℕ)) → ((t : List ℕ) → p t ≡ true → q t ≡ true) → count p ts ≤ count q ts
 count-le p q [] f = omega arith
 count-le p q (t ∷ ts) f = omega (arith, count-cons p t ts, count-cons q t ts, one_le (p t) (q t) (f t), count-le p q ts f)
@@ -219,7 +219,7 @@ count-lt p q (t ∷ ts) x f h fails passes = ⊎_elim
     (λ later. omega (arith, count-cons p t ts, count-cons q t ts, one_le (p t) (q t) (f t), count-lt p q ts x f later fails passes))
     (either t x ts h)
 
--- how tests of the order go together
+-- a text that is less is before in the order
 is_before : (a b : List ℕ) → text_lt a b ≡ true → cmp a b ≡ Less
 is_before a b h = by (cmp a b) h
   where
@@ -281,7 +281,7 @@ lt_is m n h = grind (arith, nat_tests)
 lt_isnt : (m n : ℕ) → n ≤ m → nat_lt m n ≡ false
 lt_isnt m n h = grind (arith, nat_tests)
 
--- a bound admits a text among others exactly where it admits its number, as the bound's counts have it
+-- a bound admits a text exactly if its counts admit the text's number
 pub from_included : (ts : List (List ℕ)) (low t : List ℕ) → Contains ts t → nat_le (before ts low) (before ts t) ≡ text_le low t
 from_included ts low t h = by (text_le low t) refl
   where
@@ -312,7 +312,7 @@ to_excluded ts high t h = by (text_lt t high) refl
     by true is = lt_is _ _ (count-lt (λ k. text_lt k t) (λ k. text_lt k high) ts t (λ k b. lt_le k t high b (lt-le t high is)) h (itself t) is)
     by false is = lt_isnt _ _ (count-le (λ k. text_lt k high) (λ k. text_lt k t) ts (λ k b. lt_le k high t b (not_before t high is)))
 
--- a text that is among them has as many before it as its number
+-- a text at an index has as many texts before it
 pub before-at : (ts : List (List ℕ)) (i : ℕ) → Climbs ts → i < length ts → before ts (get_or ts i []) ≡ i
 before-at [] i climbs less = absurd (omega (arith, less))
 before-at (t ∷ ts) zero climbs less = count_none (λ s. text_lt s t) (t ∷ ts)

@@ -1,4 +1,4 @@
--- New numbers, and postings by them, one at a time.
+-- New document numbers, and postings under them, one at a time.
 use Rattle.std.proofs.Common.{◌≡◌, ◌+◌, ◌-◌, ◌*◌, ◌^◌, ◌<◌, ◌≤◌, ℕ, Bool, true, false, cond, List, [], ◌∷◌, ◌++◌, Option, Some, None, All, length, take, drop}
 use Rattle.std.proofs.Common.{map, zero, suc, flat_map, count_by, get_or, refl, sym, ap, ◌∙◌, arith}
 use Rattle.std.specs.Prelude.{slice_get, slice_set}
@@ -14,7 +14,7 @@ use Rattle.fts_pack.proofs.DocumentsLemmas.{take_block}
 use Rattle.fts_segment.specs.Parts.{AreInARow, PartValue, number_in, renumbered, placed, moved}
 use Rattle.fts_segment.specs.Postings.{Posting, posting_at, postings_of, documents, position_lists}
 
--- what is left of a list, the first apart
+-- the rest of a list from an index, with the first split off
 pub dropped_at : {X : Type 0} (xs : List X) (i : ℕ) (x : X) → slice_get xs i ≡ Some x → drop i xs ≡ x ∷ drop (i + 1) xs
 dropped_at xs i x h = drop_more xs i x (slice_get_within xs i x h) ∙ ap (λ y. y ∷ drop (i + 1) xs) (get_or_from_slice_get xs i x x h)
 
@@ -27,19 +27,19 @@ numbered-step ns next live i bit all is h =
     (b ∷ drop (i + 1) live)) [ true ↦ refl | false ↦ refl ])
     ∙ ap (λ bits. ns ++ renumbered next bits) (sym (dropped_at live i bit is)) ∙ h
 
--- how many bits are set from a document on
+-- the number of bits set from a document
 pub counted-step : (live : List Bool) (i : ℕ) (bit : Bool) → slice_get live i ≡ Some bit →
     count_by (λ bit. bit) (drop i live) ≡ cond bit 1 0 + count_by (λ bit. bit) (drop (i + 1) live)
 counted-step live i bit is = ap (count_by (λ (bit : Bool). bit)) (dropped_at live i bit is) ∙ sum_by-cons (λ (bit : Bool). cond bit 1 0) bit (drop (i + 1) live)
 
--- the next number with what is counted behind it
+-- the next number plus the bits that are set after it
 pub counted-next : (next first i : ℕ) (live : List Bool) (bit : Bool) → slice_get live i ≡ Some bit →
     next + count_by (λ bit. bit) (drop i live) ≡ first + count_by (λ bit. bit) live →
     cond bit (next + 1) next + count_by (λ bit. bit) (drop (i + 1) live) ≡ first + count_by (λ bit. bit) live
 counted-next next first i live true is h = omega (arith, counted-step live i true is, h)
 counted-next next first i live false is h = omega (arith, counted-step live i false is, h)
 
--- there is a number for a document that is live
+-- a live document's number is below the end
 pub counted-room : (next first i : ℕ) (live : List Bool) (bit : Bool) → slice_get live i ≡ Some bit → bit ≡ true →
     next + count_by (λ bit. bit) (drop i live) ≡ first + count_by (λ bit. bit) live →
     first + count_by (λ bit. bit) live < 2 ^ 32 → next + 1 < 2 ^ 32
@@ -52,7 +52,7 @@ length-renumbered next [] = refl
 length-renumbered next (true ∷ live) = ap suc (length-renumbered (next + 1) live)
 length-renumbered next (false ∷ live) = ap suc (length-renumbered next live)
 
--- where all documents are live, their numbers are in a row
+-- if all documents are live, their numbers are consecutive
 numbered_at : (next : ℕ) (live : List Bool) (doc : ℕ) → list_all (λ bit. bit) live ≡ true → doc < length live →
     slice_get (renumbered next live) doc ≡ Some (Some (next + doc))
 numbered_at next [] doc all within = absurd (omega (arith, within))
@@ -69,7 +69,7 @@ AreInARow-renumbered first live all fit = record {
   fit = omega (arith, eqb-true _ _ (all_counted live ∙ all), fit, length-renumbered first live);
 }
 
--- a posting whose document has a new number is placed there
+-- a posting whose document has a new number is copied under it
 pub placed-some : (o : Option (Option ℕ)) (number : ℕ) (posting : Posting) → Some number ≡ number_in o →
     placed o posting ≡ posting_at number posting.positions ∷ []
 placed-some None number posting h = absurd (let no : Some number ≡ None = h in cc)
@@ -77,7 +77,7 @@ placed-some (Some None) number posting h = absurd (let no : Some number ≡ None
 placed-some (Some (Some n)) number posting h = let same : n ≡ number = let e : Some number ≡ Some n = h in cc in
     ap (λ n. posting_at n posting.positions ∷ []) same
 
--- and another one nowhere
+-- a posting whose document has no new number is not copied
 pub placed-none : (o : Option (Option ℕ)) (posting : Posting) → None ≡ number_in o → placed o posting ≡ []
 placed-none None posting h = refl
 placed-none (Some None) posting h = refl
@@ -99,14 +99,14 @@ postings_of-append [] others lists = refl
 postings_of-append (doc ∷ docs) others [] = sym (postings_none others)
 postings_of-append (doc ∷ docs) others (list ∷ lists) = ap (λ ps. posting_at doc list ∷ ps) (postings_of-append docs others lists)
 
--- more lists than documents don't count
+-- position lists past the documents have no effect
 pub postings_of-take : (docs : List ℕ) (n : ℕ) (lists : List (List ℕ)) → length docs ≤ n → postings_of docs (take n lists) ≡ postings_of docs lists
 postings_of-take [] n lists h = refl
 postings_of-take (doc ∷ docs) zero lists h = absurd (omega (arith, h))
 postings_of-take (doc ∷ docs) (suc n) [] h = refl
 postings_of-take (doc ∷ docs) (suc n) (list ∷ lists) h = ap (λ ps. posting_at doc list ∷ ps) (postings_of-take docs n lists (omega (arith, h)))
 
--- numbers in a row leave out no posting
+-- consecutive numbers leave out no posting
 pub documents-shifted : (numbers : List (Option ℕ)) (first : ℕ) (docs : List ℕ) (lists : List (List ℕ)) → AreInARow numbers first → length docs ≡ length lists →
     All (λ doc. doc < length numbers) docs →
     documents (moved numbers (postings_of docs lists)) ≡ map (λ doc. first + doc) docs
@@ -128,14 +128,14 @@ lists-shifted numbers first (doc ∷ docs) (list ∷ lists) row paired within =
     ap (λ o. position_lists (placed o (posting_at doc list) ++ moved numbers (postings_of docs lists))) (row.are doc (All-head Within doc docs within))
     ∙ ap (λ ls. list ∷ ls) (lists-shifted numbers first docs lists row (omega (arith, paired)) (All-tail Within doc docs within))
 
--- what more documents have
+-- the copied postings of more documents
 moved-more : (numbers : List (Option ℕ)) (some more all : List ℕ) (lists : List (List ℕ)) → all ≡ some ++ more →
     moved numbers (postings_of all lists) ≡ moved numbers (postings_of some lists) ++ moved numbers (postings_of more (drop (length some) lists))
 moved-more numbers some more all lists is =
     ap (λ ds. moved numbers (postings_of ds lists)) is ∙ ap (moved numbers) (postings_of-append some more lists)
     ∙ moved-append numbers (postings_of some lists) (postings_of more (drop (length some) lists))
 
--- one posting more
+-- the copied postings with one more
 pub moved-one : (numbers : List (Option ℕ)) (lists : List (List ℕ)) (docs : List ℕ) (start i d e : ℕ) → i < length docs → d ≡ get_or docs i e →
     length docs ≤ length lists - start →
     moved numbers (postings_of (take (i + 1) docs) (drop start lists))
@@ -151,7 +151,7 @@ moved-one numbers lists docs start i d e within here room =
     moved-more numbers (take i docs) (d ∷ []) (take (i + 1) docs) (drop start lists) more
     ∙ ap (λ ps. moved numbers (postings_of (take i docs) (drop start lists)) ++ ps) one
 
--- one block more
+-- the copied postings with one more block
 pub moved-block : (numbers : List (Option ℕ)) (lists : List (List ℕ)) (docs : List ℕ) (start block : ℕ) → block * 128 ≤ length docs →
     moved numbers (postings_of (take ((block + 1) * 128) docs) (drop start lists))
     ≡ moved numbers (postings_of (take (block * 128) docs) (drop start lists))
@@ -163,7 +163,7 @@ moved-block numbers lists docs start block within =
     moved-more numbers (take (block * 128) docs) (block_at docs block) (take ((block + 1) * 128) docs) (drop start lists) (take_block docs block)
     ∙ ap (λ ls. moved numbers (postings_of (take (block * 128) docs) (drop start lists)) ++ moved numbers (postings_of (block_at docs block) ls)) there
 
--- one block more of documents with a number added
+-- documents with a number added, with one more block
 pub shifted-block : (f : ℕ → ℕ) (docs : List ℕ) (block : ℕ) (before out new : List ℕ) → out ≡ before ++ map f (take (block * 128) docs) →
     new ≡ out ++ map f (block_at docs block) →
     new ≡ before ++ map f (take ((block + 1) * 128) docs)
@@ -172,7 +172,7 @@ shifted-block f docs block before out new so_far put =
     put ∙ ap (λ zs. zs ++ map f (block_at docs block)) so_far ∙ append_assoc before (map f old) (map f (block_at docs block))
     ∙ ap (λ zs. before ++ zs) (sym (map-append f old (block_at docs block)) ∙ ap (map f) (sym (take_block docs block)))
 
--- members of which the first ones were changed
+-- a list whose first members were changed
 pub at-front : {X : Type 0} (f : X → X) (xs : List X) (i : ℕ) → slice_get (map f (take i xs) ++ drop i xs) i ≡ slice_get xs i
 at-front f [] zero = refl
 at-front f [] (suc i) = refl
@@ -185,7 +185,7 @@ set-suc f [] i x h = absurd (let no : None ≡ Some x = h in cc)
 set-suc f (y ∷ xs) zero x h = let e : y ≡ x = cc in ap (λ z. f z ∷ xs) (sym e)
 set-suc f (y ∷ xs) (suc i) x h = ap (λ zs. f y ∷ zs) (set-suc f xs i x h)
 
--- one more is changed
+-- a list of which one more member was changed
 pub set-front : {X : Type 0} (f : X → X) (items xs : List X) (i : ℕ) (x y : X) → items ≡ map f (take i xs) ++ drop i xs → slice_get items i ≡ Some x → y ≡ f x →
     (slice_set items i y ≡ map f (take (i + 1) xs) ++ drop (i + 1) xs) × (slice_get xs i ≡ Some x)
 set-front f items xs i x y is at new =
@@ -202,7 +202,7 @@ given-suc f [] i x at = absurd (let no : None ≡ Some x = at in cc)
 given-suc f (y ∷ xs) zero x at = let same : y ≡ x = cc in append-nil (f y) ∙ ap f same
 given-suc f (y ∷ xs) (suc i) x at = ap (λ ps. f y ++ ps) (given-suc f xs i x at) ∙ sym (append_assoc (f y) (flat_map f (take i xs)) (f x))
 
--- what one part more gives
+-- the postings that one more stream gives
 pub given-front : (f : PartValue → List Posting) (xs : List PartValue) (i : ℕ) (x : PartValue) → slice_get xs i ≡ Some x →
     flat_map f (take (i + 1) xs) ≡ flat_map f (take i xs) ++ f x
 given-front f xs i x at = let one : i + 1 ≡ suc i = omega arith in ap (λ n. flat_map f (take n xs)) one ∙ given-suc f xs i x at

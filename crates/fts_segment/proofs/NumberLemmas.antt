@@ -118,7 +118,7 @@ group_docs numbers vs log groups numbers_read vs_read log_read n v l docs groupe
     ∙ numbers_where-dedup (is_number (get_or numbers_read t 0)) 0 vs_read
     ∙ ap (λ xs. numbers_where (is_number (get_or xs t 0)) 0 vs_read) n ∙ ap (λ us. numbers_where (is_number (get_or numbers t 0)) 0 us) v
 
--- so they rise
+-- the documents of each group rise
 pub groups_rise : (numbers : List ℕ) (vs : List (Option ℕ)) (groups : List (List DocPosition)) → length groups ≡ length numbers →
     ((t : ℕ) → t < length numbers → docs_in (get_or groups t []) ≡ numbers_where (is_number (get_or numbers t 0)) 0 vs) →
     All (λ places. IsStrictlyIncreasing (docs_in places)) groups
@@ -128,7 +128,7 @@ groups_rise numbers vs groups count grouped k d within =
     ∙ grouped k (omega arith) in
     subst P (sym same) (numbers_rise (is_number (get_or numbers k 0)) 0 vs)
 
--- the numbers with their groups make the index
+-- the numbers with their groups are the index
 pub IsNumberIndex-listed : (numbers : List ℕ) (vs : List (Option ℕ)) (groups : List (List DocPosition)) → length groups ≡ length numbers →
     ((t : ℕ) → t < length numbers → docs_in (get_or groups t []) ≡ numbers_where (is_number (get_or numbers t 0)) 0 vs) →
     IsStrictlyIncreasing numbers → All (λ x. Contains vs (Some x)) numbers → ((x : ℕ) → Contains vs (Some x) → Contains numbers x) →

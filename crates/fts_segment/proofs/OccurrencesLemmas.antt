@@ -1,4 +1,4 @@
--- Loops over the tokens of texts that put each after the occurrences so far.
+-- Loops that append each token of texts to the occurrences.
 use Rattle.std.proofs.Common.{◌≡◌, ◌<◌, ◌≤◌, ◌^◌, ℕ, suc, ◌+◌, List, [], ◌∷◌, ◌++◌, Option, map, drop, get_or, length, refl, sym, ap, subst, ◌∙◌, All}
 use Rattle.std.proofs.Common.{append_assoc, append-nil, arith, length-append}
 use Rattle.std.specs.Str.{IsUtf8}
@@ -18,8 +18,8 @@ pub map-map : {A B C : Type 0} (f : B → C) (g : A → B) (xs : List A) → map
 map-map f g [] = refl
 map-map f g (x ∷ xs) = ap (λ ys. f (g x) ∷ ys) (map-map f g xs)
 
--- what is left of a text: its places stand in it; with its tokens the log has all of them behind what it had; what follows is
--- known
+-- a loop over the rest of a text: its places are in the text; the log with the remaining tokens is the whole; the next
+-- text's first number is known
 pub record Logs (first : ℕ) (text : List ℕ) (doc : ℕ) (before now : List OccurrenceValue) (left : Tokens) : Type 0 where
   pub within : All (IsPlaceFrom first text) (places_left left)
   pub whole : now ++ map (λ token. occurrence_at doc (token_at text token)) (places_left left) ≡ before ++ map (occurrence_at doc) (tokens_from first text)
@@ -66,7 +66,7 @@ pub Logs-end : {first : ℕ} {text : List ℕ} {doc : ℕ} {before now : List Oc
 Logs-end {first} {text} {doc} {before} {now} left none s =
     sym (append-nil now) ∙ sym (ap (λ ps. now ++ map (λ t. occurrence_at doc (token_at text t)) ps) none) ∙ s.whole
 
--- what is left of a list of texts, from number `n` on, of which the next begins at `first`
+-- a loop over texts from number `n`, the next of which has spans numbered from `first`
 pub record LogsOn (texts : List (List ℕ)) (doc : ℕ) (before now : List OccurrenceValue) (n first : ℕ) : Type 0 where
   pub room : HasRoom first (drop n texts)
   pub whole : now ++ map (occurrence_at doc) (tokens_of_texts first (drop n texts)) ≡ before ++ map (occurrence_at doc) (tokens_of_texts 0 texts)
@@ -75,7 +75,7 @@ pub record LogsOn (texts : List (List ℕ)) (doc : ℕ) (before now : List Occur
 pub LogsOn-start : (texts : List (List ℕ)) (doc : ℕ) (before : List OccurrenceValue) → HasRoom 0 texts → LogsOn texts doc before before 0 0
 LogsOn-start texts doc before room = record { room = room; whole = refl; few = omega arith }
 
--- the next text, and those behind it
+-- the next text has its spans, and so have those after it
 here_first : (texts : List (List ℕ)) (n first : ℕ) → n < length texts → HasRoom first (drop n texts) →
     first + length (get_or texts n []) + bytes_of (drop (n + 1) texts) + suc (length (drop (n + 1) texts)) + 2 < 2 ^ 32
 here_first texts n first inside room =
@@ -116,7 +116,7 @@ LogsOn-end {texts} {doc} {before} {now} n first past s = (
   omega (arith, s.few, ap (λ ts. length (tokens_of_texts first ts)) (drop_all n texts past)),
 )
 
--- one value more
+-- the occurrences of values with one more
 pub occurrences-push : (kind : Kind) (doc n : ℕ) (vs : List (Option FieldValue)) (v : Option FieldValue) → n ≡ doc + length vs →
     occurrences kind doc (vs ++ v ∷ []) ≡ occurrences kind doc vs ++ occurrences_at kind n v
 occurrences-push kind doc n [] v at =

@@ -1,4 +1,4 @@
--- The numbers of a field in order, by its index.
+-- The sorted numbers of a field, from its index.
 use Rattle.std.proofs.Common.{◌≡◌, ◌≤◌, ℕ, true, false, cond, List, Option, Some, None, length, sym, ap, ap₂, subst, ◌∙◌, arith}
 use Rattle.std.specs.Prelude.{slice_get, option_map}
 use Rattle.std.specs.Borrow.{Bor}
@@ -22,7 +22,7 @@ use Rattle.fts_segment.specs.Sums.{sums_from}
 use Rattle.fts_segment.proofs.BetweenLemmas.{IsNumberIndex-keywords, numbers_count}
 use Rattle.fts_segment.proofs.FieldLemmas.{numbers_of-values, ordinals_of-values}
 
--- those of a keyword field, and of a number field
+-- the sorted ordinals of a keyword field
 pub IsOrdered-keywords : (kind : Kind) (vs : List (Option FieldValue)) (index : KeywordIndex) (o : SortedColumn) → AreKeywords kind vs index →
     o.column.now ≡ index.ordinals → o.numbers ≡ None → o.lists.now ≡ index.dictionary.lists.items → o.sums.now ≡ index.sums.items →
     IsOrdered (column_of kind vs) o

@@ -20,7 +20,7 @@ use Rattle.fts_segment.proofs.FieldLemmas.{text_found}
 use Rattle.fts_segment.proofs.HoldingLemmas.{numbers_where-holds}
 use Rattle.fts_segment.proofs.KeywordIndexLemmas.{terms_are_texts}
 
--- the last document of the first block of a list, if it has one, stands in the list
+-- the last document of the first block of a list is in the list
 pub last_of_first : (documents : List ℕ) → 0 < length documents → Contains documents (last_of (get_or (blocks_of documents) 0 []))
 last_of_first documents some =
     let block = block_at documents 0 in
@@ -32,7 +32,7 @@ last_of_first documents some =
     let is : get_or documents n 0 ≡ last_of (get_or (blocks_of documents) 0 []) = sym (get_or-take 128 documents n 0 early) ∙ ap last_of (sym first) in
     (n, within, get_or_default documents n (last_of (get_or (blocks_of documents) 0 [])) 0 within ∙ is)
 
--- as many lists as texts
+-- there are as many lists as texts
 pub lists_count : (vs : List (Option FieldValue)) (dictionary : Dictionary) → AreTerms kinds.Keyword vs dictionary →
     length dictionary.lists.items ≡ length dictionary.names
 lists_count vs dictionary are = ap length are.dictionary_is.listed ∙ length-map dictionary.names (λ q. docs_with q (occurrences kinds.Keyword 0 vs))
@@ -44,7 +44,7 @@ holds_text text (Some (values.Text t)) h = ap (λ x. Some (values.Text x)) ((byt
 holds_text text (Some (values.Number n)) h = cc
 holds_text text (Some (values.Texts ts)) h = cc
 
--- a document that was picked from the list of an ordinal has its text, and none is picked where there is no such text
+-- a document that is picked from the list of an ordinal has its text, and none is picked if there is no such text
 pub keyword_there : (vs : List (Option FieldValue)) (dictionary : Dictionary) (ordinal : ℕ) (lists : List (List ℕ)) (list d : List ℕ) (o : Option ℕ) →
     AreTerms kinds.Keyword vs dictionary →
     lists ≡ dictionary.lists.items → ordinal < length lists → list ≡ get_or lists ordinal d → MatchOption o (list ≡ []) (Contains list) →
@@ -69,7 +69,7 @@ keyword_there vs dictionary ordinal lists list d (Some doc) are same inside foun
       has = ap (slice_get vs) number ∙ held.3 ∙ ap Some (holds_text text held.2 held.4);
     }
 
--- so there is this document
+-- the document that is picked exists
 pub document_within : (field : ℕ) (documents : List (Stamped DocumentValue)) (ordinal doc : ℕ) → HasKeywordAt (values_in field documents) ordinal doc →
     doc < length documents
 document_within field documents ordinal doc h =
@@ -80,7 +80,7 @@ document_within field documents ordinal doc h =
           (λ (d : Stamped DocumentValue). value_in_field d.value field),
     )
 
--- and its value in the field is the text
+-- the picked document's value in the field is the text
 text_there : (field : ℕ) (text : List ℕ) (d : DocumentValue) (o : Option (Stamped DocumentValue)) → option_map (λ d. value_in_field d.value field) o
     ≡ Some (Some (values.Text text)) →
     option_map (λ d. d.value) o ≡ Some d → value_in_field d field ≡ Some (values.Text text)

@@ -1,4 +1,4 @@
--- Ordinals of documents, as they are set list by list.
+-- Ordinals of documents, set list by list.
 use Rattle.std.proofs.Common.{◌≡◌, ◌+◌, ◌*◌, ◌<◌, ℕ, zero, suc, cond, List, [], ◌∷◌, Option, Some, None, Contains, All, length}
 use Rattle.std.proofs.Common.{get_or, map, set, take, replicate, refl, sym, ap, subst, ◌∙◌, arith, inl, inr}
 use Rattle.std.specs.Prelude.{slice_get, nat_lt}
@@ -20,7 +20,7 @@ pub length-with_ordinal : (k : ℕ) (os : List (Option ℕ)) (ds : List ℕ) →
 length-with_ordinal k os [] = refl
 length-with_ordinal k os (d ∷ ds) = length-with_ordinal k (set os d (Some k)) ds ∙ length-set os d (Some k)
 
--- one block more was given it
+-- one more block got the ordinal
 pub with_block : (k : ℕ) (old new end : List (Option ℕ)) (ds : List ℕ) (block : ℕ) → new ≡ with_ordinal k old (take (block * 128) ds) →
     end ≡ with_ordinal k new (block_at ds block) → end ≡ with_ordinal k old (take ((block + 1) * 128) ds)
 with_block k old new end ds block so_far here =
@@ -28,7 +28,7 @@ with_block k old new end ds block so_far here =
     here ∙ ap (λ os. with_ordinal k os (block_at ds block)) so_far ∙ sym (fold-append give old (take (block * 128) ds) (block_at ds block))
     ∙ ap (with_ordinal k old) (sym (take_block ds block))
 
--- a document that was given it keeps it
+-- a document that got the ordinal has it
 kept : (k : ℕ) (os : List (Option ℕ)) (ds : List ℕ) (doc : ℕ) → doc < length os → get_or os doc None ≡ Some k → get_or (with_ordinal k os ds) doc None ≡ Some k
 kept k os [] doc within is = is
 kept k os (d ∷ ds) doc within is = kept k (set os d (Some k)) ds doc (omega (arith, within, length-set os d (Some k))) (elim (cases_order doc d) [
@@ -45,14 +45,14 @@ given k os (d ∷ ds) doc within (zero, less, is) =
 given k os (d ∷ ds) doc within (suc i, less, is) =
     given k (set os d (Some k)) ds doc (omega (arith, within, length-set os d (Some k))) (i, omega (arith, less), is)
 
--- others stay as they were
+-- the ordinals of other documents are unchanged
 other : (k : ℕ) (os : List (Option ℕ)) (ds : List ℕ) (doc : ℕ) → (Contains ds doc → ⊥) → get_or (with_ordinal k os ds) doc None ≡ get_or os doc None
 other k os [] doc absent = refl
 other k os (d ∷ ds) doc absent =
     other k (set os d (Some k)) ds doc (λ there. absent (suc there.0, omega (arith, there.1), there.2))
     ∙ get_or-set_other os d doc (Some k) None (λ same. absent (0, omega arith, sym same))
 
--- after the documents of one ordinal more were given theirs
+-- the ordinals after the documents of one more list got theirs
 module _ (column : List (Option ℕ)) (lists : List (List ℕ)) (k : ℕ) (keyed : AreKeyed column lists (λ k. k)) (inside : k < length lists) where
   absent : (doc : ℕ) (v : Option ℕ) → slice_get column doc ≡ Some v → (v ≡ Some k → ⊥) → Contains (get_or lists k []) doc → ⊥
   absent doc v at differs there = differs (let same : Some v ≡ Some (Some k) = sym at ∙ keyed.sound k doc inside there in cc)
@@ -105,13 +105,13 @@ keyed_within column lists k n keyed inside size = λ i d less.
     let there : Contains (get_or lists k []) doc = (i, less, get_or_default (get_or lists k []) i doc d less) in
     omega (arith, size, slice_get_within column doc (Some k) (keyed.sound k doc inside there))
 
--- none is given yet
+-- no document has an ordinal yet
 pub none_below : (column : List (Option ℕ)) → replicate (length column) None ≡ map (below 0) column
 none_below [] = refl
 none_below (None ∷ column) = ap (λ os. None ∷ os) (none_below column)
 none_below (Some o ∷ column) = ap (λ os. None ∷ os) (none_below column) ∙ ap (λ b. cond b (Some o) None ∷ map (below 0) column) (sym (le-ltb o 0 (omega arith)))
 
--- all are given
+-- all documents have their ordinals
 pub all_below : (column : List (Option ℕ)) (n : ℕ) → ((doc x : ℕ) → slice_get column doc ≡ Some (Some x) → x < n) → map (below n) column ≡ column
 all_below [] n few = refl
 all_below (None ∷ column) n few = ap (λ os. None ∷ os) (all_below column n (λ doc x at. few (suc doc) x at))

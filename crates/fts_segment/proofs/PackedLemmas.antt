@@ -1,4 +1,4 @@
--- Lists of positions as they are packed.
+-- Packed lists of positions.
 use Rattle.std.proofs.Common.{◌≡◌, ◌+◌, ◌-◌, ◌*◌, ◌/◌, ◌%◌, ◌^◌, ◌<◌, ◌≤◌, ℕ, suc, zero, List, [], ◌∷◌, ◌++◌, map, length, get_or, take, drop, sum, refl, sym}
 use Rattle.std.proofs.Common.{ap, ap₂, subst, ◌∙◌, arith, All, length-append, length-drop}
 use Rattle.std.specs.Prelude.{slice_range}
@@ -29,7 +29,7 @@ pub length-position_lists_at : (counts gs : List ℕ) → length (position_lists
 length-position_lists_at [] gs = refl
 length-position_lists_at (n ∷ ns) gs = ap suc (length-position_lists_at ns (drop n gs))
 
--- the list of this number
+-- the list at an index
 pub position_list_at : (counts gs : List ℕ) (k : ℕ) → k < length counts →
     get_or (position_lists_at counts gs) k [] ≡ documents_at 0 (take (get_or counts k 0) (drop (sum (take k counts)) gs))
 position_list_at [] gs k within = absurd (omega arith)
@@ -38,7 +38,7 @@ position_list_at (n ∷ ns) gs (suc k) within =
     position_list_at ns (drop n gs) k (omega arith)
     ∙ ap (λ xs. documents_at 0 (take (get_or ns k 0) xs)) (drop-drop (sum (take k ns)) n gs ∙ ap (λ m. drop m gs) (sym (sum-cons n (take k ns))))
 
--- lists behind others
+-- lists appended to others
 pub position_lists_at-append : (counts more gs others : List ℕ) → sum counts ≡ length gs → position_lists_at (counts ++ more) (gs ++ others)
     ≡ position_lists_at counts gs ++ position_lists_at more others
 position_lists_at-append [] more gs others whole =
@@ -49,7 +49,7 @@ position_lists_at-append (n ∷ ns) more gs others whole =
     ap₂ (λ xs ys. documents_at 0 xs ∷ position_lists_at (ns ++ more) ys) (take-append-le n gs others (omega arith)) (drop-append-le n gs others (omega arith))
     ∙ ap (λ rs. documents_at 0 (take n gs) ∷ rs) (position_lists_at-append ns more (drop n gs) others rest)
 
--- one list
+-- a single list
 position_list_alone : (list : List ℕ) → IsPositionList list → position_lists_at (length list ∷ []) (gaps 0 list) ≡ list ∷ []
 position_list_alone list is =
     ap (λ r. r ∷ []) (ap (documents_at 0) (take_all (length list) (gaps 0 list) (omega (arith, length-gaps 0 list))) ∙ documents_at-gaps 0 list is.rises)
@@ -59,7 +59,7 @@ pub position_lists_at-push : (counts gs list : List ℕ) → sum counts ≡ leng
 position_lists_at-push counts gs list whole is =
     position_lists_at-append counts (length list ∷ []) gs (gaps 0 list) whole ∙ ap (λ rs. position_lists_at counts gs ++ rs) (position_list_alone list is)
 
--- so is all that is logged
+-- the lists of two logs are those of the logs, appended
 pub AreLogged-append : (counts more gs others : List ℕ) → AreLogged counts gs → sum more ≡ length others → length (gs ++ others) < 2 ^ 64 →
     All (λ list. All (λ p. p < 2 ^ 32) list) (position_lists_at more others) →
     AreLogged (counts ++ more) (gs ++ others)
@@ -82,7 +82,7 @@ AreLogged-push counts gs list h is fit few =
     AreLogged-append counts (length list ∷ []) gs (gaps 0 list) h alone few
     (subst All_fit (sym (position_list_alone list is)) (All-cons Fit list [] fit (All-nil Fit)))
 
--- what is logged is packed, with where each 128 lists begin
+-- logged lists are packed, with the start of each 128th
 pub ArePacked-logged : (counts starts gs : List ℕ) → AreLogged counts gs → length starts ≡ block_count (length counts) →
     ((block : ℕ) → block < length starts → get_or starts block 0 ≡ sum (take (block * 128) counts)) → ArePacked counts starts gs
 ArePacked-logged counts starts gs h many are = record {
@@ -93,7 +93,7 @@ ArePacked-logged counts starts gs h many are = record {
   fit = h.fit;
 }
 
--- the lists from one on
+-- the lists from an index on
 drop-position_lists_at : (k : ℕ) (counts gs : List ℕ) → drop k (position_lists_at counts gs) ≡ position_lists_at (drop k counts) (drop (sum (take k counts)) gs)
 drop-position_lists_at zero counts gs = refl
 drop-position_lists_at (suc k) [] gs = refl
@@ -111,7 +111,7 @@ take-position_lists_at (suc k) (n ∷ ns) gs =
     ap₂ (λ xs rs. documents_at 0 xs ∷ rs) (sym first) (take-position_lists_at k ns (drop n gs) ∙ ap (position_lists_at (take k ns)) (sym (drop-take n more gs)))
     ∙ ap (λ m. documents_at 0 (take n (take m gs)) ∷ position_lists_at (take k ns) (drop n (take m gs))) (sym (sum-cons n (take k ns)))
 
--- the lists between two
+-- the lists between two indexes
 pub range-position_lists_at : (start end first many : ℕ) (counts gs : List ℕ) → first ≡ sum (take start counts) → many ≡ sum (slice_range counts start end) →
     position_lists_at (slice_range counts start end) (slice_range gs first (first + many)) ≡ slice_range (position_lists_at counts gs) start end
 range-position_lists_at start end first many counts gs is many_is =
@@ -121,7 +121,7 @@ range-position_lists_at start end first many counts gs is many_is =
     ∙ sym (ap (take (end - start)) (drop-position_lists_at start counts gs) ∙ take-position_lists_at (end - start) (drop start counts)
     (drop (sum (take start counts)) gs))
 
--- a list of this number is there
+-- a list is at each index
 pub position_list_within : (counts gs : List ℕ) (value : List (List ℕ)) (number : ℕ) → position_lists_at counts gs ≡ value → number < length value →
     number < length counts
 position_list_within counts gs value number view within = omega (arith, within, ap length view, length-position_lists_at counts gs)
@@ -142,7 +142,7 @@ lengths_are (n ∷ ns) gs whole =
     let rest : sum ns ≡ length (drop n gs) = omega (arith, length-drop n gs) in
     ap₂ (λ m ms. m ∷ ms) (length-documents_at 0 (take n gs) ∙ length-take-le n gs (omega (arith, all))) (lengths_are ns (drop n gs) rest)
 
--- what is known of a block that is unpacked: the start of its lists, and the counts of these
+-- an unpacked block: the start of its lists, and their counts
 pub record IsUnpacked (counts starts : List ℕ) (block many : ℕ) (out : List ℕ) : Type 0 where
   pub near : block < length starts
   pub few : many ≤ 128
@@ -174,7 +174,7 @@ unpacked counts starts gs block many out h inside many_is out_is =
       sums_are = sums;
     }
 
--- the sums of its counts are the bounds of its lists
+-- the running totals of its counts are the bounds of its lists
 pub bounds_are : (counts starts gs : List ℕ) (lists : List (List ℕ)) (block many : ℕ) (out bounds : List ℕ) → ArePacked counts starts gs →
     position_lists_at counts gs ≡ lists → IsUnpacked counts starts block many out →
     ((index : ℕ) → index ≤ length (take many out) → get_or bounds index 0 ≡ get_or starts block 0 + sum (take index (take many out))) →
@@ -185,7 +185,7 @@ bounds_are counts starts gs lists block many out bounds h view u are = λ index 
     are index (omega (arith, u.long)) ∙ u.sums_are index near
     ∙ ap (λ ns. sum (take (block * 128 + index) ns)) (sym (lengths_are counts gs h.whole) ∙ ap (map length) view)
 
--- a list lies between its bounds
+-- a list is between its bounds
 pub record LiesBetween (counts gs : List ℕ) (number start end : ℕ) : Type 0 where
   pub within : end ≤ length gs
   pub is : get_or (position_lists_at counts gs) number [] ≡ documents_at 0 (slice_range gs start end)
@@ -214,7 +214,7 @@ lies_between counts starts gs lists number bounds h view inside are =
       fit = subst Fit is (h.fit number [] (omega (arith, within, length-position_lists_at counts gs)));
     }
 
--- what comes next of the positions that are left
+-- the next gap of the positions that are left
 pub record ComesNext (gs : List ℕ) (at end next gap : ℕ) : Type 0 where
   pub is : documents_at next (slice_range gs at end) ≡ (next + gap) ∷ documents_at (next + gap + 1) (slice_range gs (at + 1) end)
   pub fits : next + gap < 2 ^ 32

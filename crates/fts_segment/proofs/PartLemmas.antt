@@ -1,4 +1,4 @@
--- Parts as terms are passed.
+-- Term streams as terms are taken.
 use Rattle.std.proofs.Common.{◌≡◌, ◌≢◌, ◌+◌, ◌<◌, ◌≤◌, inl, inr, ℕ, zero, suc, Bool, true, false, cond, List, [], ◌∷◌, ◌++◌, Option, Some, None, map, length}
 use Rattle.std.proofs.Common.{flat_map, sum_by, drop, get_or, refl, sym, ap, ap₂, subst, ◌∙◌, arith, Less, Equal, Greater}
 use Rattle.std.specs.Prelude.{slice_get}
@@ -17,7 +17,7 @@ use Rattle.fts_segment.specs.Postings.{Posting, postings_of}
 use Rattle.fts_segment.proofs.FindLemmas.{same_from_equal, turned}
 use Rattle.fts_segment.specs.Parts.{PartValue, IsWhole, part_from, postings_by, found, joined, moved, IsBelow, Ascend, IsSound, begins, passed, given}
 
--- names of which one is before the other are not one
+-- names of which one is before the other are different
 less_differs : (a b : List ℕ) → slice_cmp nat_cmp a b ≡ Less → bytes_eq b a ≡ false
 less_differs a b less = elim (bytes_eq b a) as (λ t. bytes_eq b a ≡ t → t ≡ false) [
   | true ↦ λ same.
@@ -30,18 +30,18 @@ IsBelow-trans : (a b : List ℕ) (names : List (List ℕ)) → slice_cmp nat_cmp
 IsBelow-trans a b [] less h = tt
 IsBelow-trans a b (n ∷ names) less h = (nat_list_cmp_total.trans a b n less h.0, IsBelow-trans a b names less h.1)
 
--- nothing is found of a term that is before all names
+-- no posting is found for a term that is before all names
 pub found-below : (term : List ℕ) (names : List (List ℕ)) (postings : List (List Posting)) → IsBelow term names → found names postings term ≡ []
 found-below term [] postings h = refl
 found-below term (n ∷ names) [] h = refl
 found-below term (n ∷ names) (l ∷ postings) h = ap (λ b. cond b l (found names postings term)) (less_differs term n h.0) ∙ found-below term names postings h.1
 
--- a term is not behind the next name of a part
+-- a term is not after the next name of a stream
 abbrev pub IsFrom : List ℕ → List (List ℕ) → Type 0
 IsFrom term [] = Unit {0}
 IsFrom term (name ∷ names) = slice_cmp nat_cmp name term ≢ Less
 
--- the next name is the term, or behind it
+-- the next name is the term, or after it
 next_name : (term name : List ℕ) → slice_cmp nat_cmp name term ≢ Less → bytes_eq name term ≡ false → slice_cmp nat_cmp term name ≡ Less
 next_name term name from differ =
     elim (slice_cmp nat_cmp name term) as (λ o. slice_cmp nat_cmp name term ≡ o → slice_cmp nat_cmp term name ≡ Less) [
@@ -52,7 +52,7 @@ next_name term name from differ =
       | Greater ↦ λ h. turned name term Greater h
     ] refl
 
--- a part behind a term has only names behind it
+-- after a term is taken, a stream has only later names
 pub below-passed : (term : List ℕ) (names : List (List ℕ)) (postings : List (List Posting)) (numbers : List (Option ℕ)) → Ascend names → IsFrom term names →
     IsBelow term (passed term (record { names = names; postings = postings; numbers = numbers })).names
 below-passed term [] postings numbers up from = tt
@@ -65,7 +65,7 @@ below-passed term (n ∷ names) postings numbers up from =
       | false ↦ λ differ. let less = next_name term n from differ in (less, IsBelow-trans term n names less up.0)
     ] refl
 
--- a part gives what is found in it
+-- a stream gives the postings that it has
 pub given-found : (term : List ℕ) (names : List (List ℕ)) (postings : List (List Posting)) (numbers : List (Option ℕ)) → Ascend names →
     length names ≡ length postings → IsFrom term names →
     moved numbers (found names postings term) ≡ given term (record { names = names; postings = postings; numbers = numbers })
@@ -77,12 +77,12 @@ given-found term (n ∷ names) (l ∷ postings) numbers up paired from =
       | false ↦ λ differ. ap (moved numbers) (found-below term names postings (IsBelow-trans term n names (next_name term n from differ) up.0))
     ] refl
 
--- and nothing of it is left
+-- nothing is left of a term after it is taken
 pub found-passed : (term : List ℕ) (p : PartValue) → IsSound p → IsFrom term p.names → found (passed term p).names (passed term p).postings term ≡ []
 found-passed term p sound from =
     found-below term (passed term p).names (passed term p).postings (below-passed term p.names p.postings p.numbers sound.ascend from)
 
--- other terms are left as they were
+-- the postings of other terms are unchanged
 pub found-other : (term other : List ℕ) (names : List (List ℕ)) (postings : List (List Posting)) (numbers : List (Option ℕ)) → length names ≡ length postings →
     bytes_eq term other ≡ false →
     let p : PartValue = record { names = names; postings = postings; numbers = numbers } in
@@ -101,7 +101,7 @@ found-other term other (n ∷ names) (l ∷ postings) numbers paired differ =
       | false ↦ λ apart. refl
     ] refl
 
--- parts behind a term are sound
+-- streams after a term are sound
 pub sound-passed : (term : List ℕ) (names : List (List ℕ)) (postings : List (List Posting)) (numbers : List (Option ℕ)) →
     IsSound (record { names = names; postings = postings; numbers = numbers }) →
     IsSound (passed term (record { names = names; postings = postings; numbers = numbers }))
@@ -115,7 +115,7 @@ sound-passed term (n ∷ names) (l ∷ postings) numbers s =
       | false ↦ s
     ]
 
--- what was below a part stays below it
+-- a name below a stream stays below it
 pub below-after : (name term : List ℕ) (names : List (List ℕ)) (postings : List (List Posting)) (numbers : List (Option ℕ)) → IsBelow name names →
     IsBelow name (passed term (record { names = names; postings = postings; numbers = numbers })).names
 below-after name term [] postings numbers h = tt
@@ -162,7 +162,7 @@ pub below-all-passed : (term : List ℕ) (ps : List PartValue) → AllByRecursio
 below-all-passed term [] sound from = tt
 below-all-passed term (p ∷ ps) sound from = (below-passed term p.names p.postings p.numbers sound.0.ascend from.0, below-all-passed term ps sound.1 from.1)
 
--- a term is the next one of a part
+-- a name below a stream is below its next term
 pub begins-below : (name term : List ℕ) (names : List (List ℕ)) → begins term names ≡ true → IsBelow name names → slice_cmp nat_cmp name term ≡ Less
 begins-below name term [] h below = absurd (let no : false ≡ true = h in cc)
 begins-below name term (n ∷ names) h below = ap (slice_cmp nat_cmp name) (sym ((bytes_eq-Decides n term).0 h)) ∙ below.0
@@ -178,7 +178,7 @@ below_at name (q ∷ ps) (suc i) p h e = below_at name ps i p h.1 e
 pub met-below : (name term : List ℕ) (ps : List PartValue) → IsMet term ps → IsBelowAll name ps → slice_cmp nat_cmp name term ≡ Less
 met-below name term ps met h = begins-below name term met.0.names met.3 (below_at name ps met.1 met.0 h met.2)
 
--- how many names are left
+-- the number of names that are left
 abbrev pub left : List PartValue → ℕ
 left ps = sum_by (λ p. length p.names) ps
 
@@ -255,14 +255,14 @@ postings_by-at (l ∷ lists) [] i e within = absurd (omega (arith, e))
 postings_by-at (l ∷ lists) (p ∷ positions) zero e within = refl
 postings_by-at (l ∷ lists) (p ∷ positions) (suc i) e within = postings_by-at lists positions i (omega (arith, e)) (omega (arith, within))
 
--- where it is, one is left
+-- a stream that begins with a term has a name left
 pub begins-within : (term : List ℕ) (names : List (List ℕ)) (at : ℕ) → begins term (drop at names) ≡ true → at < length names
 begins-within term names at h = elim (cases_lt at (length names)) [
   | inl within ↦ within
   | inr past ↦ absurd (let no : false ≡ true = sym (ap (begins term) (drop_all at names past)) ∙ h in cc)
 ]
 
--- what the part gives for its next name, and what is left behind it
+-- the postings that the stream gives for its next name, and the rest of the stream
 pub given-here : (term : List ℕ) (at : ℕ) (d : Dictionary) (numbers : List (Option ℕ)) → IsWhole d numbers → begins term (drop at d.names) ≡ true →
     given term (part_from at d numbers) ≡ moved numbers (postings_of (get_or d.lists.items at []) (get_or (term_position_lists d.positions) at []))
 given-here term at d numbers is h =

@@ -1,4 +1,4 @@
--- The positions of places, a list for each document.
+-- The positions of places, one list for each document.
 use Rattle.std.proofs.Common.{◌≡◌, ◌+◌, ◌<◌, ◌≤◌, ◌==◌, ℕ, suc, Bool, true, false, cond, List, [], ◌∷◌, ◌++◌, map, length, get_or, drop, refl, sym, ap, subst}
 use Rattle.std.proofs.Common.{◌∙◌, inl, inr, arith, All, append_assoc, append-nil, nat_lt}
 use Rattle.std.proofs.lemmas.Bool.{cases_Bool, eqb-true}
@@ -9,7 +9,7 @@ use Rattle.fts_segment.specs.declared.term_groups.DocPosition.{DocPosition}
 use Rattle.fts_segment.specs.Positions.{position_lists_from, position_lists_of}
 use Rattle.fts_segment.specs.PositionLists.{IsPositionList}
 
--- the next place
+-- one more place
 pub position_lists-step : (whole lists after : List (List ℕ)) (doc : ℕ) (list next : List ℕ) (places : List DocPosition) (i : ℕ) (d p : DocPosition) → i < length places →
     p ≡ get_or places i d →
     after ≡ lists ++ cond (p.doc == doc) [] (list ∷ []) → next ≡ cond (p.doc == doc) list [] ++ p.position ∷ [] →
@@ -28,7 +28,7 @@ position_lists-step whole lists after doc list next places i d p within here put
     ap (λ rs. rs ++ position_lists_from p.doc next ps) put ∙ ap (λ r. (lists ++ cond (p.doc == doc) [] (list ∷ [])) ++ position_lists_from p.doc r ps) grown
     ∙ step ∙ ap (λ xs. lists ++ position_lists_from doc list xs) (sym first) ∙ so_far
 
--- what is still to come are position lists
+-- the lists that are left are position lists
 pub ArePositionLists-step : (doc : ℕ) (list next : List ℕ) (places : List DocPosition) (i : ℕ) (d p : DocPosition) → i < length places → p ≡ get_or places i d →
     next ≡ cond (p.doc == doc) list [] ++ p.position ∷ [] →
     All IsPositionList (position_lists_from doc list (drop i places)) →
@@ -68,7 +68,7 @@ same_doc a = grind (arith, nat_tests)
 other_doc : (a b : ℕ) → a < b → (b == a) ≡ false
 other_doc a b h = grind (arith, nat_tests)
 
--- the list of a document, behind which come those of later ones
+-- the list of a document, followed by those of later ones
 pub position_list_whole : (doc : ℕ) (list ns : List ℕ) (places : List DocPosition) → All (λ p. doc < p.doc) places →
     position_lists_from doc list (map (place_at doc) ns ++ places) ≡ (list ++ ns) ∷ position_lists_of places
 position_list_whole doc list [] [] above = ap (λ r. r ∷ []) (sym (append-nil list))
@@ -81,7 +81,7 @@ position_list_whole doc list (n ∷ ns) places above =
     ap (λ b. cond b (position_lists_from doc (list ++ n ∷ []) rest) (list ∷ position_lists_from doc (n ∷ []) rest)) (same_doc doc)
     ∙ position_list_whole doc (list ++ n ∷ []) ns places above ∙ ap (λ r. r ∷ position_lists_of places) (append_assoc list (n ∷ []) ns)
 
--- the positions of a document, behind which come those of later ones
+-- the positions of a document, followed by those of later ones
 pub position_list_first : (doc : ℕ) (ns : List ℕ) (places : List DocPosition) → All (λ p. doc < p.doc) places → position_lists_of (map (place_at doc) ns ++ places)
     ≡ cond (nat_lt 0 (length ns)) (ns ∷ position_lists_of places) (position_lists_of places)
 position_list_first doc [] places above = refl

@@ -62,7 +62,7 @@ map_filter-cons : {X Y : Type 0} (f : X → Y) (p : X → Bool) (x : X) (xs : Li
 map_filter-cons f p x xs = elim (p x) as (λ b. map f (cond b (x ∷ filter p xs) (filter p xs)) ≡ cond b (f x ∷ map f (filter p xs)) (map f (filter p xs)))
     [ true ↦ refl | false ↦ refl ]
 
--- the position lists of a value, and of those behind it
+-- the position lists of a value, followed by those of later ones
 pub position_lists-cons : (q : List ℕ) (kind : Kind) (doc : ℕ) (v : Option FieldValue) (vs : List (Option FieldValue)) → let rest =
     position_lists_with q (occurrences kind (doc + 1) vs) in
     position_lists_with q (occurrences kind doc (v ∷ vs)) ≡ cond (list_any (is_token q) (tokens_of kind v)) (positions_among q (tokens_of kind v) ∷ rest) rest
@@ -86,7 +86,7 @@ position_lists_with-occurrences q kind doc (v ∷ vs) =
     ∙ ap (λ rs. cond (holds kind (values.Text q) v) (f v ∷ rs) rs) (position_lists_with-occurrences q kind (doc + 1) vs)
     ∙ sym (map_filter-cons f (holds kind (values.Text q)) v vs)
 
--- so they are position lists
+-- the position lists of occurrences are position lists
 pub ArePositionLists-occurrences : (q : List ℕ) (kind : Kind) (vs : List (Option FieldValue)) → All (HasFewTokens kind) vs →
     All IsPositionList (position_lists_with q (occurrences kind 0 vs))
 ArePositionLists-occurrences q kind vs few =
@@ -137,7 +137,7 @@ positions-kind segment term kind here =
     ap (λ k. value_position_lists k term.value (values_in term.field segment.documents)) (sym field.2) ∙ value_positions segment term term.value field.0 field.1
     refl
 
--- what stands at an index among the elements that pass a test
+-- an element at an index among those that pass a test
 pub kth : {X Y : Type 0} (p : X → Bool) (f : X → Y) (n : ℕ) (xs : List X) (k : ℕ) → k < length (numbers_where p n xs) →
     (x : X) × (i : ℕ) × (get_or (numbers_where p n xs) k 0 ≡ n + i) × (slice_get xs i ≡ Some x) × (slice_get (map f (filter p xs)) k ≡ Some (f x))
 kth p f n [] k within = absurd (omega arith)

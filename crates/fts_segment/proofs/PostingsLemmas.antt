@@ -1,4 +1,4 @@
--- The postings of a term, out of its documents and its positions in them.
+-- The postings of a term, from its documents and its positions in them.
 use Rattle.std.proofs.Common.{◌≡◌, ◌≢◌, ◌+◌, ◌<◌, ℕ, zero, suc, Bool, true, false, cond, List, [], ◌∷◌, Option, map, length, get_or, nat_eq, nat_lt, refl, sym}
 use Rattle.std.proofs.Common.{ap, ap₂, subst, ◌∙◌, ⊎_elim, arith, All, Contains}
 use Rattle.std.specs.List.{AllByRecursion, dedup, dedup_from, list_any}
@@ -43,7 +43,7 @@ docs-cons q kind doc v vs =
     docs_with-occurrences q kind doc (v ∷ vs) ∙ numbers_where-cons p doc v vs
     ∙ ap (λ ds. cond (p v) (doc ∷ ds) ds) (sym (docs_with-occurrences q kind (doc + 1) vs))
 
--- the postings of a value, and of those behind it
+-- the postings of a value, followed by those of later ones
 pub postings-cons : (q : List ℕ) (kind : Kind) (doc : ℕ) (v : Option FieldValue) (vs : List (Option FieldValue)) → let rest =
     postings_with q (occurrences kind (doc + 1) vs) in
     postings_with q (occurrences kind doc (v ∷ vs)) ≡ cond (list_any (is_token q) (tokens_of kind v))
@@ -71,7 +71,7 @@ paired-occurrences q kind doc (v ∷ vs) =
     ]
     ∙ sym (ap length (position_lists-cons q kind doc v vs))
 
--- the documents are among those that there are
+-- the documents of postings exist
 pub docs-within : (q : List ℕ) (kind : Kind) (doc n : ℕ) (vs : List (Option FieldValue)) → n ≡ doc + length vs →
     All (λ d. d < n) (docs_with q (occurrences kind doc vs))
 docs-within q kind doc n [] e = All-nil (λ d. d < n)
@@ -101,7 +101,7 @@ occurs-none q os paired empty = by (docs_of q os) refl
     by (d ∷ ds) is = absurd (dedup_from-some d ds (ap (dedup nat_eq) (sym is) ∙ sym (documents-postings_of (docs_with q os) (position_lists_with q os) paired)
         ∙ ap documents empty))
 
--- and one that doesn't occur has none
+-- a term that does not occur has no posting
 postings-none : (q : List ℕ) (os : List OccurrenceValue) → (occurs os q ≡ true → ⊥) → postings_with q os ≡ []
 postings-none q os never = by (docs_of q os) refl
   where
@@ -127,7 +127,7 @@ pub postings_by-dictionary : (os : List OccurrenceValue) (names lists : List (Li
     postings_by lists positions ≡ map (λ q. postings_with q os) names
 postings_by-dictionary os names lists positions d = ap₂ postings_by d.listed d.positioned ∙ postings_by-map os names
 
--- what is found of a term in what a function gives for the names
+-- the postings found for a term among images of names are its image
 found-map : (f : List ℕ → List Posting) (names : List (List ℕ)) (q : List ℕ) → ((Contains names q → ⊥) → f q ≡ []) → found names (map f names) q ≡ f q
 found-map f [] q absent = sym (absent (none q))
 found-map f (n ∷ names) q gone = elim (bytes_eq n q) as (λ b. bytes_eq n q ≡ b → cond b (f n) (found names (map f names) q) ≡ f q) [
@@ -185,7 +185,7 @@ all-occur os parts [] same some = All-nil (λ q. occurs os q ≡ true)
 all-occur os parts (q ∷ names) same some =
     All-cons (λ q. occurs os q ≡ true) q names (occurs-some q os (λ empty. some.0 (same q ∙ empty))) (all-occur os parts names same some.1)
 
--- what was joined is the dictionary of occurrences where the parts have these
+-- a merged dictionary is that of occurrences, if the streams have their postings
 pub dictionary-joined : (kind : Kind) (vs : List (Option FieldValue)) (parts : List PartValue) (names lists : List (List ℕ))
     (positions : List (List (List ℕ))) →
     ((q : List ℕ) → joined parts q ≡ postings_with q (occurrences kind 0 vs)) → IsJoined parts names lists positions →

@@ -1,4 +1,4 @@
--- Postings that are put after others, some after the other.
+-- Postings that are appended in several steps.
 use Rattle.std.proofs.Common.{◌≡◌, ◌++◌, ℕ, List, [], append-nil, map, sym, ap, subst, ◌∙◌}
 use Rattle.std.proofs.lemmas.List.{append_assoc, map-append}
 use Rattle.fts_segment.specs.declared.position_lists.PositionListLog.{PositionListLog}
@@ -6,11 +6,11 @@ use Rattle.fts_segment.specs.PositionListLogs.{IsPositionListLog, logged_positio
 use Rattle.fts_segment.specs.Postings.{Posting}
 use Rattle.fts_segment.specs.Puts.{Puts}
 
--- before any is put
+-- no posting is appended yet
 pub puts-none : {docs : List ℕ} {log : PositionListLog} → IsPositionListLog log → Puts [] docs log docs log
 puts-none {docs} {log} is = record { is = is; documents_are = sym (append-nil docs); positions_are = sym (append-nil (logged_position_lists log)) }
 
--- the same postings, by another name
+-- equal postings are appended
 pub puts-as : {some other : List Posting} {docs new_docs : List ℕ} {log new_log : PositionListLog} → other ≡ some → Puts some docs log new_docs new_log →
     Puts other docs log new_docs new_log
 puts-as {some} {other} {docs} {new_docs} {log} {new_log} same h =
@@ -22,7 +22,7 @@ appended f some more all before out new is so_far put =
     put ∙ ap (λ zs. zs ++ map f more) so_far ∙ append_assoc before (map f some) (map f more)
     ∙ ap (λ zs. before ++ zs) (sym (map-append f some more) ∙ ap (map f) (sym is))
 
--- more behind some
+-- more postings are appended after some
 pub puts-more : {some more all : List Posting} {docs mid_docs new_docs : List ℕ} {log mid_log new_log : PositionListLog} → all ≡ some ++ more →
     Puts some docs log mid_docs mid_log → Puts more mid_docs mid_log new_docs new_log → Puts all docs log new_docs new_log
 puts-more {some} {more} {all} {docs} {mid_docs} {new_docs} {log} {mid_log} {new_log} is first second = record {

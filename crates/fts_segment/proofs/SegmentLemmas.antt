@@ -1,4 +1,4 @@
--- What is looked up in the index of a segment.
+-- Look-ups in the index of a segment.
 use Rattle.std.proofs.Common.{◌≡◌, ◌<◌, ℕ, true, false, cond, List, [], ◌∷◌, Some, length, get_or, sym, ap, ◌∙◌, inl, inr, arith, nat_eq}
 use Rattle.std.specs.Prelude.{slice_get}
 use Rattle.std.specs.List.{dedup, dedup_from}
@@ -31,7 +31,7 @@ found_list {os} {names} {lists} {positions} k q index found =
       some_left (docs_of q os) (ltb-true 0 (length (docs_of q os)) (sym (ap (occurs os) here) ∙ index.occur k [] within)),
     )
 
--- what is not in the dictionary doesn't occur
+-- a term that is not in the dictionary doesn't occur
 pub absent_list : {os : List OccurrenceValue} {names lists : List (List ℕ)} {positions : List (List (List ℕ))} (q : List ℕ) →
     IsDictionaryOf os names lists positions → ((k : ℕ) → slice_get names k ≡ Some q → ⊥) → docs_with q os ≡ []
 absent_list {os} {names} {lists} {positions} q index absent = elim (cases_Bool (occurs os q)) [
@@ -40,7 +40,7 @@ absent_list {os} {names} {lists} {positions} q index absent = elim (cases_Bool (
       none))
 ]
 
--- and its positions
+-- a term of the dictionary has its positions
 pub found_position_lists : {os : List OccurrenceValue} {names lists : List (List ℕ)} {positions : List (List (List ℕ))} (k : ℕ) (q : List ℕ) →
     IsDictionaryOf os names lists positions → slice_get names k ≡ Some q →
     get_or positions k [] ≡ position_lists_with q os

@@ -1,4 +1,4 @@
--- What the live documents of sources have, source by source.
+-- The live documents of sources, source by source.
 use Rattle.std.proofs.Common.{◌≡◌, ◌+◌, ◌<◌, ◌≤◌, ℕ, zero, suc, Bool, true, false, cond, List, [], ◌∷◌, ◌++◌, Option, Some, None, map, length, drop, get_or}
 use Rattle.std.proofs.Common.{count_by, replicate, refl, sym, ap, ap₂, subst, ◌∙◌, arith, All, append_assoc}
 use Rattle.std.specs.Prelude.{slice_get}
@@ -37,7 +37,7 @@ length-where_set (x ∷ xs) [] e = absurd (omega (arith, e))
 length-where_set (x ∷ xs) (true ∷ bits) e = omega (arith, length-where_set xs bits (omega (arith, e)), sum_by-cons (λ (bit : Bool). cond bit 1 0) true bits)
 length-where_set (x ∷ xs) (false ∷ bits) e = omega (arith, length-where_set xs bits (omega (arith, e)), sum_by-cons (λ (bit : Bool). cond bit 1 0) false bits)
 
--- what the live members have
+-- the images of the live members
 where_set-map : {X Y : Type 0} (f : X → Y) (xs : List X) (bits : List Bool) → map f (where_set xs bits) ≡ where_set (map f xs) bits
 where_set-map f [] bits = refl
 where_set-map f (x ∷ xs) [] = refl
@@ -59,7 +59,7 @@ All-contents P (s ∷ ss) h =
     All-append P (content_of s.segment s.live) (contents ss) (All-where_set P s.segment.documents s.live (All-head Q s ss h))
     (All-contents P ss (All-tail Q s ss h))
 
--- the values of a field in documents behind others
+-- the values of a field in concatenated lists of documents
 values_in-append : (field : ℕ) (xs ys : List (Stamped DocumentValue)) → values_in field (xs ++ ys) ≡ values_in field xs ++ values_in field ys
 values_in-append field xs ys = map-append (λ (d : Stamped DocumentValue). value_in_field d.value field) xs ys
 
@@ -81,13 +81,13 @@ pub get_behind : {X : Type 0} (xs : List X) (y : X) (ys : List X) → slice_get 
 get_behind [] y ys = refl
 get_behind (x ∷ xs) y ys = get_behind xs y ys
 
--- postings of which the first may be there
+-- postings whose first is optional
 moved-cond : (numbers : List (Option ℕ)) (b : Bool) (p : Posting) (ps : List Posting) →
     moved numbers (cond b (p ∷ ps) ps) ≡ cond b (placed (slice_get numbers p.doc) p ++ moved numbers ps) (moved numbers ps)
 moved-cond numbers true p ps = refl
 moved-cond numbers false p ps = refl
 
--- one value more
+-- one more value
 moved-step : (q : List ℕ) (kind : Kind) (ns : List (Option ℕ)) (m : Option ℕ) (ms : List (Option ℕ)) (v : Option FieldValue) (vs : List (Option FieldValue))
     (rest : List Posting) →
     moved ((ns ++ m ∷ []) ++ ms) (postings_with q (occurrences kind (length (ns ++ m ∷ [])) vs)) ≡ rest →
@@ -118,7 +118,7 @@ postings-live q kind ns next (v ∷ vs) (false ∷ bits) e =
     moved-step q kind ns None (renumbered next bits) v vs rest (postings-live q kind (ns ++ None ∷ []) next vs bits (omega (arith, e)))
     ∙ elim (list_any (is_token q) (tokens_of kind v)) as (λ b. cond b rest rest ≡ rest) [ true ↦ refl | false ↦ refl ]
 
--- the postings in values behind others
+-- the postings in concatenated lists of values
 postings-append : (q : List ℕ) (kind : Kind) (doc : ℕ) (xs ys : List (Option FieldValue)) →
     postings_with q (occurrences kind doc (xs ++ ys)) ≡ postings_with q (occurrences kind doc xs) ++ postings_with q (occurrences kind (doc + length xs) ys)
 postings-append q kind doc [] ys = ap (λ n. postings_with q (occurrences kind n ys)) (let same : doc ≡ doc + 0 = omega arith in same)
@@ -133,7 +133,7 @@ postings-append q kind doc (x ∷ xs) ys =
     ∙ elim b as (λ b. cond b (here ∷ (some ++ others)) (some ++ others) ≡ cond b (here ∷ some) some ++ others) [ true ↦ refl | false ↦ refl ]
     ∙ ap (λ ps. ps ++ others) (sym (postings-cons q kind doc x xs))
 
--- the part of a source
+-- the term stream of a source
 pub part-is : (kind : Kind) (field next : ℕ) (source : SourceValue) (dictionary : Dictionary) (numbers : List (Option ℕ)) →
     AreTerms kind (values_in field source.segment.documents) dictionary →
     numbers ≡ renumbered next source.live → IsPart kind field next source (part_from 0 dictionary numbers)
@@ -164,7 +164,7 @@ terms-whole kind vs dictionary numbers terms count =
           subst P (sym (list i within)) (docs-within (get_or names i []) kind 0 (length numbers) vs (omega (arith, count)));
     }
 
--- how many live documents a source has
+-- the number of live documents of a source
 abbrev pub live_in : SourceValue → ℕ
 live_in source = count_by (λ bit. bit) source.live
 
@@ -175,7 +175,7 @@ pub live_count-push : (ss : List SourceValue) (s : SourceValue) → live_count (
 live_count-push [] s = omega (arith, live_count-cons s [])
 live_count-push (t ∷ ss) s = omega (arith, live_count-cons t (ss ++ s ∷ []), live_count-push ss s, live_count-cons t ss)
 
--- one part more
+-- one more stream
 pub AreParts-push : (kind : Kind) (field next : ℕ) (ss : List SourceValue) (ps : List PartValue) (s : SourceValue) (p : PartValue) →
     AreParts kind field next ss ps → IsPart kind field (next + live_count ss) s p →
     AreParts kind field next (ss ++ s ∷ []) (ps ++ p ∷ [])
@@ -191,7 +191,7 @@ AreParts-push kind field next (t ∷ ss) (q ∷ ps) s p are is =
           (subst P (let same : next + live_count (t ∷ ss) ≡ next + live_in t + live_count ss = omega (arith, live_count-cons t ss) in same) is),
     )
 
--- the postings that parts have are those in the live documents of the sources
+-- the postings of streams are those in the live documents of the sources
 parts-joined : (q : List ℕ) (kind : Kind) (field next : ℕ) (ss : List SourceValue) (ps : List PartValue) → All HasBits ss → AreParts kind field next ss ps →
     joined ps q ≡ postings_with q (occurrences kind next (values_in field (contents ss)))
 parts-joined q kind field next [] [] bits are = refl
@@ -228,7 +228,7 @@ parts-rise kind field ss ps bits are q =
     subst P (sym (ap documents (parts-joined q kind field 0 ss ps bits are) ∙ documents-postings_of (docs_with q os) (position_lists_with q os)
     (paired-occurrences q kind 0 vs))) (docs_with-rise q kind 0 vs)
 
--- the dictionary that parts make is that of the live documents
+-- the merged dictionary of streams is that of the live documents
 pub terms-joined : (kind : Kind) (field : ℕ) (ss : List SourceValue) (ps : List PartValue) (dictionary : Dictionary) → holds_numbers kind ≡ false →
     All HasBits ss → AreParts kind field 0 ss ps →
     All (λ s. All (HasFewTokens kind) (values_in field s.segment.documents)) ss →
@@ -241,7 +241,7 @@ terms-joined kind field ss ps dictionary kind_is bits are few j = record {
       (λ q. parts-joined q kind field 0 ss ps bits are) j;
 }
 
--- one document more is taken, if it is live
+-- one more document is taken, if it is live
 pub taken-step : {X : Type 0} (xs : List X) (live : List Bool) (n : ℕ) (x : X) (bit : Bool) (taken new all : List X) → slice_get xs n ≡ Some x →
     slice_get live n ≡ Some bit →
     new ≡ taken ++ cond bit (x ∷ []) [] → taken ++ where_set (drop n xs) (drop n live) ≡ all → new ++ where_set (drop (n + 1) xs) (drop (n + 1) live) ≡ all
@@ -252,22 +252,22 @@ taken-step xs live n x bit taken new all at is put h =
     [ true ↦ refl | false ↦ refl ])
     ∙ ap (λ ys. taken ++ ys) (sym (ap₂ where_set (dropped_at xs n x at) (dropped_at live n bit is))) ∙ h
 
--- at the end all live ones are taken
+-- all live documents are taken at the end
 pub taken-end : {X : Type 0} (xs : List X) (live : List Bool) (n : ℕ) (taken all : List X) → length xs ≤ n →
     taken ++ where_set (drop n xs) (drop n live) ≡ all → taken ≡ all
 taken-end xs live n taken all past h = sym (append-nil taken) ∙ ap (λ ys. taken ++ where_set ys (drop n live)) (sym (drop_all n xs past)) ∙ h
 
--- there is a member at each place
+-- there is a member at each index
 pub member_at : {X : Type 0} (xs : List X) (i : ℕ) → i < length xs → (x : X) × (slice_get xs i ≡ Some x)
 member_at [] i h = absurd (omega (arith, h))
 member_at (x ∷ xs) zero h = (x, refl)
 member_at (x ∷ xs) (suc i) h = member_at xs i (omega (arith, h))
 
--- what is left of a list, the first apart
+-- the rest of a list, with the first split off
 pub dropped : {X : Type 0} (xs : List X) (i : ℕ) (x : X) → i < length xs → x ≡ get_or xs i x → drop i xs ≡ x ∷ drop (i + 1) xs
 dropped xs i x h e = drop_more xs i x h ∙ ap (λ y. y ∷ drop (i + 1) xs) (sym e)
 
--- one source more is taken
+-- the documents of one more source are taken
 pub contents-taken : (documents before : List (Stamped DocumentValue)) (ss : List SourceValue) (i : ℕ) (s : SourceValue) (all : List (Stamped DocumentValue)) →
     i < length ss → s ≡ get_or ss i s →
     documents ≡ before ++ content_of s.segment s.live → before ++ contents (drop i ss) ≡ all → documents ++ contents (drop (i + 1) ss) ≡ all
@@ -306,7 +306,7 @@ fit-contents schema (s ∷ ss) same h =
     All-append P (content_of s.segment s.live) (contents ss) (All-where_set P s.segment.documents s.live here)
     (fit-contents schema ss (All-tail R s ss same) (All-tail Q s ss h))
 
--- all of them where all bits are set
+-- all members are live if all bits are set
 where_set-all : {X : Type 0} (xs : List X) → where_set xs (replicate (length xs) true) ≡ xs
 where_set-all [] = refl
 where_set-all (x ∷ xs) = ap (λ ys. x ∷ ys) (where_set-all xs)
@@ -315,7 +315,7 @@ all_set : (n : ℕ) → count_by (λ bit. bit) (replicate n true) ≡ n
 all_set zero = refl
 all_set (suc n) = omega (arith, all_set n, sum_by-cons (λ (bit : Bool). cond bit 1 0) true (replicate n true))
 
--- the segment of sources that were joined before, as a source
+-- the segment of sources that were joined, as a source
 abbrev pub joined_source : List SourceValue → SourceValue
 joined_source ss = record { segment = joined_segment ss; live = replicate (length (contents ss)) true }
 
@@ -326,7 +326,7 @@ pub same_both : (s t : SourceValue) (first second : SegmentValue) (first_live se
 same_both s t first second first_live second_live first_is first_bits second_is second_bits =
     ap₂ (λ a b. both a b second second_live) first_is first_bits ∙ ap₂ (λ a b. both s.segment s.live a b) second_is second_bits
 
--- sources that are joined in turn
+-- joining a source with the joined others is joining all
 pub joined_in_turn : (s : SourceValue) (ss : List SourceValue) → joined_segment (s ∷ joined_source ss ∷ []) ≡ joined_segment (s ∷ ss)
 joined_in_turn s ss =
     let all : contents (joined_source ss ∷ []) ≡ contents ss = append-nil (where_set (contents ss) (replicate (length (contents ss)) true))
@@ -345,7 +345,7 @@ few_in_turn s ss =
       length-contents ss,
     )
 
--- the others have the same schema as the first
+-- the other sources have the schema of the first
 pub schemas_behind : (s : SourceValue) (ss : List SourceValue) → 0 < length ss → AreOfOneSchema (s ∷ ss) → AreOfOneSchema ss × (schema_of ss ≡ s.segment.schema)
 schemas_behind s [] some h = absurd (omega (arith, some))
 schemas_behind s (t ∷ ss) some h =
@@ -359,7 +359,7 @@ schemas_in_turn s ss some h =
     let Same : SourceValue → Type 0 = λ u. u.segment.schema ≡ s.segment.schema in
     All-cons Same s (joined_source ss ∷ []) refl (All-cons Same (joined_source ss) [] (schemas_behind s ss some h).1 (All-nil Same))
 
--- a part of some sources of one schema
+-- a source has a schema
 abbrev pub SameSchema : List Field → SourceValue → Type 0
 SameSchema schema source = source.segment.schema ≡ schema
 
@@ -370,7 +370,7 @@ schema_of_part schema (s ∷ ss) some h = All-head (SameSchema schema) s ss h
 pub schemas_of_part : (schema : List Field) (part : List SourceValue) → 0 < length part → All (SameSchema schema) part → AreOfOneSchema part
 schemas_of_part schema part some h = subst (λ fields. All (SameSchema fields) part) (sym (schema_of_part schema part some h)) h
 
--- sources of which each half is joined before
+-- joining two halves that were joined is joining all
 pub joined_halves : (front back : List SourceValue) → 0 < length front →
     joined_segment (joined_source front ∷ joined_source back ∷ []) ≡ joined_segment (front ++ back)
 joined_halves [] back some = absurd (omega (arith, some))

@@ -1,4 +1,4 @@
--- A segment as it is kept.
+-- A segment as it is stored.
 use Rattle.std.proofs.Common.{◌≡◌, sym, ap, subst, ◌∙◌}
 use Rattle.std.specs.Arc.{arc_value}
 use Rattle.fts_segment.specs.declared.segment.Segment.TheInside.{Inside}
@@ -7,7 +7,7 @@ use Rattle.fts_segment.specs.Segments.{SegmentValue, AllFit, AreDocuments}
 use Rattle.fts_segment.specs.FieldIndexes.{AreIndexes}
 use Rattle.fts_segment.specs.SegmentData.{stored_value, IsStored}
 
--- what is kept of a segment of this value
+-- the data of a segment with this value
 pub record Keeps (value : SegmentValue) (stored : SegmentData) : Type 0 where
   pub value_is : record { schema = stored.schema; documents = stored.documents.items } ≡ value
   pub indexes_are : AreIndexes stored.schema stored.documents.items stored.indexes.items

@@ -1,8 +1,8 @@
--- How many numbers there are in the first of some lists.
+-- The running totals of the lengths of lists.
 use Rattle.std.proofs.Common.{◌≡◌, ◌+◌, ◌<◌, ◌≤◌, ℕ, zero, suc, List, [], ◌∷◌, ◌++◌, length, get_or, take, refl, ap, ◌∙◌, arith}
 use Rattle.fts_segment.specs.Sums.{sums_from, total}
 
--- one list more
+-- the total with one more list
 pub total-push : (lists : List (List ℕ)) (xs : List ℕ) → total (lists ++ xs ∷ []) ≡ total lists + length xs
 total-push [] xs = omega arith
 total-push (ys ∷ lists) xs = omega (arith, total-push lists xs)
@@ -33,7 +33,7 @@ total-next [] k less = absurd (omega (arith, less))
 total-next (xs ∷ lists) zero less = omega arith
 total-next (xs ∷ lists) (suc k) less = omega (arith, total-next lists k (omega (arith, less)))
 
--- the sum before a list
+-- the running total before a list
 pub sums-at : (before : ℕ) (lists : List (List ℕ)) (k : ℕ) → k ≤ length lists → get_or (sums_from before lists) k 0 ≡ before + total (take k lists)
 sums-at before [] zero le = omega arith
 sums-at before [] (suc k) le = absurd (omega (arith, le))
@@ -44,10 +44,10 @@ pub sums-count : (before : ℕ) (lists : List (List ℕ)) → length (sums_from 
 sums-count before [] = refl
 sums-count before (xs ∷ lists) = ap suc (sums-count (before + length xs) lists)
 
--- there is a sum before each list and behind the last
+-- there is a running total before each list and after the last
 pub sums-inside : (lists : List (List ℕ)) (sums : List ℕ) (k : ℕ) → sums ≡ sums_from 0 lists → k ≤ length lists → k < length sums
 sums-inside lists sums k is le = omega (arith, le, ap length is, sums-count 0 lists)
 
--- what is read there
+-- the running total that is read at an index
 pub sums-read : (lists : List (List ℕ)) (sums : List ℕ) (k : ℕ) → sums ≡ sums_from 0 lists → k ≤ length lists → get_or sums k 0 ≡ total (take k lists)
 sums-read lists sums k is le = omega (arith, ap (λ (ns : List ℕ). get_or ns k 0) is, sums-at 0 lists k le)

@@ -1,4 +1,4 @@
--- The occurrences of a log, as more terms take numbers, and as terms are numbered anew.
+-- The occurrences of a log, as terms get ids, and as they get new ones.
 use Rattle.std.proofs.Common.{◌≡◌, ℕ, suc, ◌<◌, List, [], ◌∷◌, ◌++◌, Some, map, length, get_or, refl, ◌∙◌, ap, ap₂, arith, length-append}
 use Rattle.std.specs.Prelude.{slice_get}
 use Rattle.std.proofs.lemmas.List.{map-append, get_or_append_left}
@@ -8,7 +8,7 @@ use Rattle.fts_segment.specs.declared.term_log.Occurrence.{Occurrence}
 use Rattle.fts_segment.specs.Occurrences.{OccurrenceValue}
 use Rattle.fts_segment.specs.TermLogs.{occurrence_value, occurrence_values, AreNamed, by_ordinal}
 
--- the same with the bytes of its term
+-- an occurrence with the bytes of its term
 at_occurrence : Occurrence → List ℕ → OccurrenceValue
 at_occurrence e t = record { term = t; doc = e.doc; position = e.position }
 
@@ -25,7 +25,7 @@ occurrence_values-more names more (e ∷ es) named =
 pub AreNamed-more : (names more : List (List ℕ)) (es : List Occurrence) → AreNamed names es → AreNamed (names ++ more) es
 AreNamed-more names more es named k d h = omega (arith, named k d h, length-append names more)
 
--- an occurrence more at the end
+-- one more occurrence
 pub occurrence_values-push : (names : List (List ℕ)) (es : List Occurrence) (e : Occurrence) (term : List ℕ) → slice_get names e.term ≡ Some term →
     occurrence_values names (es ++ e ∷ []) ≡ occurrence_values names es ++ record { term = term; doc = e.doc; position = e.position } ∷ []
 unfolding at_occurrence
@@ -33,7 +33,7 @@ occurrence_values-push names es e term known =
     map-append (occurrence_value names) es (e ∷ []) ∙ ap (λ (t : List ℕ). occurrence_values names es ++ at_occurrence e t ∷ [])
     (get_or_from_slice_get names e.term term [] known)
 
--- each number has a place at which its name stands among others
+-- each id has an index at which its name is among others
 abbrev pub Stand : List (List ℕ) → List (List ℕ) → List ℕ → Type 0
 Stand names others ordinals = (n : ℕ) → n < length names → slice_get others (get_or ordinals n 0) ≡ slice_get names n
 
@@ -41,7 +41,7 @@ stands : (names others : List (List ℕ)) (ordinals : List ℕ) (n : ℕ) → St
     slice_get others (get_or ordinals n 0) ≡ Some (get_or names n [])
 stands names others ordinals n stand within = stand n within ∙ slice_get-get_or names n [] within
 
--- by these places the occurrences are the same
+-- the occurrences are unchanged if each id is replaced by such an index
 pub occurrence_values-by_ordinal : (names others : List (List ℕ)) (ordinals : List ℕ) (es : List Occurrence) → Stand names others ordinals → AreNamed names es →
     occurrence_values others (map (by_ordinal ordinals) es) ≡ occurrence_values names es
 unfolding at_occurrence

@@ -1,4 +1,4 @@
--- Sorted names, each once.
+-- Sorted names without duplicates.
 use Rattle.std.proofs.Common.{◌≡◌, ◌≢◌, ◌+◌, ◌<◌, ◌≤◌, ℕ, zero, suc, true, false, cond, List, [], ◌∷◌, ◌++◌, Some, map, length, get_or, set, take, refl, sym}
 use Rattle.std.proofs.Common.{ap, ap₂, subst, ◌∙◌, inl, inr, arith, All, Bor, bytes_eq, length-set, length-append, Ordering, Less, Equal, Greater}
 use Rattle.std.specs.Prelude.{slice_get}
@@ -20,7 +20,7 @@ use Rattle.fts_segment.proofs.FindLemmas.{same_from_equal, turned}
 use Rattle.fts_segment.proofs.TermLogsLemmas.{Stand}
 use Rattle.fts_segment.proofs.TermsLemmas.{slice_get_append, slice_get_last}
 
--- a name with its number, as it is sorted
+-- a name with its id, as it is sorted
 abbrev pub Numbered : Type 0
 Numbered = Bor (List ℕ) × ℕ
 
@@ -30,14 +30,14 @@ shown e = (e.1, e.0.now)
 abbrev pub name_of : Numbered → List ℕ
 name_of e = e.0.now
 
--- names with their numbers by name, equal names by number
+-- names with their ids are ordered by name, and equal names by id
 abbrev pub numbered_cmp : Numbered → Numbered → Ordering
 numbered_cmp x y = ordering_then (slice_cmp nat_cmp x.0.now y.0.now) (nat_cmp x.1 y.1)
 
 numbered_total : IsTotalOrder numbered_cmp
 numbered_total = then_total (on_total name_of nat_list_cmp_total) (on_total (λ (e : Numbered). e.1) nat_cmp_total)
 
--- the loop that gives each name its number
+-- the loop that gives each name its id
 pub shown-push : (names : List (List ℕ)) (es : List Numbered) (e : Numbered) (n : ℕ) → n < length names → e.1 ≡ n → e.0.now ≡ get_or names n [] →
     map shown es ≡ take n (enumerate_from 0 names) → map shown (es ++ e ∷ []) ≡ take (n + 1) (enumerate_from 0 names)
 shown-push names es e n within number name so_far =
@@ -64,7 +64,7 @@ pub IsInOrder-sorted : (es : List Numbered) → IsSortedBy (λ x y. is_lt (numbe
 IsInOrder-sorted [] up i j lower within = absurd (omega arith)
 IsInOrder-sorted (e ∷ es) up i j lower within = in_order_at (e ∷ es) e up i j lower (rw (length-map (e ∷ es) name_of) at within)
 
--- each of the sorted names has its number
+-- each of the sorted names has its id
 right_numbers : (names : List (List ℕ)) (numbered : List (ℕ × List ℕ)) → IsPermutation (enumerate_from 0 names) numbered →
     All (λ p. slice_get names p.0 ≡ Some p.1) numbered
 right_numbers names numbered moved =
@@ -87,7 +87,7 @@ last_is (n ∷ []) name (suc k) e h = absurd (omega (arith, e))
 last_is (n ∷ m ∷ names) name zero e h = absurd (omega (arith, e))
 last_is (n ∷ m ∷ names) name (suc k) e h = last_is (m ∷ names) name k (omega (arith, e)) h
 
--- names end with one where their last is it
+-- names end with a name exactly if their last is it
 pub ends_at : (names : List (List ℕ)) (q name : List ℕ) (k : ℕ) → suc k ≡ length names → slice_get names k ≡ Some q → ends_with names name ≡ bytes_eq q name
 ends_at [] q name k e h = absurd (omega (arith, e))
 ends_at (n ∷ []) q name zero e h = ap (λ x. bytes_eq x name) (let same : n ≡ q = cc in same)
@@ -111,7 +111,7 @@ last_before (n ∷ []) name (suc k) e h from = absurd (omega (arith, e))
 last_before (n ∷ m ∷ names) name zero e h from = absurd (omega (arith, e))
 last_before (n ∷ m ∷ names) name (suc k) e h from = last_before (m ∷ names) name k (omega (arith, e)) h from
 
--- a name put behind others is the last of them
+-- a name that was appended is the last
 pub last_with : (names : List (List ℕ)) (name : List ℕ) (k : ℕ) → suc k ≡ length (with_name names name) → slice_get (with_name names name) k ≡ Some name
 last_with names name k e =
     elim (ends_with names name) as (λ b. ends_with names name ≡ b → suc k ≡ length (cond b names (names ++ name ∷ [])) →
@@ -122,7 +122,7 @@ last_with names name k e =
           ap (slice_get (names ++ name ∷ [])) at ∙ slice_get_last names name
     ] refl e
 
--- so there is one
+-- names with one more are not empty
 pub some_with : (names : List (List ℕ)) (name : List ℕ) → 0 < length (with_name names name)
 some_with [] name = omega arith
 some_with (n ∷ names) name = elim (ends_with (n ∷ names) name) as (λ b. 0 < length (cond b (n ∷ names) ((n ∷ names) ++ name ∷ []))) [
@@ -130,7 +130,7 @@ some_with (n ∷ names) name = elim (ends_with (n ∷ names) name) as (λ b. 0 <
   | false ↦ omega arith
 ]
 
--- and the others stay
+-- an appended name leaves the others in place
 keeps_with : (names : List (List ℕ)) (name : List ℕ) (k : ℕ) (q : List ℕ) → slice_get names k ≡ Some q → slice_get (with_name names name) k ≡ Some q
 keeps_with names name k q h = elim (ends_with names name) as (λ b. slice_get (cond b names (names ++ name ∷ [])) k ≡ Some q) [
   | true ↦ h
@@ -141,7 +141,7 @@ pushed_last : (names : List (List ℕ)) (name : List ℕ) (k : ℕ) → k ≡ le
 pushed_last names name k at = ap (λ n. get_or (names ++ name ∷ []) n []) at ∙ get_or_from_slice_get (names ++ name ∷ []) (length names) name []
     (slice_get_last names name)
 
--- names go on to ascend by one that is behind them all
+-- ascending names ascend with one more that is after them all
 Ascends-push : (names : List (List ℕ)) (name : List ℕ) → Ascends names → ((k : ℕ) → k < length names → slice_cmp nat_cmp (get_or names k []) name ≡ Less) →
     Ascends (names ++ name ∷ [])
 Ascends-push names name up below i j lower within = elim (cases_lt j (length names)) [
@@ -154,7 +154,7 @@ Ascends-push names name up below i j lower within = elim (cases_lt j (length nam
       rw (get_or_append_left names (name ∷ []) [] i before, pushed_last names name j at) (below i before)
 ]
 
--- a name that none is behind, and that the last isn't, is behind them all
+-- a name that no name is after, and that is not the last, is after them all
 all_before : (names : List (List ℕ)) (name : List ℕ) → Ascends names → ends_with names name ≡ false →
     ((k : ℕ) → k < length names → slice_cmp nat_cmp (get_or names k []) name ≢ Greater) →
     (k : ℕ) → k < length names → slice_cmp nat_cmp (get_or names k []) name ≡ Less
@@ -169,11 +169,11 @@ all_before names name up ends from k within = last (length names) refl
           | inr higher ↦ let same : m ≡ k = omega (arith, long, within, higher) in subst (λ n. slice_cmp nat_cmp (get_or names n []) name ≡ Less) same behind
         ]
 
--- the name of a number stands at its place
+-- the name of an id is at its index
 abbrev pub Stands : List (List ℕ) → List (List ℕ) → List ℕ → ℕ → Type 0
 Stands names different ordinals n = (q : List ℕ) × (slice_get different (get_or ordinals n 0) ≡ Some q) × (slice_get names n ≡ Some q)
 
--- the first of sorted names, each once, none of which is behind those to come
+-- the first of the sorted names, without duplicates, none of which is after those that are left
 pub record IsSorting (names : List (List ℕ)) (es : List Numbered) (i : ℕ) (different : List (List ℕ)) (ordinals : List ℕ) : Type 0 where
   pub count : length ordinals ≡ length names
   pub ascends : Ascends different
@@ -236,7 +236,7 @@ IsSorting-next names es i e different ordinals last within is right in_order lon
           (subst (λ (x : Numbered). Stands names more placed x.1) is (name, here, right));
     }
 
--- at the end each name has its place
+-- at the end each name has its index
 pub Stand-sorted : (names : List (List ℕ)) (es : List Numbered) (i : ℕ) (different : List (List ℕ)) (ordinals : List ℕ) →
     IsPermutation (enumerate_from 0 names) (map shown es) → length es ≤ i →
     IsSorting names es i different ordinals → Stand names different ordinals

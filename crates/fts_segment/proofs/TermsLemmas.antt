@@ -1,4 +1,4 @@
--- Names by their numbers.
+-- Names by their ids.
 use Rattle.std.proofs.Common.{◌≡◌, ℕ, suc, zero, List, [], ◌∷◌, ◌++◌, Some, length, get_or, refl, sym, ◌∙◌, ap, inl, inr, Less, Equal}
 use Rattle.std.specs.Prelude.{◌⊎◌, slice_get}
 use Rattle.std.specs.Ordering.{nat_cmp}
@@ -17,7 +17,7 @@ slice_get_append [] ys i x h = absurd cc
 slice_get_append (y ∷ xs) ys zero x h = h
 slice_get_append (y ∷ xs) ys (suc i) x h = slice_get_append xs ys i x h
 
--- what stands in a list with one more at its end stood there before, or is the last
+-- a member of a list with one more is a member of the list, or the last
 pub slice_get_push_cases : {X : Type 0} (xs : List X) (y : X) (i : ℕ) (x : X) → slice_get (xs ++ y ∷ []) i ≡ Some x →
     (slice_get xs i ≡ Some x) ⊎ ((i ≡ length xs) × (x ≡ y))
 slice_get_push_cases [] y zero x h = inr (refl, cc)
@@ -25,7 +25,7 @@ slice_get_push_cases [] y (suc i) x h = absurd cc
 slice_get_push_cases (z ∷ xs) y zero x h = inl h
 slice_get_push_cases (z ∷ xs) y (suc i) x h = elim (slice_get_push_cases xs y i x h) [ inl e ↦ inl e | inr e ↦ inr (ap suc e.0, e.1) ]
 
--- one name isn't before itself
+-- a name is not before itself
 apart : (names : List (List ℕ)) (i j : ℕ) (q : List ℕ) → slice_get names i ≡ Some q → slice_get names j ≡ Some q →
     slice_cmp nat_cmp (get_or names i []) (get_or names j []) ≡ Less → ⊥
 apart names i j q first second less =
@@ -34,7 +34,7 @@ apart names i j q first second less =
     let clash : Less ≡ Equal = sym less ∙ ap (λ x. slice_cmp nat_cmp x (get_or names j [])) at_i ∙ ap (slice_cmp nat_cmp q) at_j
     ∙ tied_itself nat_list_cmp_total q in cc
 
--- where names ascend, one stands at one place
+-- an ascending list has a name at only one index
 pub one_place : (names : List (List ℕ)) → Ascends names → (i j : ℕ) (q : List ℕ) → slice_get names i ≡ Some q → slice_get names j ≡ Some q → i ≡ j
 one_place names up i j q first second = elim (cases_order i j) [
   | inl same ↦ same

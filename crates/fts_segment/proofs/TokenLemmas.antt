@@ -1,4 +1,4 @@
--- The tokens of a value: how many they are, and that their positions rise.
+-- The tokens of a value: their number, and that their positions rise.
 use Rattle.std.proofs.Common.{◌≡◌, ◌+◌, ◌<◌, ◌≤◌, ℕ, suc, Bool, true, false, cond, List, [], ◌∷◌, ◌++◌, Option, Some, None, map, filter, length, refl, sym, ap}
 use Rattle.std.proofs.Common.{subst, ◌∙◌, arith}
 use Rattle.std.specs.Prelude.{nat_eq, nat_lt}
@@ -47,7 +47,7 @@ Rises-enumerate next (x ∷ xs) =
     let one : next + 1 ≡ suc next = omega arith in
     (omega arith, subst (λ n. Rises n (map (λ x. x.0) (enumerate_from (next + 1) xs))) one (Rises-enumerate (next + 1) xs))
 
--- all are below a number
+-- all numbers are below a bound
 abbrev Below : ℕ → List ℕ → Type 0
 Below most [] = Unit {0}
 Below most (x ∷ xs) = (x < most) × Below most xs
@@ -64,12 +64,12 @@ Below-enumerate : {X : Type 0} (next most : ℕ) (xs : List X) → next + length
 Below-enumerate next most [] h = tt
 Below-enumerate next most (x ∷ xs) h = (omega (arith, h), Below-enumerate (next + 1) most xs (omega (arith, h)))
 
--- those that rise from a number which those before them are below
+-- rising numbers, followed by others that rise from a greater number, rise
 Rises-append : (a b : ℕ) (xs ys : List ℕ) → a ≤ b → Below b xs → Rises a xs → Rises b ys → Rises a (xs ++ ys)
 Rises-append a b [] ys le below h g = Rises-later a b ys le g
 Rises-append a b (x ∷ xs) ys le below h g = (h.0, Rises-append (suc x) b xs ys (omega (arith, below.0)) below.1 h.1 g)
 
--- the numbers of tokens are those of the spans that are kept
+-- the numbers of tokens are those of the spans that are tokens
 numbers_kept : (first : ℕ) (text : List ℕ) → map (λ t. t.0) (tokens_from first text) ≡ map (λ r. r.0) (kept first (spans 0 (chars text)))
 unfolding tokens_from
 numbers_kept first text =
@@ -85,7 +85,7 @@ Rises-tokens first text =
     subst (Rises first) (sym (numbers_kept first text)) (Rises-filter number (λ r. nat_lt (byte_len r.1) 40) first (enumerate_from first rs)
     (Rises-enumerate first rs))
 
--- the text behind begins no earlier, and behind them
+-- the next text's first number is past the spans of this one
 following-past : (first : ℕ) (text : List ℕ) → first + length (spans 0 (chars text)) ≤ following first text
 unfolding following
 following-past first text =

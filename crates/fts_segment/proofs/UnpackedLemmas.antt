@@ -1,4 +1,4 @@
--- Numbers that are copied a block at a time.
+-- Numbers that are copied block by block.
 use Rattle.std.proofs.Common.{◌≡◌, ◌+◌, ◌-◌, ◌*◌, ◌/◌, ◌<◌, ◌≤◌, ℕ, List, [], ◌∷◌, ◌++◌, length, get_or, take, drop, sum, min, sym, ap, ◌∙◌, arith, inl, inr}
 use Rattle.std.proofs.Common.{length-drop, append_assoc}
 use Rattle.std.specs.Prelude.{slice_range}
@@ -11,7 +11,7 @@ use Rattle.fts_pack.specs.Documents.{block_at}
 use Rattle.fts_pack.specs.SourceLaws.{length-block_at}
 use Rattle.fts_pack.proofs.SumLemmas.{sum-take-add}
 
--- a block that was opened has the numbers from its start on
+-- an opened block has the numbers from its start
 pub record IsOpened (numbers : List ℕ) (index start many : ℕ) (out : List ℕ) : Type 0 where
   pub near : many ≤ 128
   pub within : start + many ≤ length numbers
@@ -53,7 +53,7 @@ copied block numbers base from start count many start_is few long within are =
     ∙ sym (get_or-take count (drop start numbers) k 0 small ∙ get_or-drop start numbers k 0))
     ∙ ap (λ n. take n (drop start numbers)) (sym right)
 
--- numbers in two pieces
+-- a range of numbers in two pieces
 range-range : (xs : List ℕ) (a b c : ℕ) → a ≤ b → b ≤ c → slice_range xs a c ≡ slice_range xs a b ++ slice_range xs b c
 range-range xs a b c ab bc =
     let sums : c - a ≡ (b - a) + (c - b) = omega (arith, ab, bc) in
@@ -61,18 +61,18 @@ range-range xs a b c ab bc =
     ap (λ n. take n (drop a xs)) sums ∙ take-add (b - a) (c - b) (drop a xs)
     ∙ ap (λ ys. slice_range xs a b ++ take (c - b) ys) (drop-drop (b - a) a xs ∙ ap (λ n. drop n xs) there)
 
--- one piece more is copied
+-- one more piece is copied
 pub copied-step : (xs out new all : List ℕ) (at next end : ℕ) → at ≤ next → next ≤ end → new ≡ out ++ slice_range xs at next →
     out ++ slice_range xs at end ≡ all → new ++ slice_range xs next end ≡ all
 copied-step xs out new all at next end on within put so_far =
     ap (λ ys. ys ++ slice_range xs next end) put ∙ append_assoc out (slice_range xs at next) (slice_range xs next end)
     ∙ ap (λ ys. out ++ ys) (sym (range-range xs at next end on within)) ∙ so_far
 
--- nothing is between
+-- an empty range has no numbers
 pub range_none : {X : Type 0} (xs : List X) (at end : ℕ) → end ≤ at → slice_range xs at end ≡ []
 range_none xs at end past = ap (λ n. take n (drop at xs)) (let none : end - at ≡ 0 = omega (arith, past) in none)
 
--- an end behind the last is that
+-- an end past the last is the last
 pub range_min : {X : Type 0} (xs : List X) (start end : ℕ) → slice_range xs start (min end (length xs)) ≡ slice_range xs start end
 range_min xs start end = elim (cases_lt end (length xs)) [
   | inl within ↦ ap (λ n. take (n - start) (drop start xs)) (let same : min end (length xs) ≡ end = omega (arith, within) in same)
@@ -81,11 +81,11 @@ range_min xs start end = elim (cases_lt end (length xs)) [
       ∙ sym (take_all (end - start) (drop start xs) (omega (arith, past, length-drop start xs)))
 ]
 
--- one member
+-- a range of one member
 pub range_one : {X : Type 0} (xs : List X) (at : ℕ) (d : X) → at < length xs → slice_range xs at (at + 1) ≡ get_or xs at d ∷ []
 range_one xs at d within = ap (λ n. take n (drop at xs)) (let one : at + 1 - at ≡ 1 = omega arith in one) ∙ ap (take 1) (drop_more xs at d within)
 
--- so many numbers are between
+-- a range has as many numbers as it is long
 pub length-range : {X : Type 0} (xs : List X) (start count : ℕ) → start + count ≤ length xs → length (slice_range xs start (start + count)) ≡ count
 length-range xs start count within =
     let left : start + count - start ≡ count = omega arith in
@@ -98,7 +98,7 @@ sum-more counts k within = sum_by_more (λ (x : ℕ). x) counts k 0 within
 pub sum-within : (counts : List ℕ) (k : ℕ) → sum (take k counts) ≤ sum counts
 sum-within counts k = sum_by-take-le (λ (x : ℕ). x) counts k
 
--- the sum of those up to an end, in two pieces
+-- the sum of the numbers up to an end, in two pieces
 pub sum-range : (counts : List ℕ) (start end : ℕ) → start ≤ end → sum (take end counts) ≡ sum (take start counts) + sum (slice_range counts start end)
 sum-range counts start end on =
     let all : end ≡ start + (end - start) = omega (arith, on) in

@@ -1,4 +1,4 @@
--- What a segment contains, of whose documents some are live.
+-- The live documents of a segment.
 use Rattle.std.specs.Prelude.{Bool, List, [], ◌∷◌, if◌then◌else◌}
 use Rattle.fts_model.specs.declared.operation.Stamped.{Stamped}
 use Rattle.fts_model.specs.Documents.{DocumentValue}

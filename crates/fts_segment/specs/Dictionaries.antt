@@ -1,4 +1,4 @@
--- What a dictionary and its lists say of occurrences.
+-- A dictionary and its lists, compared with occurrences.
 use Rattle.std.specs.Prelude.{◌≡◌, ◌++◌, ℕ, nat_lt, Bool, true, List, [], ◌∷◌, length, map, nat_eq, Contains, All}
 use Rattle.std.specs.List.{dedup}
 use Rattle.fts_segment.specs.declared.term_groups.DocPosition.{DocPosition}
@@ -7,7 +7,7 @@ use Rattle.fts_segment.specs.Sorted.{Ascends}
 use Rattle.fts_segment.specs.Positions.{position_lists_with}
 use Rattle.fts_segment.specs.Occurrences.{docs_with, docs_of}
 
--- the documents of places, each once
+-- the documents of places, without duplicates
 abbrev pub docs_in : List DocPosition → List ℕ
 docs_in places = dedup nat_eq (map (λ p. p.doc) places)
 
@@ -29,13 +29,13 @@ abbrev pub unless_none : {X Y : Type 0} → List Y → X → List X
 unless_none [] x = []
 unless_none (y ∷ ys) x = x ∷ []
 
--- the names that have a place, of names with their places
+-- the names that have a place
 abbrev pub names_listed : List (List DocPosition) → List (List ℕ) → List (List ℕ)
 names_listed [] names = []
 names_listed (places ∷ groups) [] = []
 names_listed (places ∷ groups) (name ∷ names) = unless_none places name ++ names_listed groups names
 
--- what places give, of those that aren't empty
+-- the images of the nonempty lists of places
 abbrev pub listed_by : {X : Type 0} → (List DocPosition → X) → List (List DocPosition) → List X
 listed_by f [] = []
 listed_by f (places ∷ groups) = unless_none places (f places) ++ listed_by f groups

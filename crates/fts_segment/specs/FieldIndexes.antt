@@ -1,4 +1,4 @@
--- What the indexes of fields say of documents.
+-- The indexes of fields, compared with documents.
 use Rattle.std.specs.Prelude.{◌≡◌, ℕ, ◌^◌, ◌≤◌, true, false, List, length, Option, Some, IfSome, All, slice_get}
 use Rattle.fts_model.specs.declared.schema.Kind.{Kind}
 use Rattle.fts_model.specs.declared.schema.Kind.TheVariants as kinds
@@ -20,27 +20,27 @@ use Rattle.fts_segment.specs.Keywords.{ordinals_of, texts_of}
 use Rattle.fts_segment.specs.Sums.{sums_from}
 use Rattle.fts_segment.specs.Numbers.{Fits64, numbers_of, IsNumberIndex}
 
--- the terms of a text or keyword field
+-- a dictionary is that of a text or keyword field
 pub record AreTerms (kind : Kind) (vs : List (Option FieldValue)) (dictionary : Dictionary) : Type 0 where
   pub kind_is : holds_numbers kind ≡ false
   pub few : All (HasFewTokens kind) vs
   pub dictionary_is : IsDictionaryOf (occurrences kind 0 vs)
       dictionary.names dictionary.lists.items (term_position_lists dictionary.positions)
 
--- the texts of a keyword field
+-- a keyword index is that of a keyword field
 pub record AreKeywords (kind : Kind) (vs : List (Option FieldValue)) (index : KeywordIndex) : Type 0 where
   pub kind_is : kind ≡ kinds.Keyword
   pub terms : AreTerms kind vs index.dictionary
   pub ordinals : index.ordinals ≡ ordinals_of kind vs
   pub sums : index.sums.items ≡ sums_from 0 index.dictionary.lists.items
 
--- a document of this number has the text of an ordinal
+-- a document has the keyword of an ordinal
 pub record HasKeywordAt (vs : List (Option FieldValue)) (ordinal doc : ℕ) : Type 0 where
   pub text : List ℕ
   pub is : slice_get (texts_of kinds.Keyword vs) ordinal ≡ Some text
   pub has : slice_get vs doc ≡ Some (Some (values.Text text))
 
--- the numbers of a number field
+-- a number index is that of a number field
 pub record AreNumbers (kind : Kind) (vs : List (Option FieldValue)) (index : NumberIndex) : Type 0 where
   pub kind_is : holds_numbers kind ≡ true
   pub fit : All (λ v. IfSome v (Fits64 kind)) vs
@@ -48,17 +48,17 @@ pub record AreNumbers (kind : Kind) (vs : List (Option FieldValue)) (index : Num
   pub index_is : IsNumberIndex (numbers_of kind vs) index.numbers.items index.lists.items
   pub sums : index.sums.items ≡ sums_from 0 index.lists.items
 
--- the index of a field of this kind in which the documents have these values
+-- an index is that of a field of this kind, in which the documents have these values
 abbrev pub IsFieldIndex : Kind → List (Option FieldValue) → FieldIndex → Type 0
 IsFieldIndex kind vs (Terms dictionary) = (kind ≡ kinds.Text) × AreTerms kind vs dictionary
 IsFieldIndex kind vs (Keywords index) = AreKeywords kind vs index
 IsFieldIndex kind vs (Numbers index) = AreNumbers kind vs index
 
--- the numbers that documents have in a field of this kind fit 64 bits
+-- the numbers of documents in a field of this kind fit 64 bits
 abbrev pub NumbersFit : Kind → ℕ → List (Stamped DocumentValue) → Type 0
 NumbersFit kind field documents = All (λ v. IfSome v (Fits64 kind)) (values_in field documents)
 
--- one index for each field
+-- there is one index for each field, of its values
 pub record AreIndexes (schema : List Field) (documents : List (Stamped DocumentValue)) (indexes : List FieldIndex)
     : Type 0 where
   pub few : length documents ≤ 2 ^ 32

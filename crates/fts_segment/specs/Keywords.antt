@@ -1,4 +1,4 @@
--- The different texts of a field in the order of their bytes, and what comes before a text among them.
+-- The distinct texts of a field in the order of their bytes, and the number of those before a text.
 use Rattle.std.specs.Prelude.{ℕ, List, [], ◌∷◌, Option, Some, None, length, filter, fold, map, option_map, slice_set}
 use Rattle.std.specs.Ordering.{nat_cmp, match_ordering}
 use Rattle.std.specs.Cmp.Lexicographic.{slice_cmp}
@@ -8,17 +8,17 @@ use Rattle.fts_model.specs.declared.schema.Kind.TheVariants as kinds
 use Rattle.fts_model.specs.declared.value.FieldValue.{FieldValue}
 use Rattle.fts_model.specs.declared.value.FieldValue.TheVariants as values
 
--- texts in order with one text more, unless it is among them
+-- ordered texts with one more, unless it is one of them
 abbrev pub with_text : List (List ℕ) → List ℕ → List (List ℕ)
 with_text [] text = text ∷ []
 with_text (t ∷ ts) text =
     match_ordering (slice_cmp nat_cmp text t) (text ∷ t ∷ ts) (t ∷ ts) (t ∷ with_text ts text)
 
--- the different ones of some texts, in order
+-- the distinct ones of some texts, in order
 abbrev pub in_order : List (List ℕ) → List (List ℕ)
 in_order texts = fold with_text [] texts
 
--- how many of them are before a text, and how many aren't after it
+-- the number of texts before a text (`before`), or not after it (`up_to`)
 abbrev pub before : List (List ℕ) → List ℕ → ℕ
 before texts text = length (filter (λ t. text_lt t text) texts)
 
@@ -30,25 +30,25 @@ abbrev pub keyword_of : Kind → Option FieldValue → Option (List ℕ)
 keyword_of kinds.Keyword (Some (values.Text text)) = Some text
 keyword_of kind value = None
 
--- the text that a value is, if it is one
+-- the text of a value, if it is one
 abbrev pub text_in_value : FieldValue → Option (List ℕ)
 text_in_value (values.Text text) = Some text
 text_in_value value = None
 
--- the texts that are there
+-- the texts that are present
 abbrev pub texts_in : List (Option (List ℕ)) → List (List ℕ)
 texts_in [] = []
 texts_in (None ∷ ts) = texts_in ts
 texts_in (Some t ∷ ts) = t ∷ texts_in ts
 
--- the different texts of values in a keyword field, in order
+-- the distinct texts of values in a keyword field, in order
 abbrev pub texts_of : Kind → List (Option FieldValue) → List (List ℕ)
 texts_of kind vs = in_order (texts_in (map (keyword_of kind) vs))
 
--- of each value how many of these texts are before its own
+-- the ordinal of each value: the number of distinct texts before its own
 abbrev pub ordinals_of : Kind → List (Option FieldValue) → List (Option ℕ)
 ordinals_of kind vs = map (λ v. option_map (before (texts_of kind vs)) (keyword_of kind v)) vs
 
--- ordinals of documents, after some of them were given this one
+-- ordinals of documents, after some documents got this one
 abbrev pub with_ordinal : ℕ → List (Option ℕ) → List ℕ → List (Option ℕ)
 with_ordinal ordinal ordinals documents = fold (λ given doc. slice_set given doc (Some ordinal)) ordinals documents

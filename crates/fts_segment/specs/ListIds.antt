@@ -1,4 +1,4 @@
--- What the list of a term holds.
+-- The documents and positions of the list of a term.
 use Rattle.std.specs.Prelude.{ℕ, List, [], Option, Some, None}
 use Rattle.fts_segment.specs.declared.segment.ListId.{ListId}
 use Rattle.fts_segment.specs.declared.term_positions.TermPositionLists.{TermPositionLists}
@@ -8,7 +8,7 @@ use Rattle.fts_segment.specs.TermPositionLists.{position_lists_in}
 abbrev pub documents_in : ListId → List ℕ
 documents_in list = list.list.now
 
--- its positions in each of them; a number has none
+-- the positions of a term in each of its documents; a number has none
 abbrev pub positions_of : Option TermPositionLists → List (List ℕ)
 positions_of None = []
 positions_of (Some term) = position_lists_in term

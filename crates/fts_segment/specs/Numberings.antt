@@ -1,4 +1,4 @@
--- Numbers of terms, as terms come.
+-- Ids of terms, as terms come.
 use Rattle.std.specs.Prelude.{◌≡◌, List, ◌++◌}
 
 -- a list that begins with another

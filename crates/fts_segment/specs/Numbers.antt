@@ -1,4 +1,4 @@
--- The numbers of a field.
+-- The numbers of a number field.
 use Rattle.std.specs.Prelude.{◌≡◌, ℕ, ◌==◌, Bool, true, false, List, [], ◌∷◌, map, Option, Some, None, All, Contains}
 use Rattle.std.specs.List.Sorted.{IsStrictlyIncreasing}
 use Rattle.fts_model.specs.declared.schema.Kind.{Kind}
@@ -9,7 +9,7 @@ use Rattle.fts_model.specs.declared.value.Number.TheVariants as numbers
 use Rattle.fts_model.specs.Documents.{fits_i64}
 use Rattle.fts_segment.specs.Segments.{number_of, numbers_where}
 
--- a number of an i64 field fits 64 bits
+-- the number of an `i64` field fits 64 bits
 abbrev pub Fits64 : Kind → FieldValue → Type 0
 Fits64 kinds.I64 (values.Number (numbers.I64 z)) = fits_i64 z ≡ true
 Fits64 kinds.Text value = Unit {0}
@@ -21,18 +21,18 @@ Fits64 kinds.I64 value = Unit {0}
 abbrev pub numbers_of : Kind → List (Option FieldValue) → List (Option ℕ)
 numbers_of kind vs = map (number_of kind) vs
 
--- the numbers that are there
+-- the numbers that are present
 abbrev pub present : List (Option ℕ) → List ℕ
 present [] = []
 present (None ∷ vs) = present vs
 present (Some x ∷ vs) = x ∷ present vs
 
--- a document has this number
+-- whether an optional number is this one
 abbrev pub is_number : ℕ → Option ℕ → Bool
 is_number x None = false
 is_number x (Some y) = y == x
 
--- the different numbers of a column, rising, and the documents of each
+-- the distinct numbers of a column, rising, and the documents of each
 pub record IsNumberIndex (column : List (Option ℕ)) (numbers : List ℕ) (lists : List (List ℕ)) : Type 0 where
   pub rises : IsStrictlyIncreasing numbers
   pub listed : lists ≡ map (λ x. numbers_where (is_number x) 0 column) numbers

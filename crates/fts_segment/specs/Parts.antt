@@ -1,5 +1,4 @@
--- Dictionaries that are joined: what they have for a term, by new numbers of documents, and what is left of them as
--- terms are passed.
+-- Term streams: the postings of a dictionary under new document numbers, and those that are left after some terms.
 use Rattle.std.specs.Prelude.{◌≡◌, ◌≢◌, ◌+◌, ◌<◌, ◌^◌, ℕ, Bool, true, false, List, [], ◌∷◌, ◌++◌, All, Contains, Option}
 use Rattle.std.specs.Prelude.{Some, None, count_by, drop, length, map, slice_get, slice_index_or, if◌then◌else◌}
 use Rattle.std.specs.List.{AllByRecursion}
@@ -17,18 +16,18 @@ use Rattle.fts_segment.specs.Sources.{SourceValue}
 use Rattle.fts_segment.specs.TermPositionLists.{term_position_lists}
 use Rattle.fts_segment.specs.PositionCopiers.{lists_in}
 
--- the new number of each document: live ones are counted from `next`, and a dead one has none
+-- the new number of each document: live ones are numbered from `next`, and a deleted one has none
 abbrev pub renumbered : ℕ → List Bool → List (Option ℕ)
 renumbered next [] = []
 renumbered next (true ∷ bits) = Some next ∷ renumbered (next + 1) bits
 renumbered next (false ∷ bits) = None ∷ renumbered next bits
 
--- the new numbers are in a row: no document is dead
+-- the new numbers are consecutive: every document is live
 pub record AreInARow (numbers : List (Option ℕ)) (first : ℕ) : Type 0 where
   pub are : (doc : ℕ) → doc < length numbers → slice_get numbers doc ≡ Some (Some (first + doc))
   pub fit : first + length numbers < 2 ^ 32
 
--- a posting in a document of another number
+-- a posting in the document of its new number, if there is one
 abbrev pub placed : Option (Option ℕ) → Posting → List Posting
 placed (Some (Some doc)) posting = record { doc = doc; positions = posting.positions } ∷ []
 placed (Some None) posting = []
@@ -40,7 +39,7 @@ number_in (Some (Some doc)) = Some doc
 number_in (Some None) = None
 number_in None = None
 
--- postings by the new numbers of their documents, without those of documents that have none
+-- the postings of documents that have a new number, under that number
 abbrev pub moved : List (Option ℕ) → List Posting → List Posting
 moved numbers [] = []
 moved numbers (p ∷ ps) = placed (slice_get numbers p.doc) p ++ moved numbers ps
@@ -51,13 +50,13 @@ postings_by [] positions = []
 postings_by (list ∷ lists) [] = []
 postings_by (list ∷ lists) (p ∷ ps) = postings_of list p ∷ postings_by lists ps
 
--- terms that ascend, the postings of each, and the new numbers of the documents in which they are
+-- a term stream: ascending terms, the postings of each, and new numbers for their documents
 pub record PartValue : Type 0 where
   pub names : List (List ℕ)
   pub postings : List (List Posting)
   pub numbers : List (Option ℕ)
 
--- what is left of a dictionary from a term on
+-- the stream of a dictionary from a term
 abbrev pub part_from : ℕ → Dictionary → List (Option ℕ) → PartValue
 part_from at dictionary numbers = record {
   names = drop at dictionary.names;
@@ -65,7 +64,7 @@ part_from at dictionary numbers = record {
   numbers = numbers;
 }
 
--- each term has its lists, with positions for each document that has a number or none
+-- each term has its lists, with positions for each document, and each document is in the map of new numbers
 pub record IsWhole (dictionary : Dictionary) (numbers : List (Option ℕ)) : Type 0 where
   pub listed : length dictionary.names ≡ length dictionary.lists.items
   pub positioned : length dictionary.names ≡ length (term_position_lists dictionary.positions)
@@ -74,25 +73,25 @@ pub record IsWhole (dictionary : Dictionary) (numbers : List (Option ℕ)) : Typ
   pub numbered : (i : ℕ) → i < length dictionary.names →
       All (λ doc. doc < length numbers) (slice_index_or dictionary.lists.items i [])
 
--- the same, the term is that of the number `at`, and the lists that are moved are those of the dictionary
+-- each term has its lists, the next term is that of the number `at`, and the position lists are those of the dictionary
 pub record IsPartOf (at : ℕ) (dictionary : Dictionary) (numbers : List (Option ℕ)) (term : Option (List ℕ))
     (lists : PositionCopier) : Type 0 where
   pub whole : IsWhole dictionary numbers
   pub next : term ≡ slice_get (drop at dictionary.names) 0
   pub lists_are : lists_in lists ≡ dictionary.positions.lists
 
--- the postings of a term
+-- the postings of a term among those of names, or none
 abbrev pub found : List (List ℕ) → List (List Posting) → List ℕ → List Posting
 found [] postings term = []
 found (name ∷ names) [] term = []
 found (name ∷ names) (here ∷ postings) term = if bytes_eq name term then here else found names postings term
 
--- the postings that parts have for a term, by the new numbers, one part after the other
+-- the postings of streams for a term, under new document numbers, one stream after the other
 abbrev pub joined : List PartValue → List ℕ → List Posting
 joined [] term = []
 joined (part ∷ parts) term = moved part.numbers (found part.names part.postings term) ++ joined parts term
 
--- a name is before each of these
+-- a name is before each of some names
 abbrev pub IsBelow : List ℕ → List (List ℕ) → Type 0
 IsBelow name names = AllByRecursion (λ other. slice_cmp nat_cmp name other ≡ Less) names
 
@@ -106,7 +105,7 @@ pub record IsSound (part : PartValue) : Type 0 where
   pub ascend : Ascend part.names
   pub paired : length part.names ≡ length part.postings
 
--- the dictionary of parts: the terms that have a posting left, in order, each with what the parts have for it
+-- the merged dictionary of streams: the terms that have a posting, in order, each with the postings of every stream
 pub record IsJoined (parts : List PartValue) (names lists : List (List ℕ)) (positions : List (List (List ℕ)))
     : Type 0 where
   pub ascend : Ascend names
@@ -115,27 +114,27 @@ pub record IsJoined (parts : List PartValue) (names lists : List (List ℕ)) (po
   pub some : AllByRecursion (λ q. joined parts q ≢ []) names
   pub whole : (q : List ℕ) → joined parts q ≢ [] → Contains names q
 
--- the next name of a part is this one
+-- the next name of a stream is this one
 abbrev pub begins : List ℕ → List (List ℕ) → Bool
 begins term [] = false
 begins term (name ∷ names) = bytes_eq name term
 
--- a part after a term, where the term is its next one
+-- a stream after a term was taken from it, if the term is its next one
 abbrev pub passed : List ℕ → PartValue → PartValue
 passed term part = if begins term part.names
     then record { names = drop 1 part.names; postings = drop 1 part.postings; numbers = part.numbers } else part
 
--- what the part has for it
+-- the postings that a stream gives for a term, if the term is its next one
 abbrev pub given : List ℕ → PartValue → List Posting
 given term part = if begins term part.names then moved part.numbers (slice_index_or part.postings 0 []) else []
 
--- the first of two names in order
+-- the first in order of two optional names
 abbrev pub lesser : Option (List ℕ) → Option (List ℕ) → Option (List ℕ)
 lesser None b = b
 lesser (Some a) None = Some a
 lesser (Some a) (Some b) = if is_gt (slice_cmp nat_cmp a b) then Some b else Some a
 
--- the first of the next names of parts
+-- the first in order of the streams' next names
 abbrev pub least_of : Option (List ℕ) → List PartValue → Option (List ℕ)
 least_of least [] = least
 least_of least (part ∷ parts) = least_of (lesser least (slice_get part.names 0)) parts
@@ -144,14 +143,14 @@ least_of least (part ∷ parts) = least_of (lesser least (slice_get part.names 0
 abbrev pub postings_with : List ℕ → List OccurrenceValue → List Posting
 postings_with term os = postings_of (docs_with term os) (position_lists_with term os)
 
--- the part that a source has in a field: its dictionary, and new numbers of its documents, of which the first is `next`
+-- the term stream of a source in a field: its dictionary, and new numbers for its documents from `next`
 pub record IsPart (kind : Kind) (field next : ℕ) (source : SourceValue) (part : PartValue) : Type 0 where
   pub sound : IsSound part
   pub postings_are : (q : List ℕ) → found part.names part.postings q
       ≡ postings_with q (occurrences kind 0 (values_in field source.segment.documents))
   pub numbers_are : part.numbers ≡ renumbered next source.live
 
--- the parts of sources
+-- the term streams of sources
 abbrev pub AreParts : Kind → ℕ → ℕ → List SourceValue → List PartValue → Type 0
 AreParts kind field next [] [] = Unit {0}
 AreParts kind field next [] (p ∷ ps) = ⊥

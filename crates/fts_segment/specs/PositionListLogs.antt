@@ -1,4 +1,4 @@
--- Lists of positions that are to be packed.
+-- Lists of positions before they are packed.
 use Rattle.std.specs.Prelude.{ℕ, List}
 use Rattle.fts_segment.specs.declared.position_lists.PositionListLog.{PositionListLog}
 use Rattle.fts_segment.specs.PositionLists.{position_lists_at, AreLogged}

@@ -1,26 +1,26 @@
--- Lists of positions as they are packed: how many each has, and of each the first position and then differences less 1.
+-- Packed lists of positions: the number of positions of each, and its gaps.
 use Rattle.std.specs.Prelude.{◌≡◌, ℕ, ◌*◌, ◌^◌, ◌<◌, List, [], ◌∷◌, All, Option, Some, None, length, take, drop, sum}
 use Rattle.std.specs.Prelude.{slice_index}
 use Rattle.std.specs.Borrow.{Bor}
 use Rattle.fts_pack.specs.Documents.{Rises, block_count, documents_at}
 
--- positions of a term in a text: they rise, and 32 bits count them
+-- positions of a term in a text: they rise, and have 32 bits
 pub record IsPositionList (list : List ℕ) : Type 0 where
   pub rises : Rises 0 list
   pub few : length list < 2 ^ 32
 
--- the lists of this many positions each, with these differences
+-- the lists with these counts of positions and these gaps
 abbrev pub position_lists_at : List ℕ → List ℕ → List (List ℕ)
 position_lists_at [] gaps = []
 position_lists_at (count ∷ counts) gaps = documents_at 0 (take count gaps) ∷ position_lists_at counts (drop count gaps)
 
--- the differences are those of the lists
+-- counts and gaps are those of lists of positions
 pub record AreLogged (counts gaps : List ℕ) : Type 0 where
   pub whole : sum counts ≡ length gaps
   pub few : length gaps < 2 ^ 64
   pub fit : All (λ list. All (λ p. p < 2 ^ 32) list) (position_lists_at counts gaps)
 
--- the same, and the first of each 128 lists begins at its start
+-- as `AreLogged`, and the positions of each 128th list begin at its start
 pub record ArePacked (counts starts gaps : List ℕ) : Type 0 where
   pub whole : sum counts ≡ length gaps
   pub few : length gaps < 2 ^ 64
@@ -28,7 +28,7 @@ pub record ArePacked (counts starts gaps : List ℕ) : Type 0 where
   pub starts_are : (block : ℕ) → block < length starts → slice_index starts block ≡ sum (take (block * 128) counts)
   pub fit : All (λ list. All (λ p. p < 2 ^ 32) list) (position_lists_at counts gaps)
 
--- the numbers that are referred to, if any
+-- the numbers behind an optional reference, or none
 abbrev pub numbers_behind : Option (Bor (List ℕ)) → List ℕ
 numbers_behind None = []
 numbers_behind (Some numbers) = numbers.now

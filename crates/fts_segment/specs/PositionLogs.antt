@@ -1,4 +1,4 @@
--- The positions of terms that are to be packed.
+-- The positions of terms before they are packed.
 use Rattle.std.specs.Prelude.{◌≡◌, ◌++◌, ◌∷◌, [], ℕ, List, length}
 use Rattle.fts_segment.specs.declared.term_positions.PositionLog.{PositionLog}
 use Rattle.fts_base.specs.Pieces.{pieces, AreEnds}

@@ -1,7 +1,7 @@
 -- Postings of a term: the documents that have it, each with its positions there.
 use Rattle.std.specs.Prelude.{ℕ, List, [], ◌∷◌, map}
 
--- a document, and the positions of a term in it
+-- a posting: a document, and the positions of a term in it
 pub record Posting : Type 0 where
   pub doc : ℕ
   pub positions : List ℕ
@@ -20,6 +20,6 @@ postings_of (doc ∷ docs) (list ∷ lists) = posting_at doc list ∷ postings_o
 abbrev pub documents : List Posting → List ℕ
 documents postings = map (λ p. p.doc) postings
 
--- the positions of postings, a list for each
+-- the positions of postings, one list for each
 abbrev pub position_lists : List Posting → List (List ℕ)
 position_lists postings = map (λ p. p.positions) postings

@@ -1,10 +1,10 @@
--- How a segment is laid out in memory.
+-- The layout of a segment in memory.
 use Rattle.std.specs.Arc.{arc_value}
 use Rattle.fts_segment.specs.declared.segment.Segment.TheInside.{Inside}
 use Rattle.fts_segment.specs.Segments.{SegmentValue, AllFit, AreDocuments}
 use Rattle.fts_segment.specs.FieldIndexes.{AreIndexes}
 
--- the documents that are kept
+-- the documents that are stored
 abbrev pub stored_value : Inside → SegmentValue
 stored_value s = record { schema = (arc_value s.stored).schema; documents = (arc_value s.stored).documents.items }
 

@@ -1,4 +1,4 @@
--- What a segment holds, and what it finds for a term.
+-- The documents of a segment, and the postings of a term in it.
 use Rattle.std.specs.Prelude.{◌≡◌, ℕ, Bool, true, List, [], ◌∷◌, ◌++◌, All, Option, Some, None, map, filter}
 use Rattle.std.specs.Prelude.{option_and_then}
 use Rattle.std.specs.List.{enumerate_from}
@@ -17,7 +17,7 @@ use Rattle.fts_pack.specs.bits.Signed.{u64_of}
 use Rattle.fts_segment.specs.Keywords.{ordinals_of, texts_of}
 use Rattle.fts_segment.specs.Occurrences.{tokens_of, is_token, values_in}
 
--- a schema, and documents with their stamps
+-- a segment: a schema, and documents with their stamps
 pub record SegmentValue : Type 0 where
   pub schema : List Field
   pub documents : List (Stamped DocumentValue)
@@ -30,12 +30,12 @@ AllFit schema documents = All (λ d. fits schema d.value ≡ true) documents
 abbrev pub AreDocuments : List (Stamped DocumentValue) → Type 0
 AreDocuments documents = All (λ d. IsDocument d.value) documents
 
--- the same with one document more
+-- a segment with one more document
 abbrev pub with_document : SegmentValue → ℕ → DocumentValue → SegmentValue
 with_document segment stamp document =
     record { schema = segment.schema; documents = segment.documents ++ record { stamp = stamp; value = document } ∷ [] }
 
--- the numbers of the elements that pass a test, where the first element has the number `first`
+-- the numbers of the elements that pass a test, if the first element has the number `first`
 abbrev pub numbers_where : {X : Type 0} → (X → Bool) → ℕ → List X → List ℕ
 numbers_where p first xs = map (λ x. x.0) (filter (λ x. p x.1) (enumerate_from first xs))
 
@@ -43,7 +43,7 @@ numbers_where p first xs = map (λ x. x.0) (filter (λ x. p x.1) (enumerate_from
 abbrev pub postings : SegmentValue → Term → List ℕ
 postings segment term = numbers_where (λ d. has segment.schema d.value term) 0 segment.documents
 
--- the positions at which a text stands among tokens
+-- the positions of a text among tokens
 abbrev pub positions_among : List ℕ → List (ℕ × List ℕ) → List ℕ
 positions_among text tokens = map (λ t. t.0) (filter (is_token text) tokens)
 
@@ -52,7 +52,7 @@ abbrev pub document_tokens : List Field → ℕ → DocumentValue → List (ℕ 
 document_tokens schema field document =
     option_map_or (λ kind. tokens_of kind (value_in_field document field)) (kind_at schema field) []
 
--- the positions of a term in each of the documents that have it, where its value is a text; another has none
+-- the positions of a text, as a term, in each of the documents that have it; another value has none
 abbrev pub positions_of : SegmentValue → Term → FieldValue → List (List ℕ)
 positions_of segment term (values.Text text) =
     map (λ d. positions_among text (document_tokens segment.schema term.field d.value))
@@ -63,7 +63,7 @@ positions_of segment term (values.Number n) = []
 abbrev pub positions : SegmentValue → Term → List (List ℕ)
 positions segment term = positions_of segment term term.value
 
--- the number that a field of this kind has, if any, as a column keeps it: an i64 by the u64 in its place
+-- the number of a value in a field of this kind, if it has one, as a column stores it: an i64 as the u64 of its order
 abbrev pub number_in : Kind → FieldValue → Option ℕ
 number_in kinds.U64 (values.Number (numbers.U64 n)) = Some n
 number_in kinds.I64 (values.Number (numbers.I64 z)) = Some (u64_of z)
@@ -81,21 +81,21 @@ column segment field =
     map (λ d. option_and_then (λ kind. number_of kind (value_in_field d.value field)) (kind_at segment.schema field))
     segment.documents
 
--- the different texts of the documents in a keyword field, in the order of their bytes
+-- the distinct texts of the documents in a keyword field, in the order of their bytes
 abbrev pub keywords : SegmentValue → ℕ → List (List ℕ)
 keywords segment field =
     option_map_or (λ kind. texts_of kind (values_in field segment.documents)) (kind_at segment.schema field) []
 
--- the ordinals of the documents in a keyword field: how many of its texts are before a document's own
+-- the ordinals of the documents in a keyword field: the number of distinct texts before a document's own
 abbrev pub ordinals : SegmentValue → ℕ → List (Option ℕ)
 ordinals segment field =
     option_map_or (λ kind. ordinals_of kind (values_in field segment.documents)) (kind_at segment.schema field) []
 
--- no documents yet
+-- a segment without documents
 abbrev pub no_documents : List Field → SegmentValue
 no_documents schema = record { schema = schema; documents = [] }
 
--- what a builder holds: the segment to be, and whether it serves a merge
+-- the state of a builder: the segment so far, and whether it is for merging
 pub record BuilderValue : Type 0 where
   pub segment : SegmentValue
   pub merging : Bool

@@ -1,4 +1,4 @@
--- The numbers of a field in order, or the ordinals of its texts.
+-- The sorted numbers of a field, or the ordinals of its texts.
 use Rattle.std.specs.Prelude.{◌≡◌, ℕ, List, Option, Some, None, length, if◌then◌else◌}
 use Rattle.std.specs.Borrow.{Bor}
 use Rattle.std.specs.List.{range_with_len}
@@ -22,7 +22,7 @@ abbrev pub column_in : SegmentValue → ℕ → NumberColumn
 column_in segment field =
     if is_number_field segment.schema field then column segment field else ordinals segment field
 
--- this many different numbers: those that are kept, or else their places
+-- the distinct numbers, this many: those that are stored, or else the list indexes
 abbrev pub different : Option (Bor (List ℕ)) → ℕ → List ℕ
 different None count = range_with_len 0 count
 different (Some numbers) count = numbers.now
@@ -30,7 +30,7 @@ different (Some numbers) count = numbers.now
 abbrev pub numbers_in : SortedColumn → List ℕ
 numbers_in ordered = different ordered.numbers (length ordered.lists.now)
 
--- the different numbers of a column in order, with the documents of each and the sums of these
+-- the distinct numbers of a column in order, with the documents of each and their running totals
 pub record IsOrdered (column : NumberColumn) (ordered : SortedColumn) : Type 0 where
   pub column_is : ordered.column.now ≡ column
   pub index_is : IsNumberIndex column (numbers_in ordered) ordered.lists.now

@@ -1,4 +1,4 @@
--- Segments of whose documents some are live, as a merge takes them.
+-- Segments with live bits, as the sources of a merge.
 use Rattle.std.specs.Prelude.{◌≡◌, ℕ, Bool, List, [], ◌∷◌, All, length, sum_by, count_by, flat_map}
 use Rattle.fts_model.specs.declared.schema.Field.{Field}
 use Rattle.fts_model.specs.declared.operation.Stamped.{Stamped}
@@ -6,7 +6,7 @@ use Rattle.fts_model.specs.Documents.{DocumentValue}
 use Rattle.fts_segment.specs.Segments.{SegmentValue}
 use Rattle.fts_segment.specs.Contents.{content_of}
 
--- a segment, and a bit for each of its documents: it is set if the document is live
+-- a source of a merge: a segment, and a live bit for each of its documents
 pub record SourceValue : Type 0 where
   pub segment : SegmentValue
   pub live : List Bool
@@ -20,7 +20,7 @@ abbrev pub both : SegmentValue → List Bool → SegmentValue → List Bool → 
 both first first_live second second_live =
     record { segment = first; live = first_live } ∷ record { segment = second; live = second_live } ∷ []
 
--- how many live documents sources have together
+-- the number of live documents of all sources
 abbrev pub live_count : List SourceValue → ℕ
 live_count sources = sum_by (λ source. count_by (λ bit. bit) source.live) sources
 
@@ -28,7 +28,7 @@ live_count sources = sum_by (λ source. count_by (λ bit. bit) source.live) sour
 abbrev pub contents : List SourceValue → List (Stamped DocumentValue)
 contents sources = flat_map (λ source. content_of source.segment source.live) sources
 
--- the schema of sources, which is that of the first
+-- the schema of sources: that of the first
 abbrev pub schema_of : List SourceValue → List Field
 schema_of [] = []
 schema_of (source ∷ sources) = source.segment.schema
@@ -37,6 +37,6 @@ schema_of (source ∷ sources) = source.segment.schema
 abbrev pub AreOfOneSchema : List SourceValue → Type 0
 AreOfOneSchema sources = All (λ source. source.segment.schema ≡ schema_of sources) sources
 
--- the segment of their live documents
+-- the segment of the sources' live documents
 abbrev pub joined_segment : List SourceValue → SegmentValue
 joined_segment sources = record { schema = schema_of sources; documents = contents sources }

@@ -1,4 +1,4 @@
--- The positions of terms as they come one after the other.
+-- The positions of terms, one after the other.
 use Rattle.std.specs.Prelude.{ℕ, List, slice_range}
 use Rattle.fts_segment.specs.declared.term_positions.TermPositions.{TermPositions}
 use Rattle.fts_segment.specs.declared.term_positions.TermPositionLists.{TermPositionLists}

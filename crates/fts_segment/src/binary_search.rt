@@ -1,4 +1,4 @@
-// Looks a name up among sorted names, and a number among rising numbers, by halving.
+// Binary searches for a name among sorted names, and for a number among rising numbers.
 ghost use Rattle.std.specs.Prelude.{◌≡◌, ◌<◌, ◌+◌, ◌^◌, slice_get, MatchOption, IfOk};
 ghost use Rattle.std.specs.Prelude.{IfErr, Some, ℕ};
 ghost use Rattle.fts_segment.specs.Keywords.{before, up_to};
@@ -9,7 +9,7 @@ ghost use Rattle.fts_segment.specs.Between.{IsCut};
 use crate::names::{Name, Names};
 use std::cmp::Ordering;
 
-/// The number of a name; or, if it isn't there, how many names are before it.
+/// The index of a name, or on `Err` the number of names before it.
 fn search_name(names: &Names, name: &[u8]) -> Result<usize, usize>
     requires { Ascends names.now }
     ensures found { IfOk result (λ i. slice_get names.now i ≡ Some name.now) }
@@ -32,7 +32,7 @@ fn search_name(names: &Names, name: &[u8]) -> Result<usize, usize>
     Err(low)
 }
 
-/// The number of a name.
+/// The index of a name, if it is one of the names.
 pub(crate) fn find_name(names: &Names, name: &[u8]) -> Option<usize>
     requires { Ascends names.now }
     ensures { MatchOption result ((i : ℕ) → slice_get names.now i ≡ Some name.now → ⊥)
@@ -44,7 +44,7 @@ pub(crate) fn find_name(names: &Names, name: &[u8]) -> Option<usize>
     }
 }
 
-/// How many names are before a text, and how many aren't after it.
+/// The number of names before a text, and the number of those not after it.
 pub(crate) fn equal_range(names: &Names, text: &[u8]) -> (usize, usize)
     requires { Ascends names.now }
     ensures before { result.0 ≡ before names.now text.now }
@@ -56,7 +56,7 @@ pub(crate) fn equal_range(names: &Names, text: &[u8]) -> (usize, usize)
     }
 }
 
-/// The index of a number.
+/// The index of a number, if it is one of the numbers.
 pub(crate) fn find_number(numbers: &[u64], number: u64) -> Option<usize>
     requires { IsStrictlyIncreasing numbers.now }
     ensures { MatchOption result ((i : ℕ) → slice_get numbers.now i ≡ Some number → ⊥)
@@ -68,7 +68,7 @@ pub(crate) fn find_number(numbers: &[u64], number: u64) -> Option<usize>
     }
 }
 
-/// How many numbers are below a number.
+/// The number of numbers below a number.
 pub(crate) fn lower_bound(numbers: &[u64], number: u64) -> usize
     requires { IsStrictlyIncreasing numbers.now }
     ensures { IsCut numbers.now number result }
@@ -79,7 +79,7 @@ pub(crate) fn lower_bound(numbers: &[u64], number: u64) -> usize
     }
 }
 
-/// How many numbers aren't above a number.
+/// The number of numbers that are at most a number.
 pub(crate) fn upper_bound(numbers: &[u64], number: u64) -> usize
     requires { IsStrictlyIncreasing numbers.now }
     ensures { IsCut numbers.now (number + 1) result }

@@ -1,16 +1,16 @@
-// Packed numbers that are copied in stretches: a block at a time lies unpacked.
+// Reads and copies packed numbers, one unpacked block at a time.
 ghost use Rattle.std.specs.Prelude.{◌≡◌, ◌+◌, ◌^◌, ◌<◌, ◌≤◌, ◌++◌, ℕ, IfOk, OnOk, length, slice_index, slice_range};
 
 use fts_pack::{BLOCK, PackedNumbers};
 use std::alloc::AllocError;
 
-/// Packed numbers, and those of the block that was looked at last.
+/// A reader of packed numbers that holds one block unpacked.
 #[derive(Drop)]
 pub(crate) struct BlockReader<'a> {
     pub(crate) numbers: &'a PackedNumbers,
     /// The index of the first number of the block.
     start: usize,
-    /// How many numbers it has.
+    /// The number of numbers in the block.
     count: usize,
     block: [u32; BLOCK],
     ghost few: { length numbers.now < 2 ^ 64 },
@@ -19,7 +19,7 @@ pub(crate) struct BlockReader<'a> {
     ghost are: { (i : ℕ) → i < count → slice_index block i ≡ slice_index numbers.now (start + i) },
 }
 
-/// Puts numbers after others. Most often it is one, which is pushed at less cost than a slice is copied.
+/// Appends numbers. Usually there is only one, and a push costs less than copying a slice.
 #[inline(always)]
 fn push_all(out: &mut Vec<u32>, numbers: &[u32]) -> Result<(), AllocError>
     ensures { OnOk result (out.new.items ≡ out.old.items ++ numbers.now) }
@@ -32,11 +32,11 @@ fn push_all(out: &mut Vec<u32>, numbers: &[u32]) -> Result<(), AllocError>
 }
 
 impl<'a> BlockReader<'a> {
-    /// No block was looked at yet.
+    /// A reader that has not unpacked a block yet.
     pub(crate) fn new(numbers: &'a PackedNumbers) -> BlockReader<'a>
         ensures { result.numbers.now ≡ numbers.now }
     {
-        // Shows the proof that indexes fit.
+        // Reveals to the proof that indexes fit.
         let _ = numbers.len();
         BlockReader {
             numbers,
@@ -46,7 +46,7 @@ impl<'a> BlockReader<'a> {
         }
     }
 
-    /// Unpacks the block of a number, unless it lies unpacked.
+    /// Unpacks the block of a number, unless it is the current one.
     fn enter(&mut self, index: usize)
         requires { index < length self.old.numbers.now }
         ensures same { self.new.numbers.now ≡ self.old.numbers.now }
@@ -61,7 +61,7 @@ impl<'a> BlockReader<'a> {
         self.start = block * BLOCK;
     }
 
-    /// The number of this index.
+    /// The number at an index.
     pub(crate) fn get(&mut self, index: usize) -> u32
         requires { index < length self.old.numbers.now }
         ensures same { self.new.numbers.now ≡ self.old.numbers.now }
@@ -71,7 +71,7 @@ impl<'a> BlockReader<'a> {
         self.block[index - self.start]
     }
 
-    /// Puts numbers after others, from `start` to `end` as far as one block has them, and gives where they end.
+    /// Appends the numbers from `start` to `end` that are in one block, and returns the index after the last of them.
     fn copy_some(
         &mut self,
         start: usize,
@@ -93,7 +93,7 @@ impl<'a> BlockReader<'a> {
         Ok(start + count)
     }
 
-    /// Puts the numbers from `start` to `end` after others.
+    /// Appends the numbers from `start` to `end`.
     pub(crate) fn copy(
         &mut self,
         start: usize,

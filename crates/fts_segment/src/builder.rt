@@ -1,4 +1,4 @@
-// Takes documents one after the other, and makes a segment of them.
+// Collects documents and makes a segment of them.
 ghost use Rattle.std.specs.Prelude.{◌≡◌, ◌↔◌, ◌≢◌, ◌<◌, ◌≤◌, true, false, Err, length, IfOk, IfErr, OnOk, OnErr, ◌^◌};
 ghost use Rattle.fts_model.specs.Limits.{most_built, most_merged};
 ghost use Rattle.fts_model.specs.Documents.{fits};
@@ -12,9 +12,9 @@ use std::alloc::{AllocError, Global};
 use std::marker::Model;
 use std::sync::Arc;
 
-/// Takes the documents of a segment to be. Contracts see these with their schema, and whether it serves a merge.
+/// Collects a segment's documents. Only handles are stored; terms are extracted by `finish`.
 ///
-/// Documents are kept as handles; their terms are gathered in `finish`.
+/// Contracts see the documents with their schema, and whether the builder is for merging.
 #[derive(Drop)]
 pub struct Builder {
     schema: Schema,
@@ -41,7 +41,7 @@ impl Model for Builder {
 impl Builder {
     ghost use Rattle.fts_segment.specs.Segments.{with_document, no_documents};
 
-    /// Without documents, of which it takes up to 65,536.
+    /// An empty builder that takes up to 65,536 documents.
     pub fn new(alloc: Global, schema: &Schema) -> Result<Builder, Refusal>
         ensures ok { IfOk result
             (λ builder. builder ≡ record { segment = no_documents schema.now; merging = false }) }
@@ -50,7 +50,7 @@ impl Builder {
         Self::with(alloc, schema, false)
     }
 
-    /// The same for the documents of segments that are merged: it takes up to 1,048,576, in any order of stamps.
+    /// A builder for merging: takes up to 1,048,576 documents, with stamps in any order.
     pub fn merging(alloc: Global, schema: &Schema) -> Result<Builder, Refusal>
         ensures ok { IfOk result
             (λ builder. builder ≡ record { segment = no_documents schema.now; merging = true }) }
@@ -74,15 +74,15 @@ impl Builder {
         }
     }
 
-    /// How many documents it has taken.
+    /// The number of documents.
     pub fn docs(&self) -> usize
         ensures { result ≡ length self.now.segment.documents }
     {
         self.documents.len()
     }
 
-    /// Takes a document that fits the schema (`Document::fits`), with its stamp. `SegmentFull` if there are 65,536
-    /// already and it serves no merge.
+    /// Adds a document that fits the schema (`Document::fits`), with its stamp. It is refused as `SegmentFull` if there
+    /// are 65,536 documents and the builder isn't for merging.
     pub fn add(&mut self, stamp: Stamp, document: &Document) -> Result<(), Refusal>
         requires room { self.old.merging ≡ true → length self.old.segment.documents < most_merged }
         requires fits { fits self.old.segment.schema document.now ≡ true }
@@ -96,14 +96,14 @@ impl Builder {
         if !self.merging && self.documents.len() >= MOST_BUILT {
             return Err(Refusal::SegmentFull);
         }
-        // Shows the proof that its values are such as its fields can have.
+        // Reveals to the proof that the values are ones that the fields can have.
         let _ = document.schema();
         let value = document.clone()?;
         self.documents.push(Stamped { stamp, value })?;
         Ok(())
     }
 
-    /// The segment of the documents. If a growth is refused, the builder comes back.
+    /// Makes a segment of the documents. If the allocator refuses a growth, the builder is handed back.
     pub fn finish(self, alloc: Global) -> Result<Segment, (Builder, Refusal)>
         ensures ok { IfOk result (λ segment. segment ≡ self.segment) }
         ensures err { IfErr result (λ e. e.0 ≡ self) }

@@ -1,4 +1,4 @@
-// Moves the postings of a term to documents of other numbers.
+// Copies the postings of a term under new document numbers.
 ghost use Rattle.std.specs.Prelude.{◌≡◌, ◌+◌, ◌-◌, ◌<◌, ◌≤◌, ◌^◌, ◌++◌, [], All, OnOk, drop, length, map};
 ghost use Rattle.std.specs.Prelude.{slice_get, slice_index_or};
 ghost use Rattle.fts_segment.specs.Parts.{moved, placed};
@@ -15,7 +15,7 @@ use crate::term_positions::TermPositionLists;
 use fts_pack::{BLOCK, Blocks, List};
 use std::alloc::AllocError;
 
-/// Puts documents after others, with a number added to each.
+/// Appends documents, each with a number added.
 fn push_shifted(docs: &mut Vec<u32>, first: u32, block: &[u32]) -> Result<(), AllocError>
     requires { All (λ doc. first + doc < 2 ^ 32) block.now }
     ensures { OnOk result (docs.new.items ≡ docs.old.items ++ map (λ doc. first + doc) block.now) }
@@ -26,7 +26,7 @@ fn push_shifted(docs: &mut Vec<u32>, first: u32, block: &[u32]) -> Result<(), Al
     Ok(())
 }
 
-/// Puts the documents of a list after others, with a number added to each. `room` is for a block of them.
+/// Appends the documents of a list, each with a number added. `room` is a scratch buffer for a block.
 fn copy_shifted(
     list: &List,
     first: u32,
@@ -44,7 +44,7 @@ fn copy_shifted(
     Ok(())
 }
 
-/// Moves a posting whose positions are the list of this number, if its document has a new number.
+/// Copies a posting, whose positions are the list of this number, if its document has a new number.
 fn copy_posting(
     doc: u32,
     list: usize,
@@ -69,7 +69,7 @@ fn copy_posting(
     }
 }
 
-/// Moves some postings of which the first has the list of the number `start`.
+/// Copies the postings of one block. Their position lists begin at list `start`.
 fn copy_block(
     block: &[u32],
     start: usize,
@@ -90,9 +90,8 @@ fn copy_block(
     Ok(())
 }
 
-/// Puts the postings of a term after others, by the new numbers of their documents: these after `docs`, and their
-/// positions after those of a log. `room` is for a block of documents. Where no document is dead, positions are moved
-/// as a whole.
+/// Appends the postings of a term under new document numbers: their documents to `docs` and their positions to a log.
+/// `room` is a scratch buffer for a block of documents. If every document is live, the positions are copied as a whole.
 pub(crate) fn copy_postings(
     list: &List,
     positions: TermPositionLists<'_>,

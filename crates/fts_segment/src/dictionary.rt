@@ -1,4 +1,4 @@
-// The dictionary: the terms that occur, in order, each with the list of its documents and its positions in them.
+// The dictionary of a field: its terms in order, each with the list of its documents and its positions in them.
 ghost use Rattle.std.specs.Prelude.{◌≡◌, [], Contains, List, MatchOption, None, Option};
 ghost use Rattle.fts_model.specs.declared.schema.Kind.TheVariants as kinds;
 ghost use Rattle.fts_model.specs.declared.value.FieldValue.{FieldValue};
@@ -15,7 +15,7 @@ use fts_model::{Document, Kind, Stamped};
 use fts_pack::Blocks;
 use std::alloc::{AllocError, Global};
 
-/// The terms that occur, the documents of each, and its positions in them.
+/// The terms of a field, with the documents of each and its positions in them.
 pub(crate) struct Dictionary {
     pub(crate) names: Names,
     pub(crate) lists: Vec<fts_pack::List>,
@@ -75,7 +75,7 @@ impl Dictionary {
         })
     }
 
-    /// A document that has the text of an ordinal in a keyword field.
+    /// A document that has the keyword of an ordinal.
     pub(crate) fn document_with(&self, ordinal: usize) -> Option<u32>
         ensures { (vs : List (Option FieldValue)) → AreTerms kinds.Keyword vs self.now
             → MatchOption result (slice_get (texts_of kinds.Keyword vs) ordinal ≡ None)

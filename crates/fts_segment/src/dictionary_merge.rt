@@ -1,4 +1,4 @@
-// The terms of the live documents of segments, of which each has a dictionary.
+// Merges the dictionaries of the live documents of segments.
 ghost use Rattle.std.specs.Prelude.{◌≡◌, ◌+◌, ◌<◌, ◌≤◌, ◌^◌, false, All, Some, count_by, IfOk, OnOk};
 ghost use Rattle.fts_model.specs.Limits.{most_merged};
 ghost use Rattle.fts_model.specs.Operations.{kind_at};
@@ -16,7 +16,7 @@ use crate::term_merge::merge_terms;
 use fts_model::Kind;
 use std::alloc::{AllocError, Global};
 
-/// The part that a source has in a field, whose first live document gets the number `next`.
+/// The term stream of a source in a field; the source's first live document gets the number `next`.
 fn stream_of<'a>(
     alloc: Global,
     source: &LiveSegment<'a>,
@@ -36,7 +36,7 @@ fn stream_of<'a>(
     Ok(TermStream::new(terms, numbers))
 }
 
-/// The parts that sources have in a field.
+/// The term streams of sources in a field.
 fn streams_of<'a>(
     alloc: Global,
     sources: &[LiveSegment<'a>],
@@ -60,7 +60,7 @@ fn streams_of<'a>(
     Ok(parts)
 }
 
-/// The terms of the live documents of sources in a text or keyword field.
+/// The dictionary of the live documents of sources in a text or keyword field.
 pub(crate) fn merge_dictionaries(
     alloc: Global,
     sources: &[LiveSegment<'_>],

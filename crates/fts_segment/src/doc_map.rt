@@ -1,4 +1,4 @@
-// New numbers of the documents of a segment of whose documents some are live.
+// New numbers for the live documents of a segment.
 ghost use Rattle.std.specs.Prelude.{◌≡◌, ◌+◌, ◌<◌, ◌^◌, ◌++◌, ◌∷◌, [], true, count_by, IfOk, IfSome, OnOk, Some, None};
 ghost use Rattle.std.specs.Prelude.{if◌then◌else◌, slice_get};
 ghost use Rattle.fts_segment.specs.Parts.{AreInARow, number_in, renumbered};
@@ -8,10 +8,11 @@ use fts_pack::bits::Bits;
 use std::alloc::{AllocError, Global};
 use std::marker::Model;
 
-/// New numbers of documents, of which a dead one has none. Contracts see the list of these.
+/// Maps a source's document numbers to the merged segment's; a deleted document maps to none. Contracts see the list of
+/// new numbers.
 pub(crate) struct DocMap {
     numbers: Vec<Option<u32>>,
-    /// The first number, where no document is dead: they are in a row then.
+    /// The first new number, if every document is live: then the new numbers are consecutive.
     first: Option<u32>,
 }
 
@@ -34,7 +35,7 @@ impl Drop for DocMap {
 }
 
 impl DocMap {
-    /// The new number of each document, where the first live one gets the number `first`.
+    /// Numbers the live documents from `first`.
     pub(crate) fn new(alloc: Global, first: u32, live: &Bits) -> Result<DocMap, AllocError>
         requires { first + count_by (λ bit. bit) live.now < 2 ^ 32 }
         ensures { IfOk result (λ numbers. numbers ≡ renumbered first live.now) }
@@ -54,7 +55,7 @@ impl DocMap {
         }
     }
 
-    /// The number of the first document, if none is dead.
+    /// The first new number, if every document is live.
     pub(crate) fn first(&self) -> Option<u32>
         ensures { IfSome result (AreInARow self.now) }
     {
@@ -62,7 +63,7 @@ impl DocMap {
     }
 }
 
-/// The first number, where all documents are live.
+/// The first new number, if all bits are set.
 fn first_in_a_row(first: u32, live: &Bits) -> Option<u32>
     requires { first + count_by (λ bit. bit) live.now < 2 ^ 32 }
     ensures { IfSome result (AreInARow (renumbered first live.now)) }
@@ -70,7 +71,7 @@ fn first_in_a_row(first: u32, live: &Bits) -> Option<u32>
     if live.is_all_set() { Some(first) } else { None }
 }
 
-/// The new number of each document, where the first live one gets the number `first`; a dead one has none.
+/// The new number of each document: live ones are numbered from `first`, and a deleted one has none.
 fn renumber(alloc: Global, first: u32, live: &Bits) -> Result<Vec<Option<u32>>, AllocError>
     requires { first + count_by (λ bit. bit) live.now < 2 ^ 32 }
     ensures { IfOk result (λ numbers. numbers.items ≡ renumbered first live.now) }
@@ -83,7 +84,7 @@ fn renumber(alloc: Global, first: u32, live: &Bits) -> Result<Vec<Option<u32>>, 
     Ok(numbers)
 }
 
-/// Puts the number of one document more after the others, and gives the next number.
+/// Appends the number of one more document, and returns the next number.
 fn push_number(numbers: &mut Vec<Option<u32>>, next: u32, live: bool) -> Result<u32, AllocError>
     requires { live ≡ true → next + 1 < 2 ^ 32 }
     ensures numbers { OnOk result (numbers.new.items

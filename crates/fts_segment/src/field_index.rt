@@ -1,4 +1,4 @@
-// What is looked up in a field: the terms of its texts, its keywords or its numbers.
+// The index of a field: the terms of its texts, its keywords or its numbers.
 ghost use Rattle.std.specs.Prelude.{◌≡◌, ◌≢◌, [], List, Option, None, ◌<◌, ◌≤◌, ◌^◌, length, IfOk, IfNone, IfSome};
 ghost use Rattle.std.specs.Prelude.{All, Some, true, false};
 ghost use Rattle.fts_model.specs.declared.value.FieldValue.{FieldValue};
@@ -23,7 +23,7 @@ use crate::live_segment::LiveSegment;
 use fts_model::{Document, FieldValue, Kind, Stamped};
 use std::alloc::{AllocError, Global};
 
-/// What is looked up in a field.
+/// The index of a field, by its kind.
 #[derive(Drop)]
 pub(crate) enum FieldIndex {
     Terms(Dictionary),
@@ -58,7 +58,7 @@ impl FieldIndex {
         }
     }
 
-    /// The index of a field of this kind in the live documents of sources.
+    /// The index of a field of this kind over the live documents of sources.
     pub(crate) fn joined(
         alloc: Global,
         sources: &[LiveSegment<'_>],
@@ -88,7 +88,7 @@ impl FieldIndex {
         }
     }
 
-    /// The terms of a text or keyword field.
+    /// The dictionary of a text or keyword field.
     pub(crate) fn dictionary(&self, kind: Kind) -> &Dictionary
         requires terms { holds_numbers kind ≡ false }
         requires is { (vs : List (Option FieldValue)) × IsFieldIndex kind vs self.now }
@@ -101,7 +101,7 @@ impl FieldIndex {
         }
     }
 
-    /// The numbers of a number field in order, or the ordinals of a keyword field.
+    /// The sorted numbers of a number field, or the ordinals of a keyword field.
     pub(crate) fn ordered(&self, kind: Kind) -> SortedColumn<'_>
         requires ordered { is_ordered kind ≡ true }
         requires is { (vs : List (Option FieldValue)) × IsFieldIndex kind vs self.now }

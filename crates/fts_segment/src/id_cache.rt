@@ -1,4 +1,4 @@
-// Numbers of names where a hash of the name says: guesses, which are looked at before they count.
+// A cache of the ids of names. What a hash finds is compared with the name before it is returned.
 ghost use Rattle.std.specs.Prelude.{◌≡◌, IfSome, Some, slice_get, true};
 
 use crate::names::Names;
@@ -7,26 +7,26 @@ use std::alloc::Global;
 use std::hash::{FoldHasher, Hasher};
 use std::mem;
 
-/// In how many slots a name may be.
+/// The number of slots that a name may be in.
 const WINDOW: usize = 8;
 
-/// The number of a slot in which no name stands.
+/// The number in an empty slot.
 const EMPTY: u32 = u32::MAX;
 
-/// The number of a name, beside its hash.
+/// The number of a name, with its hash.
 #[derive(Clone, Copy)]
 struct Slot {
     hash: u32,
     number: u32,
 }
 
-/// Numbers of names. Whoever chooses names can have them crowd into the same slots, so that some find none: a name that
-/// isn't found here may still have a number.
+/// A lossy hash table from names to ids, with eight slots per hash. Chosen names can crowd each other out, so a name
+/// that isn't found may still have an id.
 #[derive(Drop)]
 pub(crate) struct IdCache {
-    /// A power of two of them, or none.
+    /// The table; its size is a power of two, or zero.
     slots: Vec<Slot>,
-    /// In how many of them a name stands.
+    /// The number of slots in use.
     taken: usize,
 }
 
@@ -38,12 +38,12 @@ impl IdCache {
         }
     }
 
-    /// Lets the slots go.
+    /// Frees the slots.
     pub(crate) fn release(self) {
         release(self.slots);
     }
 
-    /// The number of a name of this hash, if it is in one of its slots.
+    /// The id of a name with this hash, if it is in one of its slots.
     pub(crate) fn find(&self, names: &Names, hash: u32, name: &[u8]) -> Option<usize>
         ensures { IfSome result (λ number. slice_get names.now number ≡ Some name.now) }
     {
@@ -59,8 +59,8 @@ impl IdCache {
         None
     }
 
-    /// Puts the number of a name of this hash into one of its slots, if one is free. Where names are in a quarter of
-    /// the slots, it makes more of them first, as far as there is memory.
+    /// Stores the id of a name in one of the slots of its hash, if one is free. If a quarter of the slots are in use,
+    /// the table grows first, unless no memory is left.
     pub(crate) fn put(&mut self, alloc: Global, hash: u32, number: usize) {
         let Ok(number) = u32::try_from(number) else {
             return;
@@ -71,7 +71,7 @@ impl IdCache {
         self.put_into(Slot { hash, number });
     }
 
-    /// Puts all into twice as many slots.
+    /// Moves all entries to a table of twice the size.
     fn grow(&mut self, alloc: Global) {
         let size = self.slots.len().saturating_mul(2).max(64);
         let empty = Slot {
@@ -91,7 +91,7 @@ impl IdCache {
         release(before);
     }
 
-    /// Puts a number into one of its slots, if one is free.
+    /// Stores an entry in one of its slots, if one is free.
     fn put_into(&mut self, slot: Slot) {
         for step in 0..WINDOW {
             let place = self.place(slot.hash, step);
@@ -103,20 +103,20 @@ impl IdCache {
         }
     }
 
-    /// Where a name of this hash is at a step.
+    /// The index of the slot of a hash at a step of the search.
     fn place(&self, hash: u32, step: usize) -> usize {
         (hash as usize).wrapping_add(step) & self.slots.len().wrapping_sub(1)
     }
 }
 
-/// The hash by which a name is looked for.
+/// The hash of a name.
 pub(crate) fn hash_of(name: &[u8]) -> u32 {
     let mut hasher = FoldHasher::default();
     hasher.write(name);
     (hasher.finish() >> 32) as u32
 }
 
-/// Whether it is the name of this number.
+/// Whether a number is the id of a name.
 fn is_named(names: &Names, number: usize, name: &[u8]) -> bool
     ensures { result ≡ true → slice_get names.now number ≡ Some name.now }
 {

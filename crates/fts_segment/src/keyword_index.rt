@@ -1,4 +1,4 @@
-// The texts of a keyword field: a dictionary, and for each document the ordinal of its text.
+// The index of a keyword field: a dictionary, and the ordinal of each document's keyword.
 ghost use Rattle.std.specs.Prelude.{◌≡◌, ◌<◌, ◌≤◌, ◌^◌, All, IfOk, List, Option, Some, length};
 ghost use Rattle.fts_model.specs.declared.value.FieldValue.{FieldValue};
 ghost use Rattle.fts_model.specs.declared.schema.Kind.TheVariants as kinds;
@@ -20,13 +20,13 @@ use fts_pack::column::Column;
 use fts_pack::{BLOCK, Blocks};
 use std::alloc::{AllocError, Global};
 
-/// The texts of a keyword field.
+/// The index of a keyword field.
 pub(crate) struct KeywordIndex {
-    /// The different texts in order, each with its documents.
+    /// The distinct keywords in order, each with its documents.
     pub(crate) dictionary: Dictionary,
-    /// Of each document how many different texts are before its own.
+    /// Each document's ordinal: the number of distinct smaller keywords.
     pub(crate) ordinals: Column,
-    /// How many documents are in the lists before each, and in all.
+    /// For each list, the number of documents in the lists before it, followed by the total.
     pub(crate) sums: Vec<u32>,
 }
 
@@ -42,7 +42,7 @@ impl Drop for KeywordIndex {
 }
 
 impl KeywordIndex {
-    /// The texts of the documents in a keyword field.
+    /// The index of the documents in a keyword field.
     pub(crate) fn new(
         alloc: Global,
         documents: &[Stamped<Document>],
@@ -56,7 +56,7 @@ impl KeywordIndex {
         Ok(index)
     }
 
-    /// The texts of the live documents of sources in a keyword field.
+    /// The index of the live documents of sources in a keyword field.
     pub(crate) fn joined(
         alloc: Global,
         sources: &[LiveSegment<'_>],
@@ -74,7 +74,7 @@ impl KeywordIndex {
         Ok(index)
     }
 
-    /// The texts of this many documents of which the dictionary is known.
+    /// Builds the index from a finished dictionary and the number of documents.
     fn of(alloc: Global, docs: usize, dictionary: Dictionary) -> Result<KeywordIndex, AllocError>
         requires few { docs < 2 ^ 32 }
         requires terms { (vs : List (Option FieldValue)) × (length vs ≡ docs) × AreTerms kinds.Keyword vs dictionary }
@@ -95,7 +95,7 @@ impl KeywordIndex {
     }
 }
 
-/// Gives documents an ordinal.
+/// Sets the ordinal of documents.
 fn set_ordinals(ordinals: &mut [Option<u64>], documents: &[u32], ordinal: u64)
     requires { All (λ doc. doc < length ordinals.old) documents.now }
     ensures { ordinals.new ≡ with_ordinal ordinal ordinals.old documents.now }
@@ -105,7 +105,7 @@ fn set_ordinals(ordinals: &mut [Option<u64>], documents: &[u32], ordinal: u64)
     }
 }
 
-/// Gives the documents of a list an ordinal. `room` is for those of a block.
+/// Sets the ordinal of the documents of a list. `room` is a scratch buffer for a block.
 fn set_ordinals_of(
     ordinals: &mut [Option<u64>],
     list: &fts_pack::List,
@@ -122,7 +122,7 @@ fn set_ordinals_of(
     }
 }
 
-/// The ordinals of documents, each of which is in the list of its own ordinal, if it has one. No text is looked at.
+/// The ordinal of each document, derived from the dictionary's lists without looking at any text.
 fn ordinals_by(
     alloc: Global,
     lists: &[fts_pack::List],

@@ -1,4 +1,4 @@
-//! What ties what a segment finds to each other: each contract is a law, and the body is empty.
+//! Laws that tie the results of a segment to each other: each contract is a law, and the body is empty.
 ghost use Rattle.std.specs.Prelude.{◌≡◌, ◌<◌, ℕ, List, Some, length, slice_get, slice_index};
 ghost use Rattle.fts_model.specs.Documents.{DocumentValue};
 ghost use Rattle.fts_model.specs.declared.operation.Stamped.{Stamped};

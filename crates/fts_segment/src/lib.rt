@@ -1,11 +1,11 @@
-//! A segment: stored documents with their stamps, and what is looked up in them. It never changes once made.
+//! A segment: stored documents with their stamps, and their indexes. It never changes once made.
 //!
-//! A [`Builder`] takes documents one after the other and makes a [`Segment`] of them. The segment numbers its documents
-//! from 0, and finds the list of a term ([`Segment::find`]): the documents that have it ([`Segment::postings`]), and
-//! where it is in each ([`Segment::positions`], a [`PositionReader`]). Of a number field it has a column
-//! ([`Segment::column`]), and it knows how many documents have a number within bounds
-//! ([`Segment::documents_between`]). A copy of a segment shares it, so that commits, merges and searches hand segments
-//! on at the cost of one count. [`join`] makes one segment of the live documents of several, each a [`LiveSegment`].
+//! A [`Builder`] collects documents and makes a [`Segment`] of them. The segment numbers its documents from 0, and
+//! finds the list of a term ([`Segment::find`]): the documents that have it ([`Segment::postings`]), and its positions
+//! in each ([`Segment::positions`], a [`PositionReader`]). A number field has a column ([`Segment::column`]), and the
+//! documents with a number within bounds are counted without reading them ([`Segment::documents_between`]). A copy of a
+//! segment shares its data, so commits, merges and searches hand segments on at the cost of one reference count.
+//! [`join`] makes one segment of the live documents of several, each a [`LiveSegment`].
 //!
 //! ```text
 //! let mut builder = Builder::new(alloc, &schema)?;

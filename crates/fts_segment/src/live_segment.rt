@@ -1,4 +1,4 @@
-// A segment with its live bits, as a merge takes it.
+// A segment with its live bits, as a source of a merge.
 ghost use Rattle.std.specs.Prelude.{◌≡◌, length};
 ghost use Rattle.fts_segment.specs.Sources.{HasBits};
 
@@ -6,7 +6,7 @@ use crate::segment::Segment;
 use fts_pack::bits::Bits;
 use std::marker::Model;
 
-/// A segment with a bit for each of its documents, which is set if the document is live.
+/// A segment with a live bit for each of its documents.
 #[derive(Drop)]
 pub struct LiveSegment<'a> {
     segment: &'a Segment,
@@ -25,7 +25,7 @@ impl<'a> Model for LiveSegment<'a> {
 }
 
 impl<'a> LiveSegment<'a> {
-    /// The segment with these bits, of which there is one per document.
+    /// The segment with these live bits, one per document.
     pub fn new(segment: &'a Segment, live: &'a Bits) -> LiveSegment<'a>
         requires { length live.now ≡ length segment.now.documents }
         ensures { result ≡ record { segment = segment.now; live = live.now } }
@@ -41,7 +41,7 @@ impl<'a> LiveSegment<'a> {
         self.segment
     }
 
-    /// The bits of its documents.
+    /// The live bits of the documents.
     pub fn live(&self) -> &'a Bits
         ensures live { result.now ≡ self.now.live }
         ensures bits { HasBits self.now }

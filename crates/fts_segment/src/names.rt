@@ -1,4 +1,4 @@
-// Names, one after the other in one buffer of bytes.
+// Names, concatenated in one buffer of bytes.
 ghost use Rattle.std.specs.Prelude.{◌≡◌, ◌<◌, ◌++◌, ◌∷◌, [], length, IfOk, OnOk, OnErr, slice_index_or};
 ghost use Rattle.std.specs.Ordering.{nat_cmp};
 ghost use Rattle.std.specs.Cmp.Lexicographic.{slice_cmp};
@@ -10,12 +10,12 @@ use std::alloc::{AllocError, Global};
 use std::cmp::Ordering;
 use std::marker::Model;
 
-/// A list of byte strings. Contracts see it as the list of their bytes.
+/// A list of byte strings. Contracts see the list of their bytes.
 pub(crate) struct Names {
     bytes: Vec<u8>,
-    /// Where each name ends.
+    /// The index after the last byte of each name.
     ends: Vec<usize>,
-    /// The head of each name, so that a search by halving reads one number a step.
+    /// The head of each name, so that a binary search reads one number per step.
     heads: Vec<u64>,
 }
 
@@ -41,7 +41,7 @@ impl Drop for Names {
     }
 }
 
-/// The head of a name: its first eight bytes as one number. Names with different heads are in the order of these.
+/// The first eight bytes of a name, big-endian and zero-padded. Distinct heads compare like their names.
 fn head_of(name: &[u8]) -> u64
     ensures { IsHead result name.now }
 {
@@ -53,7 +53,7 @@ fn head_of(name: &[u8]) -> u64
     head
 }
 
-/// A name with its head, so that most comparisons with others look at one number each. Contracts see its bytes.
+/// A name with its head, so that most comparisons look at one number each. Contracts see its bytes.
 #[derive(Drop)]
 pub(crate) struct Name<'a> {
     bytes: &'a [u8],
@@ -72,7 +72,7 @@ impl<'a> Model for Name<'a> {
 }
 
 impl<'a> Name<'a> {
-    /// The name of these bytes.
+    /// A name of these bytes.
     pub(crate) fn new(bytes: &'a [u8]) -> Name<'a>
         ensures { result ≡ bytes.now }
     {
@@ -80,7 +80,7 @@ impl<'a> Name<'a> {
         Name { bytes, head }
     }
 
-    /// The same name.
+    /// A copy of this reference.
     pub(crate) fn again(&self) -> Name<'a>
         ensures { result ≡ self.now }
     {
@@ -90,7 +90,7 @@ impl<'a> Name<'a> {
         }
     }
 
-    /// The order of this name and another. Only if the heads are equal the bytes are compared.
+    /// The order of this name and another. The bytes are compared only if the heads are equal.
     pub(crate) fn compare(&self, other: &Name<'_>) -> Ordering
         ensures { result ≡ slice_cmp nat_cmp self.now other.now }
     {
@@ -100,7 +100,7 @@ impl<'a> Name<'a> {
         }
     }
 
-    /// Whether another name is the same. Only if the heads are equal the bytes are compared.
+    /// Whether another name is equal. The bytes are compared only if the heads are equal.
     pub(crate) fn is(&self, other: &Name<'_>) -> bool
         ensures { result ≡ bytes_eq self.now other.now }
     {
@@ -109,7 +109,7 @@ impl<'a> Name<'a> {
 }
 
 impl Names {
-    /// No names.
+    /// An empty list.
     pub(crate) fn new(alloc: Global) -> Names
         ensures { result ≡ [] }
     {
@@ -120,7 +120,7 @@ impl Names {
         }
     }
 
-    /// No names, with room for this many.
+    /// An empty list with capacity for this many names.
     pub(crate) fn with_capacity(alloc: Global, names: usize) -> Result<Names, AllocError>
         ensures { IfOk result (λ names. names ≡ []) }
     {
@@ -131,14 +131,14 @@ impl Names {
         })
     }
 
-    /// How many names there are.
+    /// The number of names.
     pub(crate) fn len(&self) -> usize
         ensures { result ≡ length self.now }
     {
         self.ends.len()
     }
 
-    /// The name of this number, and no bytes if there is none.
+    /// The name of this number, or no bytes if there is none.
     pub(crate) fn get(&self, number: usize) -> &[u8]
         ensures { result.now ≡ slice_index_or self.now number [] }
     {
@@ -156,7 +156,7 @@ impl Names {
         }
     }
 
-    /// The order of the name of this number and of another. Only if the heads are equal the bytes are looked up.
+    /// The order of the name of this number and another. The bytes are read only if the heads are equal.
     pub(crate) fn compare(&self, number: usize, name: &Name<'_>) -> Ordering
         requires { number < length self.now }
         ensures { result ≡ slice_cmp nat_cmp (slice_index_or self.now number []) name.now }
@@ -167,7 +167,7 @@ impl Names {
         }
     }
 
-    /// Puts a name after the others.
+    /// Appends a name.
     pub(crate) fn push(&mut self, name: &Name<'_>) -> Result<(), AllocError>
         ensures ok { OnOk result (self.new ≡ self.old ++ name.now ∷ []) }
         ensures err { OnErr result (self.new ≡ self.old) }
@@ -183,7 +183,7 @@ impl Names {
         Ok(())
     }
 
-    /// Gives back the room for further names.
+    /// Frees unused capacity.
     pub(crate) fn shrink_to_fit(&mut self)
         ensures { self.new ≡ self.old }
     {

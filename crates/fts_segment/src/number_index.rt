@@ -1,4 +1,4 @@
-// The numbers of a field: a column, and for each number the documents that have it.
+// The index of a number field: a column, and the documents of each number.
 ghost use Rattle.std.specs.Prelude.{◌≡◌, ℕ, ◌<◌, ◌≤◌, ◌^◌, ◌++◌, ◌∷◌, [], Some, length, map, All, Contains, IfOk};
 ghost use Rattle.std.specs.Prelude.{IfSome, OnOk, option_copied, slice_get, slice_index, slice_index_or, MatchOption};
 ghost use Rattle.std.specs.List.Sorted.{IsStrictlyIncreasing};
@@ -24,14 +24,14 @@ use fts_pack::bits::i64_to_u64;
 use fts_pack::column::Column;
 use std::alloc::{AllocError, Global};
 
-/// The numbers of a field.
+/// The index of a number field.
 pub(crate) struct NumberIndex {
     pub(crate) column: Column,
-    /// The different numbers, rising.
+    /// The distinct numbers, rising.
     pub(crate) numbers: Vec<u64>,
-    /// The documents of each.
+    /// The documents of each number.
     pub(crate) lists: Vec<List>,
-    /// How many documents are in the lists before each, and in all.
+    /// For each list, the number of documents in the lists before it, followed by the total.
     pub(crate) sums: Vec<u32>,
 }
 
@@ -105,7 +105,7 @@ impl NumberIndex {
     }
 }
 
-/// The number that a value is in a field of this kind, as a column keeps it.
+/// The number of a value in a field of this kind, as a column stores it.
 pub(crate) fn number_in(kind: Kind, value: Option<&FieldValue>) -> Option<u64>
     ensures number { result ≡ number_of kind (option_copied value.entry) }
     ensures fits { IfSome value.entry (λ v. Fits64 kind v.now) }
@@ -142,7 +142,7 @@ fn numbers_of(
     Ok(numbers)
 }
 
-/// Puts a number, if there is one, after the others.
+/// Appends a number, if there is one.
 fn push_present(numbers: &mut Vec<u64>, value: Option<u64>) -> Result<(), AllocError>
     ensures { OnOk result (numbers.new.items ≡ numbers.old.items ++ present (value ∷ [])) }
 {
@@ -152,7 +152,7 @@ fn push_present(numbers: &mut Vec<u64>, value: Option<u64>) -> Result<(), AllocE
     Ok(())
 }
 
-/// The different numbers, rising.
+/// The distinct numbers, rising.
 fn different(alloc: Global, values: &[Option<u64>]) -> Result<Vec<u64>, AllocError>
     ensures rises { IfOk result (λ v. IsStrictlyIncreasing v.items) }
     ensures occur { IfOk result (λ v. All (λ x. Contains values.now (Some x)) v.items) }
@@ -168,7 +168,7 @@ fn different(alloc: Global, values: &[Option<u64>]) -> Result<Vec<u64>, AllocErr
     Ok(numbers)
 }
 
-/// Puts a document's number after the others, by its index among the different ones.
+/// Appends a document's number, by its index among the distinct numbers.
 fn push_number(
     log: &mut Vec<Occurrence>,
     numbers: &[u64],
@@ -185,7 +185,7 @@ fn push_number(
     let Some(term) = find_number(numbers, number) else {
         return Ok(());
     };
-    // It fits: there are no more different numbers than documents.
+    // It fits: there are no more distinct numbers than documents.
     let Ok(term) = u32::try_from(term) else {
         return Err(AllocError);
     };
@@ -197,7 +197,7 @@ fn push_number(
     Ok(())
 }
 
-/// The numbers of documents, each by its index among the different ones.
+/// The numbers of documents, each by its index among the distinct numbers.
 fn logged(
     alloc: Global,
     values: &[Option<u64>],
@@ -219,7 +219,7 @@ fn logged(
     Ok(log)
 }
 
-/// The documents of the groups, each once.
+/// The documents of each group, without duplicates.
 fn lists_of(alloc: Global, groups: &TermGroups, count: usize) -> Result<Vec<List>, AllocError>
     requires count { length groups.now ≡ count }
     requires rise { All (λ places. IsStrictlyIncreasing (docs_in places)) groups.now }

@@ -1,4 +1,4 @@
-// Packed lists of positions that are moved to a log in stretches.
+// Copies packed lists of positions to a log, several lists at a time.
 ghost use Rattle.std.specs.Prelude.{◌≡◌, ◌^◌, ◌<◌, ◌≤◌, All, length, sum, take};
 ghost use Rattle.fts_segment.specs.PositionLists.{position_lists_at};
 
@@ -7,14 +7,14 @@ use crate::position_lists::{PositionListLog, total};
 use fts_pack::PackedNumbers;
 use std::alloc::AllocError;
 
-/// Packed lists of positions, of which a part lies unpacked.
+/// A reader of packed position lists that holds one block of counts and one of gaps unpacked.
 #[derive(Drop)]
 pub(crate) struct PositionCopier<'a> {
     pub(crate) counts: BlockReader<'a>,
     pub(crate) gaps: BlockReader<'a>,
-    /// A list, best the next that is moved.
+    /// The index of the current list. Copying is fast if the next list is at or after it.
     list: usize,
-    /// Where its positions begin.
+    /// The index of the list's first position.
     start: usize,
     ghost whole: { sum counts.numbers.now ≡ length gaps.numbers.now },
     ghost fit: { All (λ list. All (λ p. p < 2 ^ 32) list) (position_lists_at counts.numbers.now gaps.numbers.now) },
@@ -27,7 +27,7 @@ impl<'a> PositionCopier<'a> {
     ghost use Rattle.fts_segment.specs.PositionListLogs.{IsPositionListLog, logged_position_lists};
     ghost use Rattle.fts_segment.specs.PositionCopiers.{lists_in};
 
-    /// The lists of this many positions each, with these differences.
+    /// A reader of the lists with these counts of positions and these gaps.
     pub(crate) fn new(counts: &'a PackedNumbers, gaps: &'a PackedNumbers) -> PositionCopier<'a>
         requires whole { sum counts.now ≡ length gaps.now }
         requires fit { All (λ list. All (λ p. p < 2 ^ 32) list) (position_lists_at counts.now gaps.now) }
@@ -41,7 +41,7 @@ impl<'a> PositionCopier<'a> {
         }
     }
 
-    /// Goes back to the first list, where the list that is looked for is before the one at hand.
+    /// Goes back to the first list, if `list` is before the current one.
     fn go_back(&mut self, list: usize)
         ensures counts { self.new.counts.numbers.now ≡ self.old.counts.numbers.now }
         ensures gaps { self.new.gaps.numbers.now ≡ self.old.gaps.numbers.now }
@@ -53,7 +53,7 @@ impl<'a> PositionCopier<'a> {
         }
     }
 
-    /// Goes on to a list.
+    /// Goes to a list.
     fn seek(&mut self, list: usize)
         requires { list ≤ length self.old.counts.numbers.now }
         ensures counts { self.new.counts.numbers.now ≡ self.old.counts.numbers.now }
@@ -67,7 +67,7 @@ impl<'a> PositionCopier<'a> {
         }
     }
 
-    /// Puts the lists from `start` to `end`, or to the last, after those of a log.
+    /// Appends the lists from `start` to `end`, or to the last, to a log.
     pub(crate) fn move_lists(
         &mut self,
         start: usize,

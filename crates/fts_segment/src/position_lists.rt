@@ -1,4 +1,4 @@
-// Lists of positions, packed: how many each has, and of each the first position and then differences less 1.
+// Packed lists of positions: the number of positions of each list, and its gaps.
 ghost use Rattle.std.specs.Prelude.{◌≡◌, ◌+◌, ◌*◌, ◌<◌, ◌≤◌, ◌++◌, ◌∷◌, ◌^◌, [], ℕ, IfOk, OnOk, Some};
 ghost use Rattle.std.specs.Prelude.{length, slice_index, slice_index_or, sum, take};
 ghost use Rattle.fts_pack.specs.Documents.{block_count};
@@ -15,16 +15,16 @@ use fts_pack::{BLOCK, PackedNumbers, push_gaps};
 use std::alloc::{AllocError, Global};
 use std::marker::Model;
 
-/// The positions of postings, a list for each. Contracts see the list of these lists.
+/// The positions of postings, one list for each posting. Contracts see the list of these lists.
 ///
-/// A list is found by the counts of the 128 lists of its block, which are added up once, as long as lists of this block
-/// are asked for ([`BlockBounds`]). No position of another list is unpacked.
+/// A list is found by the counts of the 128 lists of its block. They are summed once while lists of the same block are
+/// read ([`BlockBounds`]). No position of another list is unpacked.
 pub(crate) struct PositionLists {
-    /// How many positions each list has.
+    /// The number of positions of each list.
     counts: PackedNumbers,
-    /// Where the positions of the first of each 128 lists begin.
+    /// For each block of 128 lists, the index of its first position.
     starts: Vec<usize>,
-    /// Of each list its first position, and then how far each one is above the one before, less 1.
+    /// The gaps of every list, concatenated: each list's first position, then differences less 1.
     gaps: PackedNumbers,
 }
 
@@ -67,19 +67,19 @@ impl PositionLists {
         })
     }
 
-    /// How many positions there are.
+    /// The number of positions.
     pub(crate) fn positions(&self) -> usize {
         self.gaps.len()
     }
 
-    /// The lists, as they are moved to a log.
+    /// A reader that copies whole stretches of lists to a log.
     pub(crate) fn unpacked(&self) -> PositionCopier<'_>
         ensures { lists_in result ≡ self.now }
     {
         PositionCopier::new(&self.counts, &self.gaps)
     }
 
-    /// The list of this number, and no positions if there is none.
+    /// The list of this number, or no positions if there is none.
     #[inline(always)]
     pub(crate) fn get(&self, number: usize, bounds: &mut BlockBounds) -> Positions<'_>
         requires bounds { AreBounds self.now bounds.old }
@@ -94,7 +94,7 @@ impl PositionLists {
         Positions::between(&self.gaps, bounds.at[index], bounds.at[index + 1])
     }
 
-    /// Looks where the lists of a block begin and end, unless that is the block that was looked at last.
+    /// Computes the bounds of a block's lists, unless they are those of the last block.
     fn enter(&self, block: usize, bounds: &mut BlockBounds)
         requires within { block < block_count (length self.now) }
         requires bounds { AreBounds self.now bounds.old }
@@ -111,7 +111,7 @@ impl PositionLists {
     }
 }
 
-/// Packs numbers, and lets the buffer go that had them.
+/// Packs numbers, and frees their buffer.
 fn packed(alloc: Global, numbers: Vec<u32>) -> Result<PackedNumbers, AllocError>
     ensures { IfOk result (λ packed. packed ≡ numbers.items) }
 {
@@ -122,7 +122,7 @@ fn packed(alloc: Global, numbers: Vec<u32>) -> Result<PackedNumbers, AllocError>
     Ok(packed)
 }
 
-/// Writes a number, and after it its sums with the first count, with the first two, and so on.
+/// Writes `start`, and then its sums with the first count, with the first two, and so on.
 fn add_up(start: usize, counts: &[u32], out: &mut [usize; 129])
     requires few { length counts.now ≤ 128 }
     requires fits { start + sum counts.now < 2 ^ 64 }
@@ -137,12 +137,12 @@ fn add_up(start: usize, counts: &[u32], out: &mut [usize; 129])
     }
 }
 
-/// Where the lists of a block begin and end among the differences, if one was looked at.
+/// The bounds of a block's lists among the gaps, if a block was looked up.
 #[derive(Drop)]
 pub(crate) struct BlockBounds {
-    /// Which block it is.
+    /// The number of the block.
     pub(crate) block: Option<usize>,
-    /// Where each list of the block begins, and after these where the last one ends.
+    /// The index at which each list of the block begins, and after these the index at which the last one ends.
     pub(crate) at: [usize; 129],
 }
 
@@ -150,7 +150,7 @@ impl BlockBounds {
     ghost use Rattle.std.specs.Prelude.{List, ℕ};
     ghost use Rattle.fts_segment.specs.PositionListBounds.{AreBounds};
 
-    /// Of no block.
+    /// No block has been looked up yet.
     pub(crate) fn new() -> BlockBounds
         ensures { (lists : List (List ℕ)) → AreBounds lists result }
     {
@@ -161,7 +161,7 @@ impl BlockBounds {
     }
 }
 
-/// How many positions lists of these counts have.
+/// The sum of the counts.
 pub(crate) fn total(counts: &[u32]) -> usize
     requires { sum counts.now < 2 ^ 64 }
     ensures { result ≡ sum counts.now }
@@ -173,7 +173,7 @@ pub(crate) fn total(counts: &[u32]) -> usize
     total
 }
 
-/// Where the positions of the first of each 128 lists begin.
+/// For each block of 128 lists, the index of its first position.
 fn starts_of(alloc: Global, counts: &[u32]) -> Result<Vec<usize>, AllocError>
     requires { sum counts.now < 2 ^ 64 }
     ensures many { IfOk result (λ starts. length starts.items ≡ block_count (length counts.now)) }
@@ -192,7 +192,7 @@ fn starts_of(alloc: Global, counts: &[u32]) -> Result<Vec<usize>, AllocError>
     Ok(starts)
 }
 
-/// Lists of positions as they come, as they are to be packed.
+/// Lists of positions that are collected before they are packed.
 #[derive(Drop)]
 pub(crate) struct PositionListLog {
     pub(crate) counts: Vec<u32>,
@@ -204,7 +204,7 @@ impl PositionListLog {
     ghost use Rattle.fts_segment.specs.PositionLists.{IsPositionList};
     ghost use Rattle.fts_segment.specs.PositionListLogs.{IsPositionListLog, logged_position_lists};
 
-    /// No lists, with room for this many positions.
+    /// An empty log with capacity for this many positions.
     pub(crate) fn with_capacity(
         alloc: Global,
         positions: usize,
@@ -218,14 +218,14 @@ impl PositionListLog {
         })
     }
 
-    /// How many lists there are.
+    /// The number of lists.
     pub(crate) fn len(&self) -> usize
         ensures { result ≡ length (logged_position_lists self.now) }
     {
         self.counts.len()
     }
 
-    /// Puts a list after the others.
+    /// Appends a list.
     pub(crate) fn push(&mut self, list: &[u32]) -> Result<(), AllocError>
         requires is { IsPositionListLog self.old }
         requires list { IsPositionList list.now }

@@ -8,9 +8,9 @@ use crate::positions::Positions;
 use crate::term_positions::TermPositionLists;
 use std::marker::Model;
 
-/// The positions of a term, a list for each of its postings. Contracts see the list of these.
+/// The positions of a term, one list for each of its postings. Contracts see the list of these.
 ///
-/// Where the positions of 128 documents lie is kept, so that it is best asked for postings in rising order.
+/// The bounds of the last block of 128 lists are cached, so reading postings in rising order is fastest.
 #[derive(Drop)]
 pub struct PositionReader<'a> {
     term: Option<TermPositionLists<'a>>,
@@ -42,7 +42,7 @@ impl<'a> PositionReader<'a> {
         }
     }
 
-    /// The positions in the document of a posting, and none if there is no such posting.
+    /// The positions in the document of a posting, or none if there is no such posting.
     #[inline(always)]
     pub fn get(&mut self, posting: usize) -> Positions<'a>
         ensures positions { positions_left result ≡ slice_index_or self.old posting [] }

@@ -1,4 +1,4 @@
-// The positions of a term in a document, read from their differences one after the other.
+// Iterates over the positions of a term in a document, decoding their gaps.
 ghost use Rattle.std.specs.Prelude.{◌≤◌, ◌<◌, ◌^◌, All, length, slice_range};
 ghost use Rattle.fts_pack.specs.Documents.{documents_at};
 ghost use Rattle.fts_segment.specs.PositionLists.{numbers_behind};
@@ -8,7 +8,7 @@ use fts_pack::PackedNumbers;
 /// The positions of a term in a document, rising.
 #[derive(Drop)]
 pub struct Positions<'a> {
-    /// Where the differences lie, if there are any.
+    /// The gaps, if there are any.
     gaps: Option<&'a PackedNumbers>,
     at: usize,
     end: usize,
@@ -24,7 +24,7 @@ impl<'a> Positions<'a> {
     ghost use Rattle.fts_pack.specs.Documents.{documents_at};
     ghost use Rattle.fts_segment.specs.PositionsLeft.{positions_left};
 
-    /// None.
+    /// An iterator without a position.
     pub(crate) fn none() -> Positions<'a>
         ensures { positions_left result ≡ [] }
     {
@@ -36,7 +36,7 @@ impl<'a> Positions<'a> {
         }
     }
 
-    /// Those whose differences these numbers are.
+    /// Iterates over the positions encoded by `gaps[start..end]`.
     #[inline(always)]
     pub(crate) fn between(gaps: &'a PackedNumbers, start: usize, end: usize) -> Positions<'a>
         requires within { end ≤ length gaps.now }

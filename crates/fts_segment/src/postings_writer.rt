@@ -1,4 +1,4 @@
-// Writes the postings of terms in their order: of each the documents, and its positions in them.
+// Writes the postings of terms in their order: the documents of each term, and its positions in them.
 ghost use Rattle.std.specs.Prelude.{◌≡◌, ◌++◌, OnOk, IfOk, All, length, map};
 ghost use Rattle.std.specs.List.Sorted.{IsStrictlyIncreasing};
 ghost use Rattle.fts_segment.specs.Dictionaries.{docs_in, unless_none, names_listed, listed_by};
@@ -13,7 +13,7 @@ use crate::term_positions::{PositionLog, TermPositions};
 use fts_base::release;
 use std::alloc::{AllocError, Global};
 
-/// Terms with their lists, and their positions as they are to be packed.
+/// Terms with their lists, and their positions before they are packed.
 #[derive(Drop)]
 pub(crate) struct PostingsWriter {
     pub(crate) names: Names,
@@ -21,7 +21,7 @@ pub(crate) struct PostingsWriter {
     pub(crate) positions: PositionLog,
 }
 
-/// Makes `docs` the documents of places, each once.
+/// Sets `docs` to the documents of places, without duplicates.
 pub(crate) fn set_docs(docs: &mut Vec<u32>, places: &[DocPosition]) -> Result<(), AllocError>
     ensures { OnOk result (docs.new.items ≡ docs_in places.now) }
 {
@@ -44,7 +44,7 @@ impl PostingsWriter {
     ghost use Rattle.fts_segment.specs.PositionLogs.{HasTerm, IsPositionLog, logged_term_position_lists};
     ghost use Rattle.fts_segment.specs.TermPositionLists.{term_position_lists};
 
-    /// No term, with room for this many terms and this many positions in all.
+    /// An empty writer with capacity for this many terms and positions.
     pub(crate) fn with_capacity(
         alloc: Global,
         terms: usize,
@@ -62,7 +62,7 @@ impl PostingsWriter {
         })
     }
 
-    /// Puts a term after the others, with the documents of its places. `room` is for the numbers of one of them.
+    /// Appends a term with the documents of its places. `room` is a scratch buffer for the documents.
     fn push(
         &mut self,
         alloc: Global,
@@ -89,7 +89,7 @@ impl PostingsWriter {
         self.positions.push(room, places)
     }
 
-    /// Puts a term after the others, that has these documents and whose positions were put after those of the others.
+    /// Appends a term with these documents; its positions are already in the log.
     pub(crate) fn end_term(
         &mut self,
         alloc: Global,
@@ -139,7 +139,7 @@ impl PostingsWriter {
     }
 }
 
-/// Puts a term after the others, if it has a place.
+/// Appends a term, if it has a place.
 pub(crate) fn put(
     writer: &mut PostingsWriter,
     alloc: Global,
@@ -165,7 +165,7 @@ pub(crate) fn put(
     }
 }
 
-/// Writes names, each with the places of its group, and leaves out those without a place.
+/// Writes each name that has a place, with the places of its group.
 pub(crate) fn write_terms(
     alloc: Global,
     names: &[&[u8]],

@@ -1,4 +1,4 @@
-// Documents that never change, with the terms that they have.
+// A segment: documents that never change, with their terms.
 ghost use Rattle.std.specs.Prelude.{◌≡◌, ◌≢◌, ◌^◌, ◌<◌, ◌≤◌, [], length, slice_get, option_copied, option_map, Some};
 ghost use Rattle.std.specs.Prelude.{All, IfNone, IfSome, true, false};
 ghost use Rattle.std.specs.Option.{option_map_or};
@@ -30,14 +30,14 @@ use std::alloc::AllocError;
 use std::marker::Model;
 use std::sync::Arc;
 
-/// The list of a term that a segment has.
+/// A reference to the list of a term of a segment.
 #[derive(Clone, Copy)]
 pub struct ListId<'a> {
     pub(crate) list: &'a List,
     pub(crate) positions: Option<TermPositionLists<'a>>,
 }
 
-/// What a segment shares with its copies.
+/// The data that copies of a segment share.
 pub(crate) struct SegmentData {
     pub(crate) schema: Schema,
     pub(crate) documents: Vec<Stamped<Document>>,
@@ -56,7 +56,7 @@ impl Drop for SegmentData {
 }
 
 impl SegmentData {
-    /// The schema and the documents alone.
+    /// Takes out the schema and the documents.
     pub(crate) fn into_documents(self) -> (Schema, Vec<Stamped<Document>>)
         ensures schema { result.0 ≡ self.schema }
         ensures documents { result.1.items ≡ self.documents.items }
@@ -70,7 +70,7 @@ impl SegmentData {
     }
 }
 
-/// Documents with their stamps, numbered from 0. Contracts see its schema and the documents. A copy shares them.
+/// Documents with their stamps, numbered from 0. Contracts see the schema and the documents. A copy shares the data.
 #[derive(Drop)]
 pub struct Segment {
     pub(crate) stored: Arc<SegmentData>,
@@ -96,7 +96,7 @@ impl Segment {
         &self.stored.schema
     }
 
-    /// How many documents there are. Each fits the schema, and each of its values is one that its own field can have.
+    /// The number of documents. Each fits the schema, and each of its values is one that its own field can have.
     pub fn docs(&self) -> usize
         ensures len { result ≡ length self.now.documents }
         ensures few { result ≤ 2 ^ 32 }
@@ -122,7 +122,7 @@ impl Segment {
         &self.stored.documents[doc].value
     }
 
-    /// The list of a term, and none where no document has the term.
+    /// The list of a term, or `None` if no document has the term.
     pub fn find(&self, term: &Term) -> Option<ListId<'_>>
         ensures none { IfNone result (postings self.now term.now ≡ []) }
         ensures some { IfSome result (λ list. documents_in list ≢ []) }
@@ -143,15 +143,16 @@ impl Segment {
     }
 
     /// The positions of a term in the documents of its postings, counted from 0: those of its tokens in a text, and 0
-    /// of a keyword. A number has none.
+    /// for a keyword. A number has none.
     pub fn positions<'a>(&self, list: ListId<'a>) -> PositionReader<'a>
         ensures { result ≡ positions_in list.entry }
     {
         PositionReader::new(list.positions)
     }
 
-    /// The numbers of the documents in a number field, where an `i64` is the `u64` in its place; or the ordinals of the
-    /// documents in a keyword field: how many of the segment's different texts of the field are before each one's own.
+    /// The column of a field. For a number field it has the documents' numbers, an `i64` as the `u64` that `i64_to_u64`
+    /// gives; for a keyword field it has the documents' ordinals, each the number of the segment's distinct smaller
+    /// keywords.
     pub fn column(&self, field: usize) -> &Column
         requires { is_ordered_field self.now.schema field ≡ true }
         ensures numbers { is_number_field self.now.schema field ≡ true → result.now ≡ column self.now field }
@@ -162,9 +163,8 @@ impl Segment {
         self.ordered(field).column
     }
 
-    /// The lists of the documents with a number between two, these included, in the column of a number or keyword
-    /// field: one for each different number that documents have there, none of them empty, so a document is in one
-    /// at most.
+    /// The lists of the documents whose number or ordinal lies in `low..=high`, one for each distinct number or ordinal
+    /// that a document has. No list is empty, and no document is in two lists.
     pub fn lists_between(&self, field: usize, low: u64, high: u64) -> &[List]
         requires { is_ordered_field self.now.schema field ≡ true }
         ensures numbers { is_number_field self.now.schema field ≡ true
@@ -175,8 +175,7 @@ impl Segment {
         self.ordered(field).lists_between(low, high)
     }
 
-    /// How many documents have a number between two, these included, in the column of a number or keyword field: as
-    /// many as the lists of `lists_between` have together. No list is looked at.
+    /// The number of documents whose number or ordinal lies in `low..=high`. O(log n): no list is read.
     pub fn documents_between(&self, field: usize, low: u64, high: u64) -> usize
         requires { is_ordered_field self.now.schema field ≡ true }
         ensures numbers { is_number_field self.now.schema field ≡ true
@@ -187,7 +186,7 @@ impl Segment {
         self.ordered(field).documents_between(low, high)
     }
 
-    /// The numbers of a number field in order, or the ordinals of a keyword field.
+    /// The sorted numbers of a number field, or the ordinals of a keyword field.
     fn ordered(&self, field: usize) -> SortedColumn<'_>
         requires { is_ordered_field self.now.schema field ≡ true }
         ensures is { IsOrdered (column_in self.now field) result }
@@ -198,7 +197,7 @@ impl Segment {
         stored.indexes[field].ordered(stored.schema.kind(field))
     }
 
-    /// The terms of the documents in a text or keyword field.
+    /// The dictionary of a text or keyword field.
     pub(crate) fn dictionary(&self, field: usize) -> &Dictionary
         requires { option_map_or holds_numbers (kind_at self.now.schema field) true ≡ false }
         ensures { (kind : Kind) → kind_at self.now.schema field ≡ Some kind
@@ -208,8 +207,7 @@ impl Segment {
         stored.indexes[field].dictionary(stored.schema.kind(field))
     }
 
-    /// The keyword of this ordinal in a keyword field: the one before which this many different ones of the segment
-    /// stand. None if there are not this many. Nothing is copied.
+    /// The keyword of an ordinal, borrowed from a document that has it; none past the last ordinal.
     pub fn keyword(&self, field: usize, ordinal: u64) -> Option<&str>
         requires { kind_at self.now.schema field ≡ Some kinds.Keyword }
         ensures { option_copied result ≡ slice_get (keywords self.now field) ordinal }
@@ -218,8 +216,8 @@ impl Segment {
         text_of(self.document(doc as usize).value(field)?)
     }
 
-    /// Between which ordinals of a keyword field a text stands: how many of the segment's different texts of the field
-    /// are before it, and how many aren't after it. The two are equal where no document has the text.
+    /// The ordinals around a text: the number of the segment's distinct keywords of the field before it, and the number
+    /// of those not after it. The two are equal if no document has the text.
     pub fn equal_range(&self, field: usize, text: &str) -> (u64, u64)
         requires { kind_at self.now.schema field ≡ Some kinds.Keyword }
         ensures before { result.0 ≡ before (keywords self.now field) text.now }
@@ -240,7 +238,7 @@ impl Clone for Segment {
     }
 }
 
-/// The text that a value is, if it is one.
+/// The text of a value, if it is one.
 fn text_of(value: &FieldValue) -> Option<&str>
     ensures { option_copied result ≡ text_in_value value.now }
 {

@@ -1,4 +1,4 @@
-// Makes one segment of the live documents of several, by joining what these have.
+// Makes one segment of the live documents of several, by merging their indexes.
 ghost use Rattle.std.specs.Prelude.{◌≡◌, ◌<◌, ◌≤◌, ◌^◌, ◌++◌, ◌∷◌, [], Bool, All, Some, IfErr, IfOk};
 ghost use Rattle.std.specs.Prelude.{OnOk, length, replicate, slice_get, true, if◌then◌else◌};
 ghost use Rattle.fts_base.specs.declared.refusal.Refusal.TheVariants.{Memory};
@@ -18,7 +18,7 @@ use fts_pack::bits::Bits;
 use std::alloc::{AllocError, Global};
 use std::sync::Arc;
 
-/// Takes a document if it is live.
+/// Appends a document if it is live.
 fn take_document(
     documents: &mut Vec<Stamped<Document>>,
     segment: &Segment,
@@ -41,7 +41,7 @@ fn take_document(
     Ok(())
 }
 
-/// Takes the live documents of a source.
+/// Appends the live documents of a source.
 fn take_live(documents: &mut Vec<Stamped<Document>>, source: &LiveSegment<'_>) -> Result<(), AllocError>
     ensures documents { OnOk result (documents.new.items
         ≡ documents.old.items ++ content_of source.now.segment source.now.live) }
@@ -113,7 +113,7 @@ fn joined(alloc: Global, sources: &[LiveSegment<'_>]) -> Result<Segment, AllocEr
     }
 }
 
-/// Whether sources have this many documents at most.
+/// Whether sources have at most `most` documents.
 fn are_few(sources: &[LiveSegment<'_>], most: usize) -> bool {
     let mut room = most;
     for source in sources {
@@ -149,7 +149,7 @@ fn joined_both(
     Ok(segment)
 }
 
-/// Bits of a segment's documents, all set.
+/// Live bits of a segment's documents, all set.
 fn all_live(alloc: Global, segment: &Segment) -> Result<Bits, AllocError>
     ensures { IfOk result (λ live. live ≡ replicate (length segment.now.documents) true) }
 {
@@ -159,11 +159,12 @@ fn all_live(alloc: Global, segment: &Segment) -> Result<Bits, AllocError>
     }
 }
 
-/// How many segments are joined at once: the next terms of all of them are compared to find the first.
+/// The greatest number of segments that are joined at once: the next terms of all of them are compared to find the
+/// first.
 const MOST_AT_ONCE: usize = 16;
 
-/// One segment of the live documents of sources. Where they are many, each half is joined before, so that a term is
-/// compared with those of few others.
+/// One segment of the live documents of sources. If there are more than 16, each half is joined first, so that a term
+/// is compared with few others.
 fn joined_by_halves(alloc: Global, sources: &[LiveSegment<'_>]) -> Result<Segment, AllocError>
     requires some { 0 < length sources.now }
     requires schemas { AreOfOneSchema sources.now }
@@ -183,7 +184,7 @@ fn joined_by_halves(alloc: Global, sources: &[LiveSegment<'_>]) -> Result<Segmen
     Ok(segment)
 }
 
-/// One segment of the live documents of a source and of others after it, where the others are joined before.
+/// One segment of the live documents of a source and of others after it; the others are joined first.
 fn joined_in_turn(
     alloc: Global,
     first: &LiveSegment<'_>,
@@ -200,9 +201,9 @@ fn joined_in_turn(
     Ok(segment)
 }
 
-/// One segment of the live documents of sources, of which there is at least one and all have one schema. The documents
-/// are in the order of the sources, and those of a source in the order of their numbers. They are handles, and the
-/// terms in them are joined of those of the sources: no text is read again.
+/// One segment of the live documents of one or more sources that have the same schema. The documents are in the order
+/// of the sources, and those of a source in the order of their numbers. They are handles, and their terms are merged
+/// from the sources' dictionaries: no text is read again.
 pub fn join(alloc: Global, sources: &[LiveSegment<'_>]) -> Result<Segment, Refusal>
     requires some { 0 < length sources.now }
     requires schemas { AreOfOneSchema sources.now }
@@ -210,7 +211,7 @@ pub fn join(alloc: Global, sources: &[LiveSegment<'_>]) -> Result<Segment, Refus
     ensures ok { IfOk result (λ segment. segment ≡ joined_segment sources.now) }
     ensures memory { IfErr result (λ e. e ≡ Memory) }
 {
-    // The terms of a large segment are compared with those of one more, and not with those of each small one.
+    // The terms of a large segment are compared with those of one other, and not with those of each small one.
     if let [first, others @ ..] = sources
         && others.len() > 1
         && are_few(others, first.segment().docs() / 8)

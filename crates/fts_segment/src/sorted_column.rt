@@ -1,5 +1,5 @@
-// The numbers of a field in order: a column, and for each different number the documents that have it. The numbers of a
-// keyword field are the ordinals of its texts.
+// The sorted numbers of a field: a column, and the documents of each distinct number. The numbers of a keyword field
+// are the ordinals of its keywords.
 ghost use Rattle.std.specs.Prelude.{◌≡◌, ◌+◌};
 ghost use Rattle.fts_segment.specs.Between.{AreBetween, IsCut, NumberColumn, count_between};
 ghost use Rattle.fts_segment.specs.SortedColumns.{IsOrdered, numbers_in};
@@ -8,20 +8,20 @@ use crate::binary_search::{upper_bound, lower_bound};
 use fts_pack::List;
 use fts_pack::column::Column;
 
-/// What the index of a number or keyword field has for its numbers, in their order.
+/// A view of a number or keyword index: its column and, in order, its distinct numbers with their lists.
 #[derive(Clone, Copy)]
 pub(crate) struct SortedColumn<'a> {
     pub(crate) column: &'a Column,
-    /// The different numbers, rising. If they aren't kept, each is the place of its list.
+    /// The distinct numbers, rising; none for ordinals, where each number is its list's index.
     pub(crate) numbers: Option<&'a [u64]>,
-    /// The documents of each.
+    /// The documents of each number.
     pub(crate) lists: &'a [List],
-    /// How many documents are in the lists before each, and in all.
+    /// For each list, the number of documents in the lists before it, followed by the total.
     pub(crate) sums: &'a [u32],
 }
 
 impl<'a> SortedColumn<'a> {
-    /// How many different numbers are below `low`, and how many aren't above `high`.
+    /// The number of distinct numbers below `low`, and the number of those that are at most `high`.
     fn cuts(self, low: u64, high: u64) -> (usize, usize)
         requires { (column : NumberColumn) × IsOrdered column self }
         ensures low { IsCut (numbers_in self.entry) low result.0 }
@@ -39,7 +39,7 @@ impl<'a> SortedColumn<'a> {
         }
     }
 
-    /// The lists of the numbers between two, these included.
+    /// The lists of the numbers in `low..=high`.
     pub(crate) fn lists_between(self, low: u64, high: u64) -> &'a [List]
         requires { (column : NumberColumn) × IsOrdered column self }
         ensures { (column : NumberColumn) → IsOrdered column self.entry
@@ -49,7 +49,7 @@ impl<'a> SortedColumn<'a> {
         &self.lists[start.min(end)..end]
     }
 
-    /// How many documents have a number between two, these included.
+    /// The number of documents with a number in `low..=high`.
     pub(crate) fn documents_between(self, low: u64, high: u64) -> usize
         requires { (column : NumberColumn) × IsOrdered column self }
         ensures { (column : NumberColumn) → IsOrdered column self.entry

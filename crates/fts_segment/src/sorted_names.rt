@@ -1,4 +1,4 @@
-// Names in the order of their bytes, each once.
+// Sorts names by their bytes, and removes duplicates.
 ghost use Rattle.std.specs.Prelude.{◌≡◌, ◌<◌, ℕ, IfOk, OnOk, length, map, slice_get, slice_index};
 ghost use Rattle.std.specs.List.{enumerate_from};
 ghost use Rattle.std.specs.List.Sorted.{IsPermutation};
@@ -8,15 +8,15 @@ use crate::names::Names;
 use fts_base::release;
 use std::alloc::{AllocError, Global};
 
-/// The different ones of some names, in order, and the place of each name among them.
+/// The distinct names in order, and for each id the rank of its name.
 #[derive(Drop)]
 pub(crate) struct SortedNames<'a> {
     pub(crate) names: Vec<&'a [u8]>,
-    /// Of each number the place of its name.
+    /// For each id, the index of its name.
     pub(crate) ordinals: Vec<u32>,
 }
 
-/// Names in the order of their bytes, each once.
+/// Sorts names by their bytes, and removes duplicates.
 pub(crate) fn sort_names<'a>(alloc: Global, names: &'a Names) -> Result<SortedNames<'a>, AllocError>
     ensures ascends { IfOk result (λ sorted. Ascends (map (λ n. n.now) sorted.names.items)) }
     ensures count { IfOk result (λ sorted. length sorted.ordinals.items ≡ length names.now) }
@@ -29,7 +29,7 @@ pub(crate) fn sort_names<'a>(alloc: Global, names: &'a Names) -> Result<SortedNa
     let mut ordinals = vec![in alloc; 0u32; names.len()]?;
     for (name, number) in &order {
         push_different(&mut different, name)?;
-        // It fits where the names of a log have numbers of 32 bits.
+        // It fits, since the ids of a log have 32 bits.
         let Ok(ordinal) = u32::try_from(different.len() - 1) else {
             return Err(AllocError);
         };
@@ -42,7 +42,7 @@ pub(crate) fn sort_names<'a>(alloc: Global, names: &'a Names) -> Result<SortedNa
     })
 }
 
-/// The names, each with its number, in the order of their bytes.
+/// The names with their ids, sorted by bytes.
 fn numbered<'a>(alloc: Global, names: &'a Names) -> Result<Vec<(&'a [u8], usize)>, AllocError>
     ensures in_order { IfOk result (λ v. IsInOrder (map (λ e. e.0.now) v.items)) }
     ensures all { IfOk result
@@ -56,7 +56,7 @@ fn numbered<'a>(alloc: Global, names: &'a Names) -> Result<Vec<(&'a [u8], usize)
     Ok(order)
 }
 
-/// Puts a name after others, unless it is the last of them.
+/// Appends a name, unless it is the last one.
 fn push_different<'a>(names: &mut Vec<&'a [u8]>, name: &'a [u8]) -> Result<(), AllocError>
     ensures { OnOk result (map (λ n. n.now) names.new.items
         ≡ with_name (map (λ n. n.now) names.old.items) name.now) }

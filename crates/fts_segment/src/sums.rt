@@ -1,11 +1,11 @@
-// How many documents there are in the lists up to each: two of these tell how many are in some lists in a row.
+// Running totals of the lengths of lists: the difference of two is the number of documents in the lists between them.
 ghost use Rattle.std.specs.Prelude.{◌≡◌, ◌<◌, ◌^◌, IfOk};
 ghost use Rattle.fts_segment.specs.Sums.{sums_from, total};
 
 use fts_pack::List;
 use std::alloc::{AllocError, Global};
 
-/// How many documents there are in the lists before each, and in all of them.
+/// For each list, the number of documents in the lists before it, followed by the total.
 pub(crate) fn sums_of(alloc: Global, lists: &[List]) -> Result<Vec<u32>, AllocError>
     requires { total lists.now < 2 ^ 32 }
     ensures { IfOk result (λ sums. sums.items ≡ sums_from 0 lists.now) }

@@ -1,4 +1,4 @@
-// Terms, numbered as they come.
+// Assigns ids to terms.
 ghost use Rattle.std.specs.Prelude.{◌≡◌, [], Some, IfOk, slice_get};
 ghost use Rattle.fts_segment.specs.Numberings.{GoesOn};
 
@@ -7,12 +7,13 @@ use crate::names::{Name, Names};
 use std::alloc::{AllocError, Global};
 use std::marker::Model;
 
-/// Terms by their numbers, of which the first is 0. A term may have several. Contracts see the list of their bytes.
+/// Assigns ids to terms as they come. A term may get several ids if the cache forgot one; sorting unites them.
+/// Contracts see the list of the terms' bytes, by id.
 #[derive(Drop)]
 pub(crate) struct TermIds {
     alloc: Global,
     names: Names,
-    /// Most numbers, by a hash: some are forgotten where terms were chosen to crowd.
+    /// The ids of most terms, by a hash. Some are forgotten if terms were chosen to crowd each other out.
     guesses: IdCache,
 }
 
@@ -25,7 +26,7 @@ impl Model for TermIds {
 }
 
 impl TermIds {
-    /// No term.
+    /// No term has an id yet.
     pub(crate) fn new(alloc: Global) -> TermIds
         ensures { result ≡ [] }
     {
@@ -36,7 +37,7 @@ impl TermIds {
         }
     }
 
-    /// The terms, in the order of their numbers.
+    /// The terms in the order of their ids.
     pub(crate) fn into_names(self) -> Names
         ensures { result ≡ self }
     {
@@ -44,7 +45,7 @@ impl TermIds {
         self.names
     }
 
-    /// A number of a term, which takes the next one if none is found.
+    /// The id of a term; a new one if the cache doesn't find it.
     pub(crate) fn id_of(&mut self, term: &str) -> Result<usize, AllocError>
         ensures ok { IfOk result (λ id. slice_get self.new id ≡ Some term.now) }
         ensures stay { GoesOn self.old self.new }

@@ -1,4 +1,4 @@
-// The occurrences of terms in documents, in the order in which they come.
+// A log of the occurrences of terms in documents.
 ghost use Rattle.std.specs.Prelude.{◌≡◌, ◌<◌, length, map, All};
 ghost use Rattle.fts_segment.specs.TermLogs.{by_ordinal};
 
@@ -11,7 +11,7 @@ use fts_base::release;
 use std::alloc::{AllocError, Global};
 use std::marker::Model;
 
-/// A term, by its number, is in a document at a position.
+/// An occurrence of a term, by its id, in a document at a position.
 #[derive(Clone, Copy)]
 pub(crate) struct Occurrence {
     pub(crate) term: u32,
@@ -19,7 +19,7 @@ pub(crate) struct Occurrence {
     pub(crate) position: u32,
 }
 
-/// The occurrences of terms, in the order in which they came. Contracts see them as a list.
+/// The occurrences of terms, in the order in which they were logged. Contracts see them as a list.
 #[derive(Drop)]
 pub(crate) struct TermLog {
     terms: TermIds,
@@ -48,7 +48,7 @@ impl TermLog {
     ghost use Rattle.fts_segment.specs.PositionLists.{IsPositionList};
     ghost use Rattle.fts_segment.specs.TermPositionLists.{term_position_lists};
 
-    /// No occurrence.
+    /// An empty log.
     pub(crate) fn new(alloc: Global) -> TermLog
         ensures { result ≡ [] }
     {
@@ -58,13 +58,13 @@ impl TermLog {
         }
     }
 
-    /// Puts an occurrence after the others.
+    /// Appends an occurrence.
     pub(crate) fn push(&mut self, term: &str, doc: u32, position: u32) -> Result<(), AllocError>
         ensures { OnOk result (self.new
             ≡ self.old ++ record { term = term.now; doc = doc; position = position } ∷ []) }
     {
         let number = self.terms.id_of(term)?;
-        // 2^32 terms take over 100 GB, so a number that has no room in 32 bits is refused as memory.
+        // 2^32 terms take over 100 GB, so an id that doesn't fit 32 bits is refused as out of memory.
         let Ok(term) = u32::try_from(number) else {
             return Err(AllocError);
         };
@@ -76,7 +76,7 @@ impl TermLog {
         Ok(())
     }
 
-    /// The terms that occur, in order, each with the list of its documents and its positions in them.
+    /// The dictionary of the logged terms: in order, each with the list of its documents and its positions in them.
     pub(crate) fn dictionary(self, alloc: Global) -> Result<Dictionary, AllocError>
         requires rise { (q : List ℕ) → IsStrictlyIncreasing (docs_with q self) }
         requires positions { (q : List ℕ) → All IsPositionList (position_lists_with q self) }
@@ -89,7 +89,7 @@ impl TermLog {
         let SortedNames { names, ordinals } = sort_names(alloc, &terms)?;
         put_in_order(&mut log, &ordinals);
         let groups = TermGroups::new(alloc, &log, names.len())?;
-        // Log and groups are the largest of all, so each goes before more is made.
+        // The log and the groups are the largest buffers, so each is freed before more is allocated.
         release(log);
         let writer = write_terms(alloc, &names, &groups)?;
         groups.release();
@@ -100,7 +100,7 @@ impl TermLog {
     }
 }
 
-/// Numbers the terms of occurrences by their order.
+/// Replaces the id of each occurrence's term by the rank of its name.
 fn put_in_order(log: &mut [Occurrence], ordinals: &[u32])
     requires { All (λ occurrence. occurrence.term < length ordinals.now) log.old }
     ensures { log.new ≡ map (by_ordinal ordinals.now) log.old }

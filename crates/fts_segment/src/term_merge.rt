@@ -1,4 +1,4 @@
-// Joins dictionaries: the terms of all in order, each with its postings, one dictionary after the other.
+// Merges term streams: all terms in order, each with the postings of every stream, one stream after the other.
 ghost use Rattle.std.specs.Prelude.{◌≡◌, ◌++◌, ℕ, List, [], None, IfOk, OnOk, map, flat_map};
 ghost use Rattle.std.specs.List.{AllByRecursion};
 ghost use Rattle.std.specs.List.Sorted.{IsStrictlyIncreasing};
@@ -18,7 +18,7 @@ use crate::postings_writer::PostingsWriter;
 use fts_base::release;
 use std::alloc::{AllocError, Global};
 
-/// The first of two terms in order.
+/// The first in order of two optional terms.
 fn first_of<'a>(least: Option<Name<'a>>, term: Option<Name<'a>>) -> Option<Name<'a>>
     ensures { result ≡ lesser least.entry term.entry }
 {
@@ -35,7 +35,7 @@ fn first_of<'a>(least: Option<Name<'a>>, term: Option<Name<'a>>) -> Option<Name<
     }
 }
 
-/// The first of the next terms of parts.
+/// The first in order of the streams' next terms.
 fn least<'a>(parts: &[TermStream<'a>]) -> Option<Name<'a>>
     ensures { result ≡ least_of None parts.now }
 {
@@ -46,7 +46,7 @@ fn least<'a>(parts: &[TermStream<'a>]) -> Option<Name<'a>>
     least
 }
 
-/// Passes a term in each part, and puts their postings after others.
+/// Takes a term from each stream whose next term it is, and appends the postings.
 fn take_from_each(
     parts: &mut [TermStream<'_>],
     term: &Name<'_>,
@@ -64,8 +64,7 @@ fn take_from_each(
     Ok(())
 }
 
-/// Puts the next term of parts after those of a writer, unless no posting of it is left. `docs` is room for its
-/// documents.
+/// Merges one term and appends it, unless all its postings were deleted. `docs` is a scratch buffer.
 fn merge_term(
     writer: &mut PostingsWriter,
     alloc: Global,
@@ -94,7 +93,7 @@ fn merge_term(
     Ok(())
 }
 
-/// A writer with room for the terms and positions of all parts, so that it seldom grows.
+/// A writer with capacity for the terms and positions of all streams, so that it seldom grows.
 fn writer_for(alloc: Global, parts: &[TermStream<'_>]) -> Result<PostingsWriter, AllocError>
     ensures names { IfOk result (λ writer. writer.names ≡ []) }
     ensures lists { IfOk result (λ writer. writer.lists.items ≡ []) }
@@ -111,7 +110,7 @@ fn writer_for(alloc: Global, parts: &[TermStream<'_>]) -> Result<PostingsWriter,
     PostingsWriter::with_capacity(alloc, terms, positions)
 }
 
-/// The dictionary of parts: the terms that have a posting left, in order, each with those that the parts have for it.
+/// The dictionary of streams: the terms that have a live posting, in order, each with the postings of every stream.
 pub(crate) fn merge_terms(alloc: Global, parts: &mut [TermStream<'_>]) -> Result<Dictionary, AllocError>
     requires sound { AllByRecursion IsSound parts.old }
     requires rise { (q : List ℕ) → IsStrictlyIncreasing (documents (joined parts.old q)) }

@@ -1,4 +1,4 @@
-// The positions of terms: for each a list of positions for each of its postings.
+// The positions of terms: a list of positions for each posting of each term.
 ghost use Rattle.std.specs.Prelude.{◌≡◌, ◌≢◌, ◌<◌, ◌==◌, ◌++◌, ◌∷◌, [], All, cond, length, IfOk, OnOk, slice_index_or};
 ghost use Rattle.fts_segment.specs.Positions.{position_lists_of};
 ghost use Rattle.fts_segment.specs.PositionLists.{IsPositionList};
@@ -10,10 +10,10 @@ use crate::term_groups::DocPosition;
 use fts_base::{release, start_of};
 use std::alloc::{AllocError, Global};
 
-/// The positions of terms.
+/// The positions of terms, one list for each posting.
 pub(crate) struct TermPositions {
     pub(crate) lists: PositionLists,
-    /// Where the lists of each term end.
+    /// For each term, the index after its last list.
     pub(crate) ends: Vec<usize>,
 }
 
@@ -24,7 +24,7 @@ impl Drop for TermPositions {
     }
 }
 
-/// The positions of a term's postings, among those of others.
+/// The positions of a term's postings, among those of other terms.
 #[derive(Clone, Copy)]
 pub(crate) struct TermPositionLists<'a> {
     pub(crate) lists: &'a PositionLists,
@@ -68,7 +68,7 @@ impl<'a> TermPositionLists<'a> {
     ghost use Rattle.fts_segment.specs.TermPositionLists.{position_lists_in};
     ghost use Rattle.fts_segment.specs.PositionsLeft.{positions_left};
 
-    /// The positions in the document of a posting, and none if there is no such posting.
+    /// The positions in the document of a posting, or none if there is no such posting.
     #[inline(always)]
     pub(crate) fn get(self, posting: usize, bounds: &mut BlockBounds) -> Positions<'a>
         requires bounds { AreBounds self.lists.now bounds.old }
@@ -82,7 +82,7 @@ impl<'a> TermPositionLists<'a> {
     }
 }
 
-/// The positions of terms as they come, as they are to be packed.
+/// The positions of terms that are collected before they are packed.
 #[derive(Drop)]
 pub(crate) struct PositionLog {
     pub(crate) lists: PositionListLog,
@@ -97,7 +97,7 @@ impl PositionLog {
     ghost use Rattle.fts_segment.specs.PositionListLogs.{IsPositionListLog, logged_position_lists};
     ghost use Rattle.fts_segment.specs.PositionLogs.{HasTerm, IsPositionLog, logged_term_position_lists};
 
-    /// Of no term, with room for this many terms and this many positions in all.
+    /// An empty log with capacity for this many terms and positions.
     pub(crate) fn with_capacity(
         alloc: Global,
         terms: usize,
@@ -112,7 +112,7 @@ impl PositionLog {
         })
     }
 
-    /// Puts the positions of a term after those of the others. `list` is room for those of a posting.
+    /// Appends the positions of a term. `list` is a scratch buffer for those of a posting.
     pub(crate) fn push(&mut self, list: &mut Vec<u32>, places: &[DocPosition]) -> Result<(), AllocError>
         requires is { IsPositionLog self.old }
         requires positions { All IsPositionList (position_lists_of places.now) }
@@ -125,7 +125,7 @@ impl PositionLog {
         Ok(())
     }
 
-    /// Ends a term, whose positions are the lists that were put after those of the terms before.
+    /// Ends a term: its positions are the lists that were appended after the last term's.
     pub(crate) fn end_term(&mut self) -> Result<(), AllocError>
         requires { IsPositionListLog self.old.lists }
         ensures { (before more : List (List ℕ)) → AreEnds 0 self.old.ends.items (length before)
@@ -137,8 +137,8 @@ impl PositionLog {
     }
 }
 
-/// Puts the position of a place after those of the document `doc`, which `list` has. Where the place is of another
-/// document, the list is put after the others first.
+/// Appends the position of a place to `list`, the positions in document `doc`. If the place is in another document, the
+/// list is first appended to the log.
 fn push_place(
     lists: &mut PositionListLog,
     list: &mut Vec<u32>,
@@ -161,7 +161,7 @@ fn push_place(
     Ok(())
 }
 
-/// Puts the positions of places after the lists so far, a list for each document.
+/// Appends the positions of places to the log, one list for each document.
 fn push_position_lists(
     lists: &mut PositionListLog,
     list: &mut Vec<u32>,

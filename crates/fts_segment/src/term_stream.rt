@@ -1,4 +1,4 @@
-// A dictionary that is passed term by term, as it is joined with others.
+// A stream of a dictionary's terms, which is merged with others.
 ghost use Rattle.std.specs.Prelude.{◌≡◌, drop, slice_get, OnOk};
 ghost use Rattle.fts_segment.specs.Parts.{begins, given, passed, part_from, IsWhole};
 ghost use Rattle.fts_segment.specs.PositionListLogs.{IsPositionListLog};
@@ -14,11 +14,11 @@ use fts_pack::{BLOCK, List};
 use std::alloc::AllocError;
 use std::marker::Model;
 
-/// How many lists are fetched at once.
+/// The number of lists that are read ahead.
 const AHEAD: usize = 32;
 
-/// What is left of a dictionary, with new numbers of its documents. Contracts see the terms that are left with their
-/// postings, and the numbers.
+/// A cursor over the remaining terms of a source's dictionary, with its documents renumbered. Contracts see the
+/// remaining terms with their postings, and the new numbers.
 #[derive(Drop)]
 pub(crate) struct TermStream<'a> {
     dictionary: &'a Dictionary,
@@ -27,9 +27,10 @@ pub(crate) struct TermStream<'a> {
     /// The next term.
     term: Option<Name<'a>>,
     lists: PositionCopier<'a>,
-    /// Room for a block of documents.
+    /// A scratch buffer for a block of documents.
     room: [u32; BLOCK],
-    /// How many documents the lists have that were fetched last. Nothing needs it but that they are read.
+    /// The number of documents of the lists that were read ahead last. It is stored so that the reads aren't optimized
+    /// away.
     fetched: usize,
 }
 
@@ -54,7 +55,7 @@ fn term_at(dictionary: &Dictionary, at: usize) -> Option<Name<'_>>
     }
 }
 
-/// How many documents lists have, modulo 2^64.
+/// The number of documents of lists, modulo 2^64.
 fn documents_in(lists: &[List]) -> usize {
     let mut documents = 0usize;
     for list in lists {
@@ -64,7 +65,7 @@ fn documents_in(lists: &[List]) -> usize {
 }
 
 impl<'a> TermStream<'a> {
-    /// A whole dictionary.
+    /// A stream at the first term of a dictionary.
     pub(crate) fn new(dictionary: &'a Dictionary, numbers: DocMap) -> TermStream<'a>
         requires { IsWhole dictionary.now numbers }
         ensures { result ≡ part_from 0 dictionary.now numbers }
@@ -80,7 +81,7 @@ impl<'a> TermStream<'a> {
         }
     }
 
-    /// How many terms the dictionary has, and how many positions. Nothing needs them but that there is room for both.
+    /// The numbers of terms and positions, for sizing the merged dictionary's buffers.
     pub(crate) fn size(&self) -> (usize, usize) {
         let Dictionary {
             names,
@@ -110,8 +111,8 @@ impl<'a> TermStream<'a> {
         }
     }
 
-    /// Reads a stretch of the lists to come, so that they are fetched from memory side by side. Parts are too many arrays
-    /// for the processor to fetch ahead by itself, and a join would wait for each list when its term comes.
+    /// Reads the next lists ahead, so that they are loaded from memory in parallel. There are too many streams for the
+    /// processor's own prefetching, and a merge would wait for each list when its term comes.
     fn fetch(&mut self)
         ensures { self.new ≡ self.old }
     {
@@ -123,8 +124,8 @@ impl<'a> TermStream<'a> {
         }
     }
 
-    /// Passes a term, if it is the next one, and puts its postings after others: their documents after `docs`, and
-    /// their positions after those of a log.
+    /// Goes past a term, if it is the next one, and appends its postings: their documents to `docs`, and their
+    /// positions to a log.
     pub(crate) fn take_term(
         &mut self,
         term: &Name<'_>,

@@ -1,4 +1,4 @@
-// Puts the tokens of a field into a log, document by document.
+// Logs the tokens of a field, document by document.
 ghost use Rattle.std.specs.Prelude.{◌≡◌, ◌+◌, ◌<◌, ◌≤◌, ◌++◌, ◌∷◌, [], ◌^◌, length, OnOk, IfOk, All, map, IfSome};
 ghost use Rattle.std.specs.Prelude.{option_copied};
 ghost use Rattle.fts_text.specs.Places.{IsPlaceFrom, token_at};
@@ -13,8 +13,7 @@ use fts_model::{Document, FieldValue, Kind, Stamped, Texts};
 use fts_text::{Token, Tokens, fold_into};
 use std::alloc::{AllocError, Global};
 
-/// Puts a token of one of a document's texts, whose first span has the number `first`, after the occurrences so far.
-/// `term` is room for it.
+/// Logs a token of one of a document's texts, whose spans are numbered from `first`. `term` is a scratch buffer.
 fn push_token(
     log: &mut TermLog,
     term: &mut String,
@@ -32,8 +31,8 @@ fn push_token(
     log.push(term.as_str(), doc, token.position as u32)
 }
 
-/// Puts the tokens of one of a document's texts, whose first span has the number `first`, after the occurrences so far,
-/// and gives the number of the first span of the text after it.
+/// Logs the tokens of one of a document's texts, whose spans are numbered from `first`, and returns the first number of
+/// the next text.
 fn push_tokens(
     log: &mut TermLog,
     term: &mut String,
@@ -55,7 +54,7 @@ fn push_tokens(
     Ok(tokens.following())
 }
 
-/// Puts the tokens of a list of texts of a document after the occurrences so far.
+/// Logs the tokens of a list of texts of a document.
 fn push_texts(
     log: &mut TermLog,
     term: &mut String,
@@ -74,7 +73,7 @@ fn push_texts(
     Ok(())
 }
 
-/// Puts the tokens of a document's value after the occurrences so far.
+/// Logs the tokens of a document's value.
 fn push_value(
     log: &mut TermLog,
     term: &mut String,
@@ -104,7 +103,7 @@ fn push_value(
     }
 }
 
-/// The tokens of the documents in a field of this kind.
+/// Logs the tokens of the documents in a field of this kind.
 pub(crate) fn log_of_field(
     alloc: Global,
     documents: &[Stamped<Document>],

@@ -1,4 +1,4 @@
--- A name that is there isn't before itself, and isn't after itself.
+-- A name at an index isn't before itself, and isn't after itself.
 use Rattle.std.proofs.Common.{sym, arith}
 use Rattle.fts_segment.proofs.FindLemmas.{up_to-found}
 use Rattle.fts_segment.proofs.KeywordIndexLemmas.{number_of_text}

@@ -1,4 +1,4 @@
--- What comes before the place is below the number.
+-- The numbers before the index are below the number.
 use Rattle.std.proofs.Common.{Ok, Err, arith}
 use Rattle.std.proofs.lemmas.List.Sorted.{searched}
 use Rattle.fts_segment.proofs.BetweenLemmas.{IsCut-found, rising}

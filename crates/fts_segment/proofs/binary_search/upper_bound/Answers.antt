@@ -1,4 +1,4 @@
--- What isn't above a number is below the next.
+-- A number that is at most another is below the next.
 use Rattle.std.proofs.Common.{◌≡◌, ◌+◌, ℕ, subst, arith}
 use Rattle.fts_segment.specs.Between.{IsCut}
 use Rattle.fts_segment.proofs.binary_search.upper_bound.Goals as goal

@@ -1,4 +1,4 @@
--- The index of one field more comes after the others.
+-- The index of one more field comes after the others.
 use Rattle.std.proofs.Common.{◌+◌, sym, subst}
 use Rattle.std.specs.Prelude.{slice_get}
 use Rattle.fts_model.specs.declared.schema.Kind.{Kind}

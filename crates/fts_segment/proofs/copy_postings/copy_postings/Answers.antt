@@ -17,7 +17,7 @@ use Rattle.fts_segment.proofs.PutsLemmas.{puts-as, puts-more, puts-none}
 use Rattle.fts_segment.proofs.copy_postings.copy_postings.Goals as goal
 use Rattle.fts_segment.proofs.copy_postings.copy_postings.Goals.{After-open-count}
 
--- how many blocks a list has
+-- the number of blocks of a list
 blocks : (docs list : List ℕ) → docs ≡ list → length (blocks_of docs) ≡ block_count (length list)
 blocks docs list same = ap (λ ds. length (blocks_of ds)) same ∙ length-blocks_of list
 

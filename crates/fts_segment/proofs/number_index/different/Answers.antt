@@ -18,7 +18,7 @@ loop-value-preserved c =
     rw e (c.in_ok-push_present.ensures ∙ ap (λ xs. xs ++ present (get_or vs i None ∷ [])) c.loop-value.invariant
     ∙ sym (present-append (take i vs) (get_or vs i None ∷ [])))
 
--- what is left after the duplicates are gone
+-- the numbers without duplicates
 left : (c : goal.After-shrink_to_fit) → c.shrink_to_fit.new.self.items ≡ dedup nat_eq c.sort_unstable.new.self.items
 left c = c.shrink_to_fit.ensures.items ∙ dedup_is nat_eq c.sort_unstable.new.self.items c.dedup.new.self.items c.dedup.ensures.filtered
 

@@ -1,4 +1,4 @@
--- The index of one field more comes after the others.
+-- The index of one more field comes after the others.
 use Rattle.std.proofs.Common.{◌≡◌, ◌+◌, Some, sym, subst, ap, ◌∙◌}
 use Rattle.std.specs.Prelude.{slice_get}
 use Rattle.std.proofs.lemmas.List.Elements.{All-weaker}

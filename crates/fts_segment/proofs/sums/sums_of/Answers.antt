@@ -1,4 +1,4 @@
--- A list more adds its length.
+-- One more list adds its length.
 use Rattle.std.proofs.Common.{◌≡◌, ◌<◌, ◌+◌, ◌∷◌, ◌++◌, [], List, ℕ, ap, get_or, length, take, sym, ◌∙◌, arith}
 use Rattle.std.proofs.lemmas.List.{take_all}
 use Rattle.fts_segment.specs.Sums.{sums_from, total}
@@ -6,7 +6,7 @@ use Rattle.fts_segment.proofs.SumsLemmas.{sums-push, total-front, total-push}
 use Rattle.fts_segment.proofs.sums.sums_of.Goals as goal
 use Rattle.fts_model.proofs.Lists.{taken}
 
--- with the next there are as many more as it has, and no more than in all
+-- the next running total adds the length of the list, and is no more than the total
 sum_is : (lists : List (List ℕ)) (i : ℕ) (xs : List ℕ) → i < length lists → xs ≡ get_or lists i xs →
     total (take (i + 1) lists) ≡ total (take i lists) + length xs
 sum_is lists i xs less is = ap total (taken lists i xs less is) ∙ total-push (take i lists) xs

@@ -14,7 +14,7 @@ use Rattle.fts_segment.proofs.term_merge.merge_term.Goals.{After-is_empty}
 docs_of : (c : After-is_empty) → c.take_from_each.new.docs.items ≡ documents (flat_map (given c.args.term.now) c.args.parts.now)
 docs_of c = c.in_ok-take_from_each.ensures.puts.documents_are ∙ ap (λ ds. ds ++ documents (flat_map (given c.args.term.now) c.args.parts.now)) c.clear.ensures.items
 
--- there are none where there is no posting
+-- there are no documents if there is no posting
 empty_of : (c : After-is_empty) → flat_map (given c.args.term.now) c.args.parts.now ≡ [] → vec_len c.take_from_each.new.docs ≡ 0
 empty_of c none = omega (arith, ap length (docs_of c), ap (λ ps. length (documents ps)) none, c.take_from_each.new.docs.ok.0)
 
@@ -23,7 +23,7 @@ none_of c empty =
     no_documents (flat_map (given c.args.term.now) c.args.parts.now) (sym (docs_of c) ∙ nil_from_length c.take_from_each.new.docs.items
     (omega (arith, empty, c.take_from_each.new.docs.ok.0)))
 
--- then the log is as it was
+-- the log is unchanged if there is no posting
 same_of : (c : After-is_empty) → flat_map (given c.args.term.now) c.args.parts.now ≡ [] →
     logged_position_lists c.take_from_each.new.log ≡ logged_position_lists c.args.writer.now.positions.lists
 same_of c none =

@@ -8,7 +8,7 @@ use Rattle.fts_segment.specs.Occurrences.{values_in}
 use Rattle.fts_segment.proofs.keyword_index.KeywordIndex.joined.Goals as goal
 use Rattle.fts_segment.proofs.keyword_index.KeywordIndex.joined.Goals.{In_ok-dictionary}
 
--- the terms that were joined are those of the documents
+-- the merged terms are those of the documents
 terms_of : (c : In_ok-dictionary) → AreTerms kinds.Keyword (values_in c.args.field c.args.documents.now) c.in_ok-dictionary.dictionary
 terms_of c =
     subst (λ (ds : List (Stamped DocumentValue)). AreTerms kinds.Keyword (values_in c.args.field ds) c.in_ok-dictionary.dictionary)

@@ -13,7 +13,7 @@ use Rattle.fts_segment.proofs.BetweenLemmas.{AreKeyed-keywords, IsNumberIndex-ke
 use Rattle.fts_segment.proofs.CountLemmas.{AreCounted-numbers, total-all}
 use Rattle.fts_segment.proofs.keyword_index.KeywordIndex.of.Goals as goal
 
--- one ordinal for each document, if it has one
+-- there is an ordinal for each document, if it has one
 size : (vs : List (Option FieldValue)) → length (ordinals_of kinds.Keyword vs) ≡ length vs
 size vs = length-map vs (λ v. option_map (before (texts_of kinds.Keyword vs)) (keyword_of kinds.Keyword v))
 

@@ -33,7 +33,7 @@ some_of c =
     ∙ ap (take (length c.deref.result.now - c.len-first.result)) (drop_at old.items some c.len-first.result first)
     ∙ take_all (length c.deref.result.now - c.len-first.result) some (omega (arith, ap length all, length-append old.items some, first))
 
--- the positions of these lists lie within the differences
+-- the positions of these lists are within the gaps
 within_of : (c : After-deref) → c.seek.new.self.start + sum (take (length c.deref.result.now - c.len-first.result) (drop c.len-first.result c.deref.result.now))
     ≤ length c.seek.new.self.gaps.numbers.now
 within_of c =
@@ -89,7 +89,7 @@ invariant_of-self-2 c =
       );
     }
 
--- the lists that are moved, where `many` are their positions
+-- the lists that are copied, if `many` is the number of their positions
 moved_of : (c : After-deref) (many : ℕ) → many ≡ sum (take (length c.deref.result.now - c.len-first.result) (drop c.len-first.result c.deref.result.now)) →
     let s = c.seek.new.self in
     position_lists_at (slice_range s.counts.numbers.now c.args.start c.min-end.result) (slice_range s.gaps.numbers.now s.start (s.start + many))

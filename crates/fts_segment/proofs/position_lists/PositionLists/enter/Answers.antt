@@ -9,7 +9,7 @@ pub open-many-requires : goal.open-many-requires
 open-many-requires c = let s = c.self.inside in
     omega (arith, c.requires.within, length-position_lists_at s.counts s.gaps, ap length c.self.view_is)
 
--- what is known of the block
+-- the block is unpacked
 here : (c : After-open-many) → IsUnpacked c.self.inside.counts c.self.inside.starts.items c.args.block c.open-many.result c.open-many.new.out
 here c = let s = c.self.inside in
     unpacked s.counts s.starts.items s.gaps c.args.block c.open-many.result c.open-many.new.out c.self.invariant

@@ -13,7 +13,7 @@ pub enter-requires-clause-within : goal.enter-requires-clause-within
 enter-requires-clause-within c = let s = c.self.inside in
     omega (arith, c.if-number-len.false, c.len.ensures, length-position_lists_at s.counts s.gaps, ap length c.self.view_is)
 
--- where the list lies
+-- the list is between its bounds
 between : (c : After-enter) → LiesBetween c.self.inside.counts c.self.inside.gaps c.args.number (get_or c.enter.new.bounds.at (c.args.number % 128) 0)
     (get_or c.enter.new.bounds.at (c.args.number % 128 + 1) 0)
 between c = let s = c.self.inside in

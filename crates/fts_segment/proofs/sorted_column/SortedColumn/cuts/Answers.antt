@@ -1,4 +1,4 @@
--- Numbers that aren't kept are places.
+-- Numbers that aren't stored are list indexes.
 use Rattle.std.proofs.Common.{◌+◌, ℕ, List, Option, length, ap, sym, subst, arith}
 use Rattle.std.specs.Borrow.{Bor}
 use Rattle.std.specs.List.Sorted.{IsStrictlyIncreasing}

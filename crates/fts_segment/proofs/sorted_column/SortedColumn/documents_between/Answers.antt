@@ -1,4 +1,4 @@
--- The sums before the first number that isn't below and after the last that isn't above.
+-- The running totals before the first number that isn't below, and after the last that isn't above.
 use Rattle.std.proofs.Common.{◌+◌, arith}
 use Rattle.fts_segment.specs.SortedColumns.{numbers_in}
 use Rattle.fts_segment.proofs.CountLemmas.{count_numbers}

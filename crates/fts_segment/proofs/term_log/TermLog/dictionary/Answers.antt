@@ -13,7 +13,7 @@ use Rattle.fts_segment.proofs.TermLogsLemmas.{Stand, AreNamed-by_ordinal}
 use Rattle.fts_segment.proofs.term_log.TermLog.dictionary.Goals as goal
 use Rattle.fts_segment.proofs.term_log.TermLog.dictionary.Goals.{After-len, After-groups-2-1}
 
--- the different names in order
+-- the distinct names in order
 abbrev sorted_in : After-len → List (List ℕ)
 sorted_in c = map (λ n. n.now) c.in_ok-names.field-0.names.items
 
@@ -21,7 +21,7 @@ stand_of : (c : After-len) → Stand c.self.inside.terms (sorted_in c) c.in_ok-n
 stand_of c = subst (λ (ns : List (List ℕ)). Stand ns (sorted_in c) c.in_ok-names.field-0.ordinals.items) c.into_names-terms.ensures
     c.in_ok-names.ensures.ordinals
 
--- the occurrences by the order of their terms
+-- the occurrences with the ranks of their terms
 after_of : (c : After-len) → c.deref-2.result.now ≡ map (by_ordinal c.in_ok-names.field-0.ordinals.items) c.self.inside.log.items
 after_of c =
     let long : length c.put_in_order.new.log ≡ c.self.inside.log.len =

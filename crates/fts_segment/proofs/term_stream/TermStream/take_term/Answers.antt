@@ -15,12 +15,12 @@ next_of c = ap (λ (q : PartValue). begins c.args.term.now q.names) c.self.view_
 within_of : (c : After-get-positions) → c.self.inside.at < length c.self.inside.dictionary.now.names
 within_of c = begins-within c.args.term.now c.self.inside.dictionary.now.names c.self.inside.at (next_of c)
 
--- its documents
+-- the list of the term's documents
 list_of : (c : After-get-positions) → c.index-list.result.now ≡ get_or c.self.inside.dictionary.now.lists.items c.self.inside.at []
 list_of c = let d = c.self.inside.dictionary.now in
     get_or_read d.lists.items c.self.inside.at _ (omega (arith, within_of c, c.self.invariant.whole.listed)) c.index-list.ensures []
 
--- and what the part gives for it
+-- the postings that the stream gives for the term
 given_of : (c : After-get-positions) → moved c.self.inside.numbers (postings_of c.index-list.result.now (position_lists_in c.get-positions.result))
     ≡ given c.args.term.now c.args.self.now
 given_of c =
