@@ -14,11 +14,11 @@ use Rattle.fts_merge.specs.Levels.{is_mostly_dead, is_named, alone, together, li
 use Rattle.fts_merge.proofs.CandidatesLemmas.{named, once, pairs_apart, together-sum, together-within}
 use Rattle.fts_segment.proofs.SourceLemmas.{dropped}
 
--- a segment is merged by itself
+-- a segment is a candidate of its own
 abbrev pub is_alone : ℕ → List (List ℕ) → ℕ × SegmentSize → Bool
 is_alone percent found s = is_mostly_dead percent s.1 && not (is_named found s.0)
 
--- those that are merged by themselves, of which the first has the index n
+-- the candidates of a single segment, the first of which has the index n
 abbrev pub alone_from : ℕ → List (List ℕ) → ℕ → List SegmentSize → List (List ℕ)
 alone_from percent found n segments = map (λ s. s.0 ∷ []) (filter (is_alone percent found) (enumerate_from n segments))
 
@@ -31,7 +31,7 @@ alone-cons percent found n s ss =
     elim (is_alone percent found (n, s)) as (λ b. map one (cond b ((n, s) ∷ rest) rest) ≡ cond b ((n ∷ []) ∷ map one rest) (map one rest))
     [ true ↦ refl | false ↦ refl ]
 
--- a segment is among them
+-- one more segment is a candidate of its own
 pub alone-more : (percent : ℕ) (found done all : List (List ℕ)) (ss : List SegmentSize) (i : ℕ) (s : SegmentSize) → i < length ss → s ≡ get_or ss i s →
     is_alone percent found (i, s) ≡ true →
     done ++ alone_from percent found i (drop i ss) ≡ all → (done ++ (i ∷ []) ∷ []) ++ alone_from percent found (i + 1) (drop (i + 1) ss) ≡ all
@@ -41,7 +41,7 @@ alone-more percent found done all ss i s h e is old =
     ∙ ap (λ cs. done ++ cs) (sym (ap (alone_from percent found i) (dropped ss i s h e) ∙ alone-cons percent found i s (drop (i + 1) ss)
     ∙ ap (λ b. cond b ((i ∷ []) ∷ rest) rest) is)) ∙ old
 
--- a segment isn't
+-- one more segment is no candidate of its own
 pub alone-less : (percent : ℕ) (found done all : List (List ℕ)) (ss : List SegmentSize) (i : ℕ) (s : SegmentSize) → i < length ss → s ≡ get_or ss i s →
     is_alone percent found (i, s) ≡ false →
     done ++ alone_from percent found i (drop i ss) ≡ all → done ++ alone_from percent found (i + 1) (drop (i + 1) ss) ≡ all
@@ -50,12 +50,12 @@ alone-less percent found done all ss i s h e is old =
     ap (λ cs. done ++ cs) (sym (ap (alone_from percent found i) (dropped ss i s h e) ∙ alone-cons percent found i s (drop (i + 1) ss)
     ∙ ap (λ b. cond b ((i ∷ []) ∷ rest) rest) is)) ∙ old
 
--- what is looked for in lists
+-- a test of some list of indexes
 pub named_in : {X : Type 0} (items : X → List ℕ) (p : List ℕ → Bool) (xs : List X) → list_any (λ x. p (items x)) xs ≡ list_any p (map items xs)
 named_in items p [] = refl
 named_in items p (x ∷ xs) = ap (λ b. p (items x) || b) (named_in items p xs)
 
--- what the tests say
+-- if a disjunction is false, each part is
 or_left : (a b : Bool) → (a || b) ≡ false → a ≡ false
 or_left true b h = h
 or_left false b h = refl
@@ -73,7 +73,7 @@ and_not a false h = refl
 and_not true true h = absurd (let no : false ≡ true = h in cc)
 and_not false true h = absurd (let no : false ≡ true = h in cc)
 
--- their indexes are among those of the segments
+-- the indexes are among those of the segments
 alone_within : (percent : ℕ) (found : List (List ℕ)) (n end : ℕ) (ss : List SegmentSize) → n + length ss ≤ end →
     All (λ i. i < end) (named (alone_from percent found n ss))
 alone_within percent found n end [] e = All-nil (λ (i : ℕ). i < end)
@@ -87,7 +87,7 @@ alone_within percent found n end (s ∷ ss) e =
       | false ↦ behind
     ])
 
--- an index before them isn't there
+-- an earlier index is in no later candidate
 alone_behind : (percent : ℕ) (found : List (List ℕ)) (i n : ℕ) (ss : List SegmentSize) → i < n → sum_by (once i) (named (alone_from percent found n ss)) ≡ 0
 alone_behind percent found i n [] h = refl
 alone_behind percent found i n (s ∷ ss) h =
@@ -103,7 +103,7 @@ alone_behind percent found i n (s ∷ ss) h =
 abbrev room_left : Bool → ℕ
 room_left taken = cond taken 0 1
 
--- an index is there once at most, and not if another candidate has it
+-- an index is in at most one candidate, and in none of a single segment if another has it
 alone_sum : (percent : ℕ) (found : List (List ℕ)) (i n : ℕ) (ss : List SegmentSize) → sum_by (once i) (named (alone_from percent found n ss))
     ≤ room_left (is_named found i)
 alone_sum percent found i n [] = omega arith
@@ -126,7 +126,7 @@ alone_sum percent found i n (s ∷ ss) =
       | false ↦ λ is. behind
     ] refl)
 
--- an index that no candidate has is in none
+-- an index that no candidate has occurs zero times
 no_one : (i : ℕ) (ns : List ℕ) → list_any (λ n. nat_eq n i) ns ≡ false → sum_by (once i) ns ≡ 0
 no_one i [] h = refl
 no_one i (n ∷ ns) h =
@@ -164,7 +164,7 @@ candidates_by-within p ss =
     subst (All P) (sym (flat_map-append (λ (c : List ℕ). c) found more))
     (All-append P (named found) (named more) first (alone_within p.dead found 0 (length ss) ss (omega arith)))
 
--- a segment of too many dead documents that no other candidate has is among them
+-- a segment with too many deleted documents that no other candidate has is a candidate of its own
 alone_has : (percent : ℕ) (found : List (List ℕ)) (n k : ℕ) (s : SegmentSize) (ss : List SegmentSize) → slice_get ss k ≡ Some s →
     is_alone percent found (n + k, s) ≡ true →
     is_named (alone_from percent found n ss) (n + k) ≡ true
@@ -204,7 +204,7 @@ candidates_by-dead p ss index s e dead =
           ap (is_named more) (sym at) ∙ alone_has p.dead found 0 index s ss e (ap (λ m. is_alone p.dead found (m, s)) at ∙ alone_here)
     ] refl)
 
--- a segment has no more dead documents than documents
+-- a segment has no more deleted documents than documents
 alone_none : (found : List (List ℕ)) (n : ℕ) (ss : List SegmentSize) → alone_from 100 found n ss ≡ []
 alone_none found n [] = refl
 alone_none found n (s ∷ ss) =

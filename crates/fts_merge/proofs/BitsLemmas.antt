@@ -11,7 +11,7 @@ use Rattle.fts_model.specs.Operations.{strikes_later, survives}
 use Rattle.fts_segment.specs.Contents.{where_set}
 use Rattle.fts_merge.specs.Strikes.{bits_where, bits_after}
 
--- two tests in a row are one
+-- a conjunction is associative
 pub and_moved : (a b c : Bool) → ((a && b) && c) ≡ (a && (b && c))
 and_moved true b c = refl
 and_moved false b c = refl
@@ -62,7 +62,7 @@ bits_after-append schema ops more ds bits =
     bits_where-again (survives schema ops) (survives schema more) ds bits
     ∙ sym (bits_where-same (survives schema (ops ++ more)) (λ d. survives schema ops d && survives schema more d) (survives-append schema ops more) ds bits)
 
--- what is set of the bits that a test leaves is what was set and passes
+-- the set bits that a test leaves are those that were set and pass
 kept_and_left : {X : Type 0} (b c : Bool) (x : X) (xs : List X) → cond (b && c) (x ∷ xs) xs ≡ cond b (cond c (x ∷ xs) xs) xs
 kept_and_left true c x xs = refl
 kept_and_left false c x xs = refl

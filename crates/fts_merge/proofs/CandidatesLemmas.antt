@@ -15,14 +15,14 @@ use Rattle.fts_merge.specs.Levels.{as_counted, considered, greatest_first, joins
 use Rattle.fts_merge.proofs.LevelsLemmas.{considered_from, considered-cons}
 use Rattle.fts_merge.proofs.OrderLemmas.{IsPermutation-greatest_first}
 
--- the members of all levels, one level behind the other
+-- the members of all levels, one level after the other
 abbrev joined : List (List LevelSize) → List LevelSize
 joined ls = flat_map (λ level. level) ls
 
 abbrev pub named : List (List ℕ) → List ℕ
 named found = flat_map (λ candidate. candidate) found
 
--- levels cut a list
+-- levels partition a list
 joined-behind : (first : ℕ) (level cs : List LevelSize) → joined (levels_behind first level cs) ≡ level ++ cs
 joined-behind first level [] = refl
 joined-behind first level (c ∷ cs) =
@@ -35,15 +35,15 @@ joined-levels_of : (cs : List LevelSize) → joined (levels_of cs) ≡ cs
 joined-levels_of [] = refl
 joined-levels_of (c ∷ cs) = joined-behind c.size (c ∷ []) cs
 
--- how often a number is this one: once, or not
+-- 1 if a number is this one, and otherwise 0
 abbrev pub once : ℕ → ℕ → ℕ
 once i n = cond (n == i) 1 0
 
--- how often a size has this index
+-- 1 if a size has this index, and otherwise 0
 abbrev once_of : ℕ → LevelSize → ℕ
 once_of i c = once i c.index
 
--- an index is considered once at most
+-- an index is considered at most once
 absent : (i : ℕ) (cs : List LevelSize) → All (λ c. i < c.index) cs → sum_by (once_of i) cs ≡ 0
 absent i [] above = refl
 absent i (c ∷ cs) above =
@@ -91,7 +91,7 @@ sum-indexes : (i : ℕ) (level : List LevelSize) → sum_by (once i) (indexes le
 sum-indexes i [] = refl
 sum-indexes i (c ∷ cs) = omega (arith, sum-indexes i cs, sum_by-cons (once i) c.index (indexes cs), sum_by-cons (once_of i) c cs)
 
--- a level that is large enough, or isn't
+-- one more level, by whether it is large enough
 one_level : (m : ℕ) (level : List LevelSize) (more : List (List LevelSize)) →
     large_enough m (level ∷ more) ≡ cond (nat_le m (length level)) (indexes level ∷ large_enough m more) (large_enough m more)
 one_level m level more =
@@ -99,7 +99,7 @@ one_level m level more =
     elim (nat_le m (length level)) as (λ b. map indexes (cond b (level ∷ filter is_large more) (filter is_large more))
     ≡ cond b (indexes level ∷ large_enough m more) (large_enough m more)) [ true ↦ refl | false ↦ refl ]
 
--- no more are named than stand in levels
+-- candidates have no more members than levels
 named-fewer : (m i : ℕ) (ls : List (List LevelSize)) → sum_by (once i) (named (large_enough m ls)) ≤ sum_by (once_of i) (joined ls)
 named-fewer m i [] = omega arith
 named-fewer m i (level ∷ ls) =
@@ -112,7 +112,7 @@ named-fewer m i (level ∷ ls) =
       | false ↦ omega (arith, rest, all)
     ])
 
--- what holds of the members of two lists, of each
+-- a property of the members of two lists, appended, holds of each list
 All-front : {X : Type 0} (P : X → Type 0) (xs ys : List X) → All P (xs ++ ys) → All P xs
 All-front P [] ys ps = All-nil P
 All-front P (x ∷ xs) ys ps = All-cons P x xs (All-head P x (xs ++ ys) ps) (All-front P xs ys (All-tail P x (xs ++ ys) ps))
@@ -121,7 +121,7 @@ All-back : {X : Type 0} (P : X → Type 0) (xs ys : List X) → All P (xs ++ ys)
 All-back P [] ys ps = ps
 All-back P (x ∷ xs) ys ps = All-back P xs ys (All-tail P x (xs ++ ys) ps)
 
--- what holds of the indexes of all holds of those named
+-- a property of all indexes holds of those in candidates
 All-named : (m : ℕ) (P : ℕ → Type 0) (ls : List (List LevelSize)) → All (λ c. P c.index) (joined ls) → All P (named (large_enough m ls))
 All-named m P [] ps = All-nil P
 All-named m P (level ∷ ls) ps =
@@ -133,7 +133,7 @@ All-named m P (level ∷ ls) ps =
       | false ↦ rest
     ])
 
--- numbers that stand once at most are apart
+-- numbers that occur at most once are distinct
 apart : (n : ℕ) (ns : List ℕ) → sum_by (once n) ns ≤ 0 → All (λ m. n ≢ m) ns
 apart n [] h = All-nil (λ (m : ℕ). n ≢ m)
 apart n (m ∷ ns) h =

@@ -1,4 +1,4 @@
--- The steps of a strike, together.
+-- The steps of applying deletes, together.
 use Rattle.std.proofs.Common.{◌≡◌, ◌+◌, ◌<◌, ◌≤◌, ℕ, max, Bool, true, false, cond, not, ◌&&◌, ◌||◌, nat_lt, List, [], ◌∷◌, ◌++◌, length, refl, sym, ap, ap₂}
 use Rattle.std.proofs.Common.{◌∙◌, arith, All, subst, add-one}
 use Rattle.std.specs.Prelude.{slice_set, fold}
@@ -29,7 +29,7 @@ below_none n = grind (arith, nat_tests)
 below_max : (n a b : ℕ) → nat_lt n (max a b) ≡ (nat_lt n a || nat_lt n b)
 below_max n a b = grind (arith, nat_tests)
 
--- what an operation strikes, it strikes with all or by its term
+-- an operation deletes a document as a delete of all or by its term
 strikes-cases : (schema : List Field) (stamp : ℕ) (op : Op) (d : Stamped DocumentValue) →
     (nat_lt d.stamp stamp && strikes schema op d.value) ≡ (nat_lt d.stamp (bound_by stamp op) || strikes_by_term schema stamp op d)
 strikes-cases schema stamp (Add document) d = and-false (nat_lt d.stamp stamp) ∙ sym (ap (λ b. b || false) (below_none d.stamp))
@@ -56,7 +56,7 @@ survives-cases : (schema : List Field) (ops : List (Stamped Op)) (d : Stamped Do
 survives-cases schema ops d =
     ap not (struck-cases schema ops d) ∙ not_or (nat_lt d.stamp (bound_of ops)) (list_any (λ op. strikes_by_term schema op.stamp op.value d) ops)
 
--- the bits after the deletes of all documents, and then after those of terms
+-- the live bits after the deletes of all documents, and then after those of terms
 pub bits_after-steps : (schema : List Field) (ops : List (Stamped Op)) (ds : List (Stamped DocumentValue)) (bits : List Bool) →
     bits_where (survives_terms schema ops) ds (bits_where (λ d. not (nat_lt d.stamp (bound_of ops))) ds bits) ≡ bits_after schema ops ds bits
 bits_after-steps schema ops ds bits =
@@ -64,12 +64,12 @@ bits_after-steps schema ops ds bits =
     bits_where-again p (survives_terms schema ops) ds bits
     ∙ sym (bits_where-same (survives schema ops) (λ d. p d && survives_terms schema ops d) (survives-cases schema ops) ds bits)
 
--- one operation more
+-- the bound with one more operation
 pub bound_of-push : (ops : List (Stamped Op)) (op : Stamped Op) → bound_of (ops ++ op ∷ []) ≡ max (bound_by op.stamp op.value) (bound_of ops)
 bound_of-push [] op = refl
 bound_of-push (o ∷ ops) op = ap (max (bound_by o.stamp o.value)) (bound_of-push ops op) ∙ omega arith
 
--- the bit of the document behind others is cleared
+-- the bit of the document after others is cleared
 cleared_here : (stamp : ℕ) (before : List (Stamped DocumentValue)) (d : Stamped DocumentValue) (ds : List (Stamped DocumentValue)) (kept : List Bool)
     (bit : Bool) (bits : List Bool) → length kept ≡ length before →
     cleared (before ++ d ∷ ds) stamp (kept ++ bit ∷ bits) (length before) ≡ kept ++ (bit && not (nat_lt d.stamp stamp)) ∷ bits
@@ -80,7 +80,7 @@ cleared_here stamp before d ds kept bit bits e =
     ∙ elim (nat_lt d.stamp stamp) as (λ b. cond b (kept ++ false ∷ bits) (kept ++ bit ∷ bits) ≡ kept ++ (bit && not b) ∷ bits)
     [ true ↦ ap (λ b. kept ++ b ∷ bits) (sym (and-false bit)) | false ↦ ap (λ b. kept ++ b ∷ bits) (sym (and-true bit)) ]
 
--- the bits of the documents behind others whose number is among those of the members that pass
+-- the bits are cleared of those documents after others that pass
 cleared_behind : (stamp : ℕ) (p : Stamped DocumentValue → Bool) (before ds : List (Stamped DocumentValue)) (kept bits : List Bool) →
     length kept ≡ length before → length bits ≡ length ds →
     fold (cleared (before ++ ds) stamp) (kept ++ bits) (numbers_where p (length before) ds) ≡ kept ++ bits_where (λ d. not (nat_lt d.stamp stamp && p d)) ds
@@ -110,17 +110,17 @@ cleared_behind stamp p before (d ∷ ds) kept (bit ∷ bits) e f =
     ∙ next
     ∙ append_assoc kept ((bit && q d) ∷ []) (bits_where q ds bits)
 
--- the bits of the documents that pass
+-- the bits are cleared of the documents that pass
 pub cleared_where : (stamp : ℕ) (p : Stamped DocumentValue → Bool) (ds : List (Stamped DocumentValue)) (bits : List Bool) → length bits ≡ length ds →
     fold (cleared ds stamp) bits (numbers_where p 0 ds) ≡ bits_where (λ d. not (nat_lt d.stamp stamp && p d)) ds bits
 cleared_where stamp p ds bits f = cleared_behind stamp p [] ds [] bits refl f
 
--- all numbers are those of the members that pass a test that all pass
+-- the numbers of members that pass a test that all pass are all numbers
 numbers_all : {X : Type 0} (n : ℕ) (xs : List X) → numbers_where (λ x. true) n xs ≡ range_with_len n (length xs)
 numbers_all n [] = refl
 numbers_all n (x ∷ xs) = ap (λ ns. n ∷ ns) (numbers_all (n + 1) xs)
 
--- the bits of all documents
+-- the bits of all documents are cleared if their stamps are smaller
 pub cleared_all : (stamp : ℕ) (ds : List (Stamped DocumentValue)) (bits : List Bool) → length bits ≡ length ds →
     fold (cleared ds stamp) bits (range_with_len 0 (length ds)) ≡ bits_where (λ d. not (nat_lt d.stamp stamp)) ds bits
 cleared_all stamp ds bits f =
@@ -140,7 +140,7 @@ pub length-cleared_all : (ds : List (Stamped DocumentValue)) (stamp : ℕ) (bits
 length-cleared_all ds stamp bits [] = refl
 length-cleared_all ds stamp bits (n ∷ ns) = length-cleared_all ds stamp (cleared ds stamp bits n) ns ∙ length-cleared ds stamp bits n
 
--- the numbers of members are below that of the end
+-- the numbers of members are below the end
 numbers_where-within : {X : Type 0} (p : X → Bool) (n m : ℕ) (xs : List X) → n + length xs ≤ m → All (λ k. k < m) (numbers_where p n xs)
 numbers_where-within p n m [] e = All-nil (λ (k : ℕ). k < m)
 numbers_where-within p n m (x ∷ xs) e =

@@ -32,7 +32,7 @@ bits_where-agree p q (x ∷ xs) [] same = refl
 bits_where-agree p q (x ∷ xs) (bit ∷ bits) same =
     ap₂ (λ b bs. (bit && b) ∷ bs) (All-head (λ y. p y ≡ q y) x xs same) (bits_where-agree p q xs bits (All-tail (λ y. p y ≡ q y) x xs same))
 
--- where no member passes, each fails
+-- if no member passes, each fails
 none_chosen : (b : Bool) (n : ℕ) (ns : List ℕ) → cond b (n ∷ ns) ns ≡ [] → (b ≡ false) × (ns ≡ [])
 none_chosen true n ns e = absurd (omega (arith, ap length e))
 none_chosen false n ns e = (refl, e)
@@ -43,7 +43,7 @@ numbers_where-none p n (x ∷ xs) none =
     let both = none_chosen (p x) n (numbers_where p (n + 1) xs) (sym (numbers_where-cons p n x xs) ∙ none) in
     All-cons (λ y. p y ≡ false) x xs both.0 (numbers_where-none p (n + 1) xs both.1)
 
--- a term that no document has strikes none
+-- a delete of a term that no document has applies to none
 pub struck-none : (segment : SegmentValue) (stamp : ℕ) (term : Term) → postings segment term ≡ [] →
     All (λ d. strikes_by_term segment.schema stamp (Delete term) d ≡ false) segment.documents
 struck-none segment stamp term none =
@@ -63,7 +63,7 @@ alike-push schema ds deletes ops op delete same alike = λ k x lt.
     ∙ ap₂ (λ a b. a || b) (alike k x lt) (ap (λ b. b || false) (same d))
     ∙ sym (list_any-append t ops (op ∷ []))
 
--- one more operation, which strikes nothing by a term
+-- one more operation, which deletes nothing by a term
 pub alike-none : (schema : List Field) (ds : List (Stamped DocumentValue)) (deletes : List TermDelete) (ops : List (Stamped Op)) (op : Stamped Op) →
     All (λ d. strikes_by_term schema op.stamp op.value d ≡ false) ds → StrikeAlike schema deletes ops ds → StrikeAlike schema deletes (ops ++ op ∷ []) ds
 alike-none schema ds deletes ops op none alike = λ k x lt.
@@ -74,7 +74,7 @@ alike-none schema ds deletes ops op none alike = λ k x lt.
     ∙ ap (λ b. list_any t ops || b) (sym (ap (λ b. b || false) (none k x lt)))
     ∙ sym (list_any-append t ops (op ∷ []))
 
--- in any order, deletes that strike alike leave the same bits
+-- deletes that apply alike leave the same bits in any order
 pub bits_where-alike : (schema : List Field) (ds : List (Stamped DocumentValue)) (bits : List Bool) (deletes sorted : List TermDelete) (ops : List (Stamped Op)) →
     IsPermutation deletes sorted → StrikeAlike schema deletes ops ds →
     bits_where (survives_found schema sorted) ds bits ≡ bits_where (survives_terms schema ops) ds bits
@@ -83,7 +83,7 @@ bits_where-alike schema ds bits deletes sorted ops moved alike =
     (λ k x lt. let f : TermDelete → Bool = λ found. strikes_found schema found (get_or ds k x) in
     ap not (sym (list_any-IsPermutation f deletes sorted moved) ∙ alike k x lt))
 
--- no delete leaves all bits
+-- if there is no delete, all bits are left
 pub survives_found-none : (schema : List Field) (ds : List (Stamped DocumentValue)) (bits : List Bool) → length bits ≡ length ds →
     bits_where (survives_found schema []) ds bits ≡ bits
 survives_found-none schema ds bits e = bits_where-all (survives_found schema []) (λ d. refl) ds bits e
@@ -108,7 +108,7 @@ absorbed true b h = refl
 absorbed false true h = sym (h refl)
 absorbed false false h = refl
 
--- one more delete, which strikes nothing that the one before it doesn't strike
+-- one more delete, which is covered by the one before it
 pub survives_found-covered : (schema : List Field) (d : Stamped DocumentValue) (deletes : List TermDelete) (i : ℕ) (before delete : TermDelete) → 0 < i →
     i < length deletes →
     before ≡ get_or deletes (i - 1) before → delete ≡ get_or deletes i delete →
@@ -126,14 +126,14 @@ survives_found-covered schema d deletes i before delete positive h b e covers =
 below_later : (n a b : ℕ) → a ≤ b → nat_lt n a ≡ true → nat_lt n b ≡ true
 below_later n a b h e = grind (arith, nat_tests)
 
--- a later delete of the same term strikes no less
+-- a later delete of the same term applies to no fewer documents
 pub later-strikes : (schema : List Field) (d : Stamped DocumentValue) (delete other : TermDelete) → other.stamp ≤ delete.stamp → delete.term.now ≡ other.term.now →
     strikes_found schema other d ≡ true → strikes_found schema delete d ≡ true
 later-strikes schema d delete other later same struck =
     let parts = and_parts (nat_lt d.stamp other.stamp) (has schema d.value other.term.now) struck in
     ap₂ (λ a b. a && b) (below_later d.stamp other.stamp delete.stamp later parts.0) (ap (λ t. has schema d.value t) same ∙ parts.1)
 
--- what holds anyway
+-- a property holds whether an option is none or not
 pub if_none : {X : Type 0} {P : Type 0} (r : Option X) → P → IfNone r P
 if_none None p = p
 if_none (Some x) p = tt

@@ -1,4 +1,4 @@
--- Sizes as they count, and their levels.
+-- Sizes raised to the floor, and their levels.
 use Rattle.std.proofs.Common.{◌≡◌, ◌+◌, ◌-◌, ◌^◌, ◌<◌, ◌≤◌, ℕ, Bool, true, false, cond, nat_le, List, [], ◌∷◌, ◌++◌, map, filter, length, drop, take, get_or}
 use Rattle.std.proofs.Common.{slice_range, refl, sym, ap, ap₂, ◌∙◌, subst, arith, All}
 use Rattle.std.specs.List.{enumerate_from}
@@ -12,7 +12,7 @@ use Rattle.fts_model.specs.Limits.{most_merged}
 use Rattle.fts_merge.specs.Levels.{as_counted, joins, levels_behind, large_enough}
 use Rattle.fts_segment.proofs.SourceLemmas.{dropped}
 
--- sizes as they count, of which the first has the index n
+-- sizes raised to the floor, the first of which has the index n
 abbrev pub considered_from : MergePolicy → ℕ → List ℕ → List LevelSize
 considered_from p n sizes = map (as_counted p.floor) (filter (λ s. nat_le s.1 p.most) (enumerate_from n sizes))
 
@@ -24,7 +24,7 @@ considered-cons p n size sizes =
     elim (nat_le size p.most) as (λ b. map (as_counted p.floor) (cond b ((n, size) ∷ rest) rest)
     ≡ cond b (as_counted p.floor (n, size) ∷ considered_from p (n + 1) sizes) (considered_from p (n + 1) sizes)) [ true ↦ refl | false ↦ refl ]
 
--- a size is considered
+-- one more size is considered
 pub considered-more : (p : MergePolicy) (done all : List LevelSize) (sizes : List ℕ) (i size : ℕ) → i < length sizes → size ≡ get_or sizes i size →
     size ≤ p.most →
     done ++ considered_from p i (drop i sizes) ≡ all → (done ++ as_counted p.floor (i, size) ∷ []) ++ considered_from p (i + 1) (drop (i + 1) sizes) ≡ all
@@ -35,7 +35,7 @@ considered-more p done all sizes i size h e small old =
     ∙ ap (λ cs. done ++ cs) (sym (ap (considered_from p i) (dropped sizes i size h e) ∙ considered-cons p i size (drop (i + 1) sizes)
     ∙ ap (λ b. cond b (as_counted p.floor (i, size) ∷ rest) rest) is)) ∙ old
 
--- a size is too great
+-- one more size is too large
 pub considered-less : (p : MergePolicy) (done all : List LevelSize) (sizes : List ℕ) (i size : ℕ) → i < length sizes → size ≡ get_or sizes i size →
     p.most < size →
     done ++ considered_from p i (drop i sizes) ≡ all → done ++ considered_from p (i + 1) (drop (i + 1) sizes) ≡ all
@@ -45,7 +45,7 @@ considered-less p done all sizes i size h e great old =
     ap (λ cs. done ++ cs) (sym (ap (considered_from p i) (dropped sizes i size h e) ∙ considered-cons p i size (drop (i + 1) sizes)
     ∙ ap (λ b. cond b (as_counted p.floor (i, size) ∷ rest) rest) is)) ∙ old
 
--- sizes as they count are within the greatest
+-- sizes raised to the floor are at most the maximum
 pub considered-within : (p : MergePolicy) (n : ℕ) (sizes : List ℕ) → p.floor ≤ most_merged → p.most ≤ most_merged →
     All (λ c. c.size ≤ most_merged) (considered_from p n sizes)
 considered-within p n [] f m = All-nil (λ (c : LevelSize). c.size ≤ most_merged)
@@ -59,11 +59,11 @@ considered-within p n (size ∷ sizes) f m =
       | false ↦ λ is. rest
     ] refl)
 
--- the fourth power of a size that is considered
+-- the fourth power of a considered size is bounded
 pub fourth_power-bound : (size : ℕ) → size ≤ most_merged → size ^ 4 ≤ 1208925819614629174706176
 fourth_power-bound size h = pow-le-pow_left h 4
 
--- levels that are large enough, the first apart
+-- the levels that are large enough, with the first split off
 pub large_enough-cons : (m : ℕ) (level : List LevelSize) (more : List (List LevelSize)) → large_enough m (level ∷ more) ≡ large_enough m (level ∷ [])
     ++ large_enough m more
 large_enough-cons m level more =
@@ -72,7 +72,7 @@ large_enough-cons m level more =
     elim (nat_le m (length level)) as (λ b. told (cond b (level ∷ filter is_large more) (filter is_large more)) ≡ told (cond b (level ∷ []) []) ++ large_enough
     m more) [ true ↦ refl | false ↦ refl ]
 
--- a stretch with one member more
+-- a range with one more member
 stretch_more : (cs : List LevelSize) (start place : ℕ) (c : LevelSize) → start < place → place < length cs → c ≡ get_or cs place c →
     slice_range cs start (place + 1) ≡ slice_range cs start place ++ c ∷ []
 stretch_more cs start place c begun within is =
@@ -83,13 +83,13 @@ stretch_more cs start place c begun within is =
     ap (λ k. take k (drop start cs)) longer ∙ take_more (drop start cs) n c (omega (arith, length-drop start cs))
     ∙ ap (λ d. take n (drop start cs) ++ d ∷ []) at
 
--- a stretch of one member
+-- a range of one member
 stretch_of_one : (cs : List LevelSize) (place : ℕ) (c : LevelSize) → place < length cs → c ≡ get_or cs place c → slice_range cs place (place + 1) ≡ c ∷ []
 stretch_of_one cs place c within is =
     let one : place + 1 - place ≡ 1 = omega arith in
     ap (λ k. take k (drop place cs)) one ∙ ap (take 1) (dropped cs place c within is)
 
--- a size joins the level
+-- a size joins the current level
 pub level_joined : (m : ℕ) (found all : List (List ℕ)) (cs : List LevelSize) (start place first : ℕ) (c : LevelSize) → start < place → place < length cs →
     c ≡ get_or cs place c → joins first c.size ≡ true →
     found ++ large_enough m (levels_behind first (slice_range cs start place) (drop place cs)) ≡ all →
@@ -103,7 +103,7 @@ level_joined m found all cs start place first c begun within is joined old =
     ∙ ap (λ cs. levels_behind first cs rest) (sym (stretch_more cs start place c begun within is)) in
     ap (λ ls. found ++ large_enough m ls) (sym step) ∙ old
 
--- a size opens another level
+-- a size begins another level
 pub level_opened : (m : ℕ) (found more all : List (List ℕ)) (cs : List LevelSize) (start place first : ℕ) (c : LevelSize) → place < length cs →
     c ≡ get_or cs place c → joins first c.size ≡ false →
     more ≡ found ++ large_enough m (slice_range cs start place ∷ []) →

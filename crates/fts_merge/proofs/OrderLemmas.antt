@@ -1,4 +1,4 @@
--- The order of sizes: lists in it that have the same members are one.
+-- The order of sizes: ordered lists with the same members are equal.
 use Rattle.std.proofs.Common.{◌≡◌, ◌+◌, ◌<◌, ◌≤◌, ◌&&◌, ◌||◌, ◌==◌, ℕ, suc, Bool, true, false, cond, nat_lt, nat_cmp, is_lt, List, [], ◌∷◌, length, get_or}
 use Rattle.std.proofs.Common.{refl, sym, ap, ap₂, subst, ◌∙◌, arith, All}
 use Rattle.std.specs.Ordering.{ordering_then}
@@ -11,7 +11,7 @@ use Rattle.std.proofs.lemmas.List.Sorted.{IsPermutation-refl, IsPermutation-cons
 use Rattle.fts_merge.specs.declared.merge_plan.LevelSize.{LevelSize}
 use Rattle.fts_merge.specs.Levels.{comes_first, placed, greatest_first}
 
--- by numbers: a size with its index comes before another
+-- a size with its index comes before another, by numbers
 abbrev comes : ℕ → ℕ → ℕ → ℕ → Bool
 comes s i t j = nat_lt t s || s == t && nat_lt i j
 
@@ -30,7 +30,7 @@ comes_tied_size s i t j g h = grind (arith, nat_tests)
 comes_tied_index : (s i t j : ℕ) → comes s i t j ≡ false → comes t j s i ≡ false → i ≡ j
 comes_tied_index s i t j g h = grind (arith, nat_tests)
 
--- what the order of pairs says
+-- the order of pairs is the order by numbers
 pub comes_as_pairs : (s i t j : ℕ) → is_lt (ordering_then (nat_cmp t s) (nat_cmp i j)) ≡ comes s i t j
 comes_as_pairs s i t j = grind (arith, nat_tests)
 
@@ -76,14 +76,14 @@ IsPermutation-placed c (d ∷ ds) =
           (IsPermutation-cons d (c ∷ ds) (placed c ds) (IsPermutation-placed c ds))
     ]
 
--- the order moves sizes only
+-- sorting sizes is a permutation
 pub IsPermutation-greatest_first : (cs : List LevelSize) → IsPermutation cs (greatest_first cs)
 IsPermutation-greatest_first [] = IsPermutation-refl []
 IsPermutation-greatest_first (c ∷ cs) =
     IsPermutation-trans (c ∷ cs) (c ∷ greatest_first cs) (placed c (greatest_first cs))
     (IsPermutation-cons c cs (greatest_first cs) (IsPermutation-greatest_first cs)) (IsPermutation-placed c (greatest_first cs))
 
--- two are the same
+-- two sizes with their indexes are equal
 abbrev is_same : LevelSize → LevelSize → Bool
 is_same c d = c.size == d.size && c.index == d.index
 
@@ -96,11 +96,11 @@ same_from c d s i = ap₂ (λ (a b : ℕ). let e : LevelSize = record { size = a
 same_is : (c d : LevelSize) → is_same c d ≡ true → c ≡ d
 same_is c d h = same_from c d (grind (arith, nat_tests)) (grind (arith, nat_tests))
 
--- how often a size is among these: once, or not
+-- 1 if a size is this one, and otherwise 0
 abbrev once : LevelSize → LevelSize → ℕ
 once c d = cond (is_same c d) 1 0
 
--- what holds of all holds of one that is among them
+-- a property of all holds of one that occurs
 occurs : (P : LevelSize → Type 0) (c : LevelSize) (ds : List LevelSize) → All P ds → 1 ≤ sum_by (once c) ds → P c
 occurs P c [] ps more = absurd (omega (arith, more))
 occurs P c (d ∷ ds) ps more =
@@ -110,7 +110,7 @@ occurs P c (d ∷ ds) ps more =
           occurs P c ds (All-tail P d ds ps) (omega (arith, more, none, sum_by-cons (once c) d ds))
     ] refl
 
--- lists in order that have the same members as often are one
+-- ordered lists that have the same members as often are equal
 one_order : (cs ds : List LevelSize) → IsOrdered cs → IsOrdered ds → ((e : LevelSize) → sum_by (once e) cs ≡ sum_by (once e) ds) → cs ≡ ds
 one_order [] [] o p same = refl
 one_order [] (d ∷ ds) o p same =
@@ -130,7 +130,7 @@ one_order (c ∷ cs) (d ∷ ds) o p same =
     let rest = one_order cs ds o.1 p.1 (λ e. omega (arith, same e, ap (once e) is, sum_by-cons (once e) c cs, sum_by-cons (once e) d ds)) in
     ap₂ (λ x xs. x ∷ xs) is rest
 
--- neighbours in order
+-- a list whose neighbours are in order is ordered
 ordered_from : (cs : List LevelSize) → ((k : ℕ) (d : LevelSize) → k + 1 < length cs → NotAfter (get_or cs k d) (get_or cs (k + 1) d)) → IsOrdered cs
 ordered_from [] h = tt
 ordered_from (c ∷ []) h = (All-nil (NotAfter c), tt)
@@ -142,7 +142,7 @@ ordered_from (c ∷ d ∷ cs) h =
     subst P next (h (suc k) e (omega (arith, within)))) in
     (All-cons (NotAfter c) d cs first (chained c d cs first rest.0), rest)
 
--- a list of the same sizes whose neighbours are in order is their order
+-- a permutation of sizes whose neighbours are in order is the sorted list
 pub greatest_first-is : (cs ds : List LevelSize) → IsPermutation cs ds →
     ((k : ℕ) (d : LevelSize) → k + 1 < length ds → comes_first (get_or ds (k + 1) d) (get_or ds k d) ≡ false) → ds ≡ greatest_first cs
 greatest_first-is cs ds moved sorted =

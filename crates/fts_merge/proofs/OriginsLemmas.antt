@@ -1,4 +1,4 @@
--- Where the documents of a merged segment come from.
+-- The origins of the documents of a merged segment.
 use Rattle.std.proofs.Common.{◌≡◌, ◌≢◌, ◌+◌, ◌<◌, ◌≤◌, ℕ, suc, Bool, true, false, cond, List, [], ◌∷◌, ◌++◌, length, count_by, refl, sym, ap, subst, ◌∙◌, arith}
 use Rattle.std.proofs.Common.{All, AllPairs}
 use Rattle.std.proofs.lemmas.List.{length-append}
@@ -36,7 +36,7 @@ length-origins_from n (s ∷ ss) =
           count_of s ss,
     )
 
--- and each live document
+-- the sources' content has each live document once
 pub length-contents_of : (ss : List SourceValue) → All HasBits ss → length (contents ss) ≡ live_count ss
 length-contents_of [] bits = refl
 length-contents_of (s ∷ ss) bits =
@@ -50,7 +50,7 @@ length-contents_of (s ∷ ss) bits =
       sum_by-cons count_of s ss,
     )
 
--- the origins in a source are of this source, and of numbers from the first on
+-- the origins in a source have its index, and numbers from the first on
 abbrev IsFrom : ℕ → ℕ → Origin → Type 0
 IsFrom source n o = (o.source ≡ source) × (n ≤ o.document)
 
@@ -66,7 +66,7 @@ from_source source n (bit ∷ bits) =
       | false ↦ rest
     ])
 
--- no two origins in a source are the same
+-- no two origins in a source are equal
 once_in : (source n : ℕ) (bits : List Bool) → AllPairs (λ a b. a ≢ b) (origins_behind source n bits)
 once_in source n [] = λ i j d lt within. absurd (omega (arith, within))
 once_in source n (bit ∷ bits) =
@@ -80,7 +80,7 @@ once_in source n (bit ∷ bits) =
       | false ↦ once_in source (n + 1) bits
     ])
 
--- lists whose members are apart
+-- appended lists are pairwise related if each is, and the members of both are
 pairs_append : {X : Type 0} (R : X → X → Type 0) (xs ys : List X) → AllPairs R xs → AllPairs R ys → All (λ x. All (R x) ys) xs → AllPairs R (xs ++ ys)
 pairs_append R [] ys p q apart = q
 pairs_append R (x ∷ xs) ys p q apart =
@@ -89,7 +89,7 @@ pairs_append R (x ∷ xs) ys p q apart =
     AllPairs-cons R x (xs ++ ys) (All-append (R x) xs ys front (All-head (λ x. All (R x) ys) x xs apart))
     (pairs_append R xs ys behind q (All-tail (λ x. All (R x) ys) x xs apart))
 
--- origins are of the sources from the first on, and before the last
+-- the origins are in the sources from the first to the last
 abbrev IsAmong : ℕ → ℕ → Origin → Type 0
 IsAmong first end o = (first ≤ o.source) × (o.source < end)
 

@@ -1,4 +1,4 @@
--- The places of live documents in a merged segment.
+-- The indexes of live documents in a merged segment.
 use Rattle.std.proofs.Common.{◌≡◌, ◌+◌, ◌-◌, ◌<◌, ◌≤◌, ℕ, zero, suc, Bool, true, false, List, [], ◌∷◌, ◌++◌, Some, None, length, refl, sym, ap, ap₂, ◌∙◌}
 use Rattle.std.proofs.Common.{⊎_elim, arith, All}
 use Rattle.std.specs.Prelude.{slice_get}
@@ -14,7 +14,7 @@ use Rattle.fts_segment.proofs.SourceLemmas.{length-where_set}
 use Rattle.fts_merge.proofs.MergeLemmas.{origins_behind, origins-cons}
 use Rattle.fts_merge.proofs.OriginsLemmas.{length-origins_behind}
 
--- the members of two lists, one behind the other
+-- the members of two appended lists
 get_left : {X : Type 0} (xs ys : List X) (i : ℕ) → i < length xs → slice_get (xs ++ ys) i ≡ slice_get xs i
 get_left [] ys i h = absurd (omega (arith, h))
 get_left (x ∷ xs) ys zero h = refl
@@ -26,7 +26,7 @@ get_right (x ∷ xs) ys i =
     let next : suc (length xs) + i ≡ suc (length xs + i) = omega arith in
     ap (slice_get (x ∷ (xs ++ ys))) next ∙ get_right xs ys i
 
--- each live document has its place among what is taken of its source
+-- each live document has its index among those taken from its source
 placed_in : (source n : ℕ) (ds : List (Stamped DocumentValue)) (bits : List Bool) (document : ℕ) → length bits ≡ length ds →
     slice_get bits document ≡ Some true →
     (place : ℕ) × (slice_get (origins_behind source n bits) place ≡ Some (record { source = source; document = n + document }))
@@ -52,11 +52,11 @@ placed_in source n (d ∷ ds) (false ∷ bits) (suc document) e h =
       rest.2,
     )
 
--- as many origins of a source as live documents
+-- a source has as many origins as live documents
 same_length : (n : ℕ) (s : SourceValue) → HasBits s → length (origins_in n s.live) ≡ length (content_of s.segment s.live)
 same_length n s here = length-origins_behind n 0 s.live ∙ sym (length-where_set s.segment.documents s.live here)
 
--- each live document of a source has its place in the merged segment
+-- each live document of a source has its index in the merged segment
 pub placed_from : (n : ℕ) (ss : List SourceValue) (number : ℕ) (s : SourceValue) (document : ℕ) → All HasBits ss → slice_get ss number ≡ Some s →
     slice_get s.live document ≡ Some true →
     (place : ℕ) × (slice_get (origins_from n ss) place ≡ Some (record { source = n + number; document = document }))
@@ -101,7 +101,7 @@ told_in source n (d ∷ ds) (false ∷ bits) place o e h =
     let rest = told_in source (n + 1) ds bits place o (omega (arith, e)) (sym (ap (λ os. slice_get os place) (origins-cons source n false bits)) ∙ h) in
     (suc rest.0, rest.1 ∙ ap (λ (m : ℕ). record { source = source; document = m }) (omega arith), rest.2, rest.3)
 
--- what an origin in a merged segment tells of the document at its place
+-- an origin in a merged segment is that of the document at its index
 pub record Tells (ss : List SourceValue) (place number document : ℕ) : Type 0 where
   pub source : SourceValue
   pub is : slice_get ss number ≡ Some source

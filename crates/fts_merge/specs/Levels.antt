@@ -1,5 +1,5 @@
--- Which segments are merged: those of one level together, where a size is a number of live documents, and one of many
--- dead documents by itself.
+-- The segments that are merged: those of one level together, by their numbers of live documents, and one with many
+-- deleted documents by itself.
 use Rattle.std.specs.Prelude.{ℕ, ◌-◌, ◌*◌, ◌^◌, ◌==◌, ◌&&◌, ◌||◌, not, nat_eq, nat_le, nat_lt, max, Bool, List, [], ◌∷◌}
 use Rattle.std.specs.Prelude.{◌++◌}
 use Rattle.std.specs.Prelude.{length, map, filter, if◌then◌else◌}
@@ -12,11 +12,11 @@ use Rattle.fts_merge.specs.declared.merge_policy.SegmentSize.{SegmentSize}
 abbrev pub usual : MergePolicy
 usual = record { floor = 10000; members = 8; most = 1000000; dead = 100 }
 
--- a size as it counts, after its index: one below the floor counts as the floor
+-- a size with its index, raised to the policy's floor
 abbrev pub as_counted : ℕ → ℕ × ℕ → LevelSize
 as_counted floor (index, size) = record { size = max size floor; index = index }
 
--- the sizes as they count, without those over the greatest that is merged
+-- sizes up to the policy's maximum, raised to its floor, each with its index
 abbrev pub considered : MergePolicy → List ℕ → List LevelSize
 considered policy sizes = map (as_counted policy.floor) (filter (λ s. nat_le s.1 policy.most) (enumerate_from 0 sizes))
 
@@ -24,45 +24,45 @@ considered policy sizes = map (as_counted policy.floor) (filter (λ s. nat_le s.
 abbrev pub comes_first : LevelSize → LevelSize → Bool
 comes_first a b = nat_lt b.size a.size || a.size == b.size && nat_lt a.index b.index
 
--- a size put among others, before the first that it comes before
+-- ordered sizes with one more, inserted before the first that it comes before
 abbrev pub placed : LevelSize → List LevelSize → List LevelSize
 placed c [] = c ∷ []
 placed c (d ∷ ds) = if comes_first c d then c ∷ d ∷ ds else d ∷ placed c ds
 
--- sizes in order: the greatest first, equal ones by their indexes
+-- sizes in descending order, equal ones by their indexes
 abbrev pub greatest_first : List LevelSize → List LevelSize
 greatest_first [] = []
 greatest_first (c ∷ cs) = placed c (greatest_first cs)
 
--- a size joins the level that another opened: the logarithms to base 2 differ by at most 0.75
+-- a size is in the level of another: their logarithms to base 2 differ by at most 0.75
 abbrev pub joins : ℕ → ℕ → Bool
 joins first size = nat_le (first ^ 4) (8 * size ^ 4)
 
--- the levels of sizes in order, where some are in the level that `first` opened
+-- the levels of ordered sizes, if some before them are in the level whose first size is `first`
 abbrev pub levels_behind : ℕ → List LevelSize → List LevelSize → List (List LevelSize)
 levels_behind first level [] = level ∷ []
 levels_behind first level (c ∷ cs) =
     if joins first c.size then levels_behind first (level ++ c ∷ []) cs else level ∷ levels_behind c.size (c ∷ []) cs
 
--- the levels of sizes in order: the first size opens one, and each that doesn't join opens another
+-- the levels of ordered sizes: the first size begins one, and each that does not join it begins another
 abbrev pub levels_of : List LevelSize → List (List LevelSize)
 levels_of [] = []
 levels_of (c ∷ cs) = levels_behind c.size (c ∷ []) cs
 
--- the levels of sizes, those of the greatest first
+-- the levels of sizes, beginning with the greatest
 abbrev pub levels : MergePolicy → List ℕ → List (List LevelSize)
 levels policy sizes = levels_of (greatest_first (considered policy sizes))
 
--- the indexes of the levels of enough members
+-- the indexes of the levels with enough members
 abbrev pub large_enough : ℕ → List (List LevelSize) → List (List ℕ)
 large_enough members levels =
     map (λ level. map (λ c. c.index) level) (filter (λ level. nat_le members (length level)) levels)
 
--- what is to be merged together: for each level of enough members, their indexes among the sizes
+-- the candidates for levels: for each level with enough members, their indexes among the sizes
 abbrev pub together : MergePolicy → List ℕ → List (List ℕ)
 together policy sizes = large_enough policy.members (levels policy sizes)
 
--- what is to be merged, where a level of at least eight members is
+-- the candidates for levels of at least eight members
 abbrev pub candidates : List ℕ → List (List ℕ)
 candidates sizes = together usual sizes
 
@@ -70,21 +70,22 @@ candidates sizes = together usual sizes
 abbrev pub is_named : List (List ℕ) → ℕ → Bool
 is_named found index = list_any (λ candidate. list_any (λ named. nat_eq named index) candidate) found
 
--- more than this many percent of its documents are dead
+-- more than this percentage of a segment's documents are deleted
 abbrev pub is_mostly_dead : ℕ → SegmentSize → Bool
 is_mostly_dead percent segment = nat_lt (percent * segment.docs) (100 * (segment.docs - segment.live))
 
--- what is to be merged by itself: each segment of this many dead documents that no other candidate has
+-- the candidates of a single segment: each with more than this percentage of deleted documents that is in no other
+-- candidate
 abbrev pub alone : ℕ → List (List ℕ) → List SegmentSize → List (List ℕ)
 alone percent found segments =
     map (λ s. s.0 ∷ [])
     (filter (λ s. is_mostly_dead percent s.1 && not (is_named found s.0)) (enumerate_from 0 segments))
 
--- how many live documents segments have
+-- the number of live documents of each segment
 abbrev pub live_sizes : List SegmentSize → List ℕ
 live_sizes segments = map (λ s. s.live) segments
 
--- what is to be merged by a policy: together what a level has, and then by itself what has too many dead documents
+-- the candidates of a policy: first those for levels, then single segments with too many deleted documents
 abbrev pub candidates_by : MergePolicy → List SegmentSize → List (List ℕ)
 candidates_by policy segments =
     together policy (live_sizes segments)

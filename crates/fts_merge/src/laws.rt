@@ -1,4 +1,4 @@
-//! What ties the definitions to each other: each contract is a law, and the body is empty.
+//! Laws that tie the definitions to each other: each contract is a law, and the body is empty.
 ghost use Rattle.std.specs.Prelude.{◌≡◌, ◌<◌, ◌≤◌, ◌++◌, ℕ, true, Bool, List, Some, All, AllPairs, count_by, filter};
 ghost use Rattle.std.specs.Prelude.{flat_map, length, slice_get, ◌≢◌};
 ghost use Rattle.fts_model.specs.declared.schema.Field.{Field};
@@ -15,7 +15,7 @@ ghost use Rattle.fts_merge.specs.Levels.{usual};
 ghost use Rattle.fts_merge.specs.Merges.{SourceValue, HasBits, IsMerged, contents, live_count, merge_of, origins_from};
 ghost use Rattle.fts_merge.specs.declared.origin.Origin.{Origin};
 
-/// To strike by operations and then by more is to strike by all of them.
+/// To apply the deletes of operations, and then those of more, is to apply those of all of them.
 pub fn strikes_go_on()
     ensures { (schema : List Field) (ops more : List (Stamped Op))
         (documents : List (Stamped DocumentValue)) (live : List Bool) →
@@ -23,7 +23,7 @@ pub fn strikes_go_on()
         ≡ bits_after schema (ops ++ more) documents live }
 {}
 
-/// A strike leaves the bits of the same documents, and sets none.
+/// Applying deletes leaves one bit per document, and sets none.
 pub fn strikes_keep_the_documents()
     ensures { (schema : List Field) (ops : List (Stamped Op))
         (documents : List (Stamped DocumentValue)) (live : List Bool) →
@@ -31,7 +31,7 @@ pub fn strikes_keep_the_documents()
         length (bits_after schema ops documents live) ≡ length documents }
 {}
 
-/// What a segment contains after a strike is what it contained and survives.
+/// The content of a segment after deletes are applied is what survives of its content.
 pub fn content_after_a_strike()
     ensures { (schema : List Field) (ops : List (Stamped Op))
         (documents : List (Stamped DocumentValue)) (live : List Bool) →
@@ -39,7 +39,7 @@ pub fn content_after_a_strike()
         ≡ filter (survives schema ops) (content documents live) }
 {}
 
-/// A segment contains as many documents as bits are set.
+/// A segment has as many live documents as set bits.
 pub fn live_bits_count_the_content()
     ensures { (documents : List (Stamped DocumentValue)) (live : List Bool) →
         length live ≡ length documents →
@@ -52,12 +52,12 @@ pub fn a_merge_counts_live_documents()
         length (contents sources) ≡ live_count sources }
 {}
 
-/// The documents of a merged segment have each one origin, no two the same.
+/// Each document of a merged segment has one origin, and no two have the same.
 pub fn a_merge_tells_each_origin_once()
     ensures { (sources : List SourceValue) → All HasBits sources → IsMerged (merge_of sources) }
 {}
 
-/// Each live document of a source is in the merged segment, and its origin at the same place.
+/// Each live document of a source is in the merged segment, with its origin at the same index.
 pub fn each_live_document_is_merged()
     ensures { (sources : List SourceValue) (number : ℕ) (source : SourceValue) (document : ℕ) →
         All HasBits sources → slice_get sources number ≡ Some source →
@@ -77,7 +77,8 @@ pub fn each_merged_document_was_live()
         ≡ slice_get (contents sources) place) }
 {}
 
-/// The candidates of sizes name at least eight sizes each, all of them among those given, and none twice.
+/// Each candidate for these sizes has at least eight of their indexes, and no index is in two candidates or twice in
+/// one.
 pub fn candidates_name_each_size_once()
     ensures many { (sizes : List ℕ) → All (λ candidate. 8 ≤ length candidate) (candidates sizes) }
     ensures within { (sizes : List ℕ) →
@@ -86,9 +87,9 @@ pub fn candidates_name_each_size_once()
         AllPairs (λ i j. i ≢ j) (flat_map (λ candidate. candidate) (candidates sizes)) }
 {}
 
-/// The candidates of a policy name all segments among those given, and none twice. Each of a level has as many members
-/// as the policy wants, and no segment of too many dead documents is left out. By the usual policy they are those of
-/// the live sizes alone.
+/// The candidates of a policy have indexes of the given segments, none of them twice. Each candidate for a level has as
+/// many members as the policy requires, and no segment with too many deleted documents is left out. With the usual
+/// policy they are the candidates for the live sizes alone.
 pub fn a_policy_names_each_segment_once()
     ensures many { (policy : MergePolicy) (segments : List SegmentSize) →
         All (λ candidate. policy.members ≤ length candidate) (together policy (live_sizes segments)) }

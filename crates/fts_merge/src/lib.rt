@@ -1,11 +1,11 @@
-//! What is done to segments after they are made: documents are struck from them, and several are merged into one.
+//! Operations on finished segments: deletes are applied to them, and several are merged into one.
 //!
-//! A segment never changes. Beside it stand its live bits, one per document, and what it contains are the documents
-//! whose bit is set. So a delete clears bits ([`strike`]), in time that goes with the documents that have its term and
-//! not with all of them. Struck documents are passed when segments are merged: [`merge`] makes one segment of the live
-//! documents of several, which keeps for each of them where it came from ([`Merged`]), so that what was struck in the
-//! meantime can be found there. Which segments are worth merging is told from their sizes alone ([`plan`]): those of
-//! one level, that is of about one size, once there are eight of them.
+//! A segment never changes. Beside it are its live bits, one per document, and its content is the documents whose bit
+//! is set. So applying a delete clears bits ([`strike`]), in time proportional to the documents that have its term and
+//! not to all of them. Deleted documents are dropped when segments are merged: [`merge`] makes one segment of the live
+//! documents of several. The result records the origin of each document ([`Merged`]), so that documents that are
+//! deleted in the meantime can be found in it. A merge policy chooses segments by their sizes alone ([`plan`]): those
+//! of one level, which have about the same size, once there are eight of them.
 //!
 //! ```text
 //! let live = strike(alloc, &segment, &live, &ops)?;

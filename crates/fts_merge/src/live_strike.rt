@@ -1,4 +1,4 @@
-// Clears the bits of documents that operations of a later stamp strike.
+// Clears the live bits of documents that operations of a later stamp delete.
 ghost use Rattle.std.specs.Prelude.{◌≡◌, ◌+◌, ◌<◌, not, take, nat_lt, All, IfOk, IsOkUnless, List, Bool, fold, length};
 ghost use Rattle.fts_merge.specs.Strikes.{bits_where, bits_after};
 ghost use Rattle.fts_merge.specs.Internals.Deletes.{bound_by, bound_of, IsFound, strikes_found, survives_found};
@@ -11,7 +11,7 @@ use fts_pack::bits::Bits;
 use fts_segment::Segment;
 use std::alloc::Global;
 
-/// A delete of all documents strikes those of a smaller stamp than its own, and no other operation strikes all.
+/// The stamp below which an operation deletes all documents: that of a delete of all, and otherwise 0.
 fn bound_by(op: &Stamped<Op>) -> Stamp
     ensures { result ≡ bound_by op.now.stamp op.now.value }
 {
@@ -21,7 +21,7 @@ fn bound_by(op: &Stamped<Op>) -> Stamp
     }
 }
 
-/// The deletes of all documents strike those of a smaller stamp than this.
+/// The stamp below which operations delete all documents.
 fn bound(ops: &[Stamped<Op>]) -> Stamp
     ensures { result ≡ bound_of ops.now }
 {
@@ -56,7 +56,7 @@ fn strike_document(live: &mut Bits, segment: &Segment, document: usize, stamp: S
     }
 }
 
-/// Clears the bits of these documents, as far as their stamps are smaller.
+/// Clears the bits of those of these documents whose stamps are smaller.
 fn strike_documents(live: &mut Bits, segment: &Segment, documents: &[u32], stamp: Stamp)
     requires bits { length live.old ≡ length segment.now.documents }
     requires within { All (λ document. document < length segment.now.documents) documents.now }
@@ -67,7 +67,7 @@ fn strike_documents(live: &mut Bits, segment: &Segment, documents: &[u32], stamp
     }
 }
 
-/// Clears the bits of the documents of a list, as far as their stamps are smaller.
+/// Clears the bits of those documents of a list whose stamps are smaller.
 fn strike_list(live: &mut Bits, segment: &Segment, list: &fts_pack::List, stamp: Stamp)
     requires bits { length live.old ≡ length segment.now.documents }
     requires within { All (λ document. document < length segment.now.documents) list.now }
@@ -81,7 +81,7 @@ fn strike_list(live: &mut Bits, segment: &Segment, list: &fts_pack::List, stamp:
     }
 }
 
-/// Clears the bits that a delete clears.
+/// Clears the bits of the documents that a delete of a term applies to.
 fn strike_by(live: &mut Bits, segment: &Segment, delete: &TermDelete<'_>)
     requires bits { length live.old ≡ length segment.now.documents }
     requires is { IsFound segment.now delete.now }
@@ -91,7 +91,7 @@ fn strike_by(live: &mut Bits, segment: &Segment, delete: &TermDelete<'_>)
     strike_list(live, segment, delete.documents, delete.stamp);
 }
 
-/// Clears the bits that a delete clears, unless the one before it clears them all.
+/// Clears the bits for one of the deletes, unless the one before it covers it.
 fn strike_next(live: &mut Bits, segment: &Segment, deletes: &[TermDelete<'_>], number: usize)
     requires bits { length live.old ≡ length segment.now.documents }
     requires are { All (IsFound segment.now) deletes.now }
@@ -109,7 +109,7 @@ fn strike_next(live: &mut Bits, segment: &Segment, deletes: &[TermDelete<'_>], n
     strike_by(live, segment, &deletes[number]);
 }
 
-/// Clears the bits that deletes clear.
+/// Clears the bits of the documents that deletes of terms apply to.
 fn strike_found(live: &mut Bits, segment: &Segment, deletes: &[TermDelete<'_>])
     requires bits { length live.old ≡ length segment.now.documents }
     requires are { All (IsFound segment.now) deletes.now }
@@ -121,12 +121,12 @@ fn strike_found(live: &mut Bits, segment: &Segment, deletes: &[TermDelete<'_>])
     }
 }
 
-/// The live bits of a segment after operations: a document is live where it was and no operation of a later stamp
-/// strikes it.
+/// The live bits of a segment after operations: a document is live if it was and no operation of a later stamp deletes
+/// it.
 ///
-/// Each delete of a term is looked up, and the latest of each term goes over the documents that have it. All deletes of
-/// all documents together go over the stamps once. Adds strike nothing. The operations may be in any order, and so
-/// may the documents.
+/// Each delete of a term is looked up, and only the latest of each term visits the documents that have it. All deletes
+/// of all documents together take one pass over the stamps. Adds delete nothing. The operations may be in any order,
+/// and so may the documents.
 pub fn strike(
     alloc: Global,
     segment: &Segment,

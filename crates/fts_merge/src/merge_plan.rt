@@ -1,4 +1,4 @@
-// Tells from the sizes of segments which of them are worth merging: a size is a number of live documents.
+// Chooses segments to merge by their sizes: a size is a number of live documents.
 ghost use Rattle.std.specs.Prelude.{◌≡◌, ◌≤◌, ◌&&◌, ◌^◌, [], ◌∷◌, ◌++◌, All, IfOk, IsOk, IsOkUnless, OnOk, cond, map};
 ghost use Rattle.std.specs.Prelude.{nat_eq};
 ghost use Rattle.std.specs.Prelude.{not};
@@ -13,14 +13,14 @@ use fts_model::Refusal;
 use std::alloc::{AllocError, Global};
 use std::cmp::Reverse;
 
-/// A size as it counts, with its index among the sizes given.
+/// A size raised to the policy's floor, with its index among the given sizes.
 #[derive(Clone, Copy)]
 pub(crate) struct LevelSize {
     size: u32,
     index: usize,
 }
 
-/// The sizes as they count, without those that are too great.
+/// Sizes up to the policy's maximum, raised to its floor, each with its index.
 fn considered(alloc: Global, policy: MergePolicy, sizes: &[u32]) -> Result<Vec<LevelSize>, AllocError>
     ensures { IfOk result (λ counted. counted.items ≡ considered policy sizes.now) }
 {
@@ -34,7 +34,7 @@ fn considered(alloc: Global, policy: MergePolicy, sizes: &[u32]) -> Result<Vec<L
     Ok(counted)
 }
 
-/// The sizes with the greatest first, and equal ones by their indexes.
+/// The sizes in descending order, and equal ones by their indexes.
 fn sorted(mut counted: Vec<LevelSize>) -> Vec<LevelSize>
     ensures { result.items ≡ greatest_first counted.items }
 {
@@ -50,7 +50,7 @@ fn fourth_power(size: u32) -> u128
     u128::from(size).pow(4)
 }
 
-/// Whether a size joins the level that the first opened.
+/// Whether a size is in the level whose first size is `first`.
 fn joins(first: u32, size: u32) -> bool
     requires first { first ≤ most_merged }
     requires size { size ≤ most_merged }
@@ -70,7 +70,7 @@ fn indexes(alloc: Global, level: &[LevelSize]) -> Result<Vec<usize>, AllocError>
     Ok(indexes)
 }
 
-/// Puts the indexes of a level's sizes after others, if the level is large enough.
+/// Appends the indexes of a level's sizes, if the level is large enough.
 fn push_level(
     alloc: Global,
     members: usize,
@@ -86,7 +86,7 @@ fn push_level(
     Ok(())
 }
 
-/// The levels of sizes in order that are large enough.
+/// The levels of sorted sizes that are large enough.
 fn large_levels(
     alloc: Global,
     members: usize,
@@ -114,7 +114,7 @@ fn large_levels(
     Ok(levels)
 }
 
-/// What is to be merged together among segments of these sizes.
+/// The candidates for levels of segments with these sizes.
 fn together(
     alloc: Global,
     policy: MergePolicy,
@@ -135,7 +135,7 @@ fn is_named(found: &[Vec<usize>], index: usize) -> bool
     found.iter().any(|candidate| candidate.contains(&index))
 }
 
-/// Whether more than this many percent of a segment's documents are dead.
+/// Whether more than this percentage of a segment's documents are deleted.
 fn is_mostly_dead(percent: u32, segment: SegmentSize) -> bool
     ensures { result ≡ is_mostly_dead percent segment }
 {
@@ -143,14 +143,14 @@ fn is_mostly_dead(percent: u32, segment: SegmentSize) -> bool
     u64::from(percent) * u64::from(segment.docs) < 100 * u64::from(dead)
 }
 
-/// Whether a segment is to be merged by itself.
+/// Whether a segment is a candidate of its own.
 fn is_alone(percent: u32, found: &[Vec<usize>], index: usize, segment: SegmentSize) -> bool
     ensures { result ≡ (is_mostly_dead percent segment && not (is_named (map (λ c. c.items) found.now) index)) }
 {
     is_mostly_dead(percent, segment) && !is_named(found, index)
 }
 
-/// Puts an index after others, as a candidate of its own.
+/// Appends an index as a candidate of its own.
 fn push_alone(alloc: Global, alone: &mut Vec<Vec<usize>>, index: usize) -> Result<(), AllocError>
     ensures { OnOk result (map (λ c. c.items) alone.new.items
         ≡ map (λ c. c.items) alone.old.items ++ (index ∷ []) ∷ []) }
@@ -161,7 +161,7 @@ fn push_alone(alloc: Global, alone: &mut Vec<Vec<usize>>, index: usize) -> Resul
     Ok(())
 }
 
-/// What is to be merged by itself, beside what was found.
+/// The candidates of a single segment, beside those that were found.
 fn alone(
     alloc: Global,
     percent: u32,
@@ -180,7 +180,7 @@ fn alone(
     Ok(alone)
 }
 
-/// How many live documents segments have.
+/// The number of live documents of each segment.
 fn live_sizes(alloc: Global, segments: &[SegmentSize]) -> Result<Vec<u32>, AllocError>
     ensures { IfOk result (λ sizes. sizes.items ≡ live_sizes segments.now) }
 {
@@ -191,9 +191,10 @@ fn live_sizes(alloc: Global, segments: &[SegmentSize]) -> Result<Vec<u32>, Alloc
     Ok(sizes)
 }
 
-/// What is to be merged by a policy among segments of these sizes: for each candidate the indexes of its segments.
+/// The candidates of a policy for segments of these sizes, each as the indexes of its segments.
 ///
-/// Those of a level together, as `plan` says at other numbers; and then each segment by itself of whose documents more
+/// First the levels that are large enough, as in `plan`; then each segment with more than the policy's share of deleted
+/// documents, unless its level is merged.
 /// than the policy's share are dead, unless it is in a level that is merged.
 pub fn plan_by(
     alloc: Global,
@@ -213,14 +214,14 @@ pub fn plan_by(
     Ok(found)
 }
 
-/// What is to be merged among segments of these sizes: for each candidate the indexes of its sizes.
+/// The candidates for segments of these sizes, each as the indexes of its segments.
 ///
-/// Sizes over 1,000,000 aren't considered, and those below 10,000 count as 10,000. So counted they are ordered, the
-/// greatest first and equal ones by their indexes. The first size opens a level, and a size joins it where its
-/// logarithm to base 2 is at most 0.75 less than that of the level's first; else it opens another. A level of at least
-/// 8 sizes is a candidate.
+/// Sizes over 1,000,000 are left out, and those below 10,000 count as 10,000. The sizes are sorted in descending order,
+/// and equal ones by their indexes. The first size begins a level. A size is in the current level if its logarithm to
+/// base 2 is at most 0.75 less than that of the level's first, and otherwise begins another. A level of at least 8
+/// sizes is a candidate.
 ///
-/// No sizes take no memory.
+/// An empty list takes no memory.
 pub fn plan(alloc: Global, sizes: &[u32]) -> Result<Vec<Vec<usize>>, Refusal>
     ensures candidates { IfOk result (λ found.
         map (λ c. c.items) found.items ≡ candidates sizes.now) }

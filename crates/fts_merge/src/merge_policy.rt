@@ -1,27 +1,27 @@
-// When segments are merged.
+// The policy by which segments are merged.
 ghost use Rattle.std.specs.Prelude.{◌≡◌};
 ghost use Rattle.fts_merge.specs.Levels.{usual};
 
-/// When segments are merged: those of one level together, once there are enough, and one of many dead documents by
-/// itself.
+/// The policy by which segments are merged: those of one level together, once there are enough, and one with many
+/// deleted documents by itself.
 #[derive(Clone, Copy, Debug, PartialEq, Eq)]
 pub struct MergePolicy {
     /// A segment with fewer live documents counts as one with this many.
     pub floor: u32,
-    /// This many segments of one level are merged.
+    /// The number of segments of one level that makes them a candidate.
     pub members: usize,
     /// A segment with more live documents is in no level.
     pub most: u32,
-    /// A segment with more than this many percent of its documents dead is merged by itself; 100: none is.
+    /// A segment with more than this percentage of deleted documents is merged by itself; with 100, none is.
     pub dead: u32,
 }
 
-/// How large a segment is.
+/// The size of a segment.
 #[derive(Clone, Copy, Debug, PartialEq, Eq)]
 pub struct SegmentSize {
-    /// How many documents it has.
+    /// The number of documents.
     pub docs: u32,
-    /// How many of them are live.
+    /// The number of live documents.
     pub live: u32,
 }
 

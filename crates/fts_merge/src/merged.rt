@@ -1,4 +1,4 @@
-// A segment that was merged of others, with where its documents come from.
+// A merged segment with the origins of its documents.
 ghost use Rattle.std.specs.Prelude.{◌≡◌, ◌≢◌, ◌<◌, All, AllPairs, length};
 ghost use Rattle.fts_merge.specs.Merges.{IsMerged, made_of};
 
@@ -7,8 +7,8 @@ use fts_base::release;
 use fts_segment::Segment;
 use std::marker::Model;
 
-/// A segment of the live documents of others, its sources. For each of its documents it tells the source and the number
-/// there; no two documents have one origin.
+/// A segment of the live documents of its sources, with the origin of each document: its source and its number there.
+/// No two documents have the same origin.
 pub struct Merged {
     segment: Segment,
     origins: Vec<Origin>,
@@ -37,7 +37,7 @@ impl Drop for Merged {
 }
 
 impl Merged {
-    /// This segment with these origins.
+    /// Wraps a segment with the origins of its documents.
     pub(crate) fn new(segment: Segment, origins: Vec<Origin>, sources: usize) -> Merged
         requires { IsMerged (made_of segment origins.items sources) }
         ensures { result ≡ made_of segment origins.items sources }
@@ -49,14 +49,14 @@ impl Merged {
         }
     }
 
-    /// The segment of the documents that were live.
+    /// The merged segment.
     pub fn segment(&self) -> &Segment
         ensures { result.now ≡ self.now.segment }
     {
         &self.segment
     }
 
-    /// Where each document of the segment comes from, in their order.
+    /// The origin of each document of the segment, in their order.
     pub fn origins(&self) -> &[Origin]
         ensures origins { result.now ≡ self.now.origins }
         ensures paired { length result.now ≡ length self.now.segment.documents }
@@ -66,7 +66,7 @@ impl Merged {
         &self.origins
     }
 
-    /// How many segments were merged.
+    /// The number of sources.
     pub fn sources(&self) -> usize
         ensures { result ≡ self.now.sources }
     {

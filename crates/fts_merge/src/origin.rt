@@ -1,6 +1,6 @@
-// Where a document of a merged segment comes from.
+// The origin of a document of a merged segment.
 
-/// A document of one of the segments that were merged.
+/// The origin of a document of a merged segment: its source and its number there.
 #[derive(Clone, Copy, Debug, PartialEq, Eq)]
 pub struct Origin {
     /// The index of the segment among the sources of the merge.

@@ -28,7 +28,7 @@ fn is_too_large(sources: &[LiveSegment<'_>]) -> bool
     false
 }
 
-/// Puts the origin of a document after others, if the document is live.
+/// Appends the origin of a document if it is live.
 fn push_origin(origins: &mut Vec<Origin>, origin: Origin, live: bool) -> Result<(), AllocError>
     ensures { OnOk result
         (origins.new.items ≡ origins.old.items ++ (if live then origin ∷ [] else [])) }
@@ -39,7 +39,7 @@ fn push_origin(origins: &mut Vec<Origin>, origin: Origin, live: bool) -> Result<
     Ok(())
 }
 
-/// Tells where the live documents of the source of this number come from.
+/// Appends the origins of the live documents of a source, by the source's index.
 fn push_origins(origins: &mut Vec<Origin>, number: usize, live: &Bits) -> Result<(), AllocError>
     ensures { OnOk result
         (origins.new.items ≡ origins.old.items ++ origins_in number live.now) }
@@ -54,7 +54,7 @@ fn push_origins(origins: &mut Vec<Origin>, number: usize, live: &Bits) -> Result
     Ok(())
 }
 
-/// Where the live documents of sources come from.
+/// The origins of the live documents of sources.
 fn origins_of(alloc: Global, sources: &[LiveSegment<'_>]) -> Result<Vec<Origin>, AllocError>
     ensures origins { IfOk result (λ origins. origins.items ≡ origins_from 0 sources.now) }
     ensures bits { OnOk result (All HasBits sources.now) }
@@ -66,11 +66,11 @@ fn origins_of(alloc: Global, sources: &[LiveSegment<'_>]) -> Result<Vec<Origin>,
     Ok(origins)
 }
 
-/// One segment of the live documents of sources, of which there is at least one and all have one schema. The documents
-/// are in the order of the sources, and those of a source in the order of their numbers. They are handles, and the
-/// terms in them are joined of those of the sources: no text is copied, and none is read again.
+/// One segment of the live documents of one or more sources that have the same schema. The documents are in the order
+/// of the sources, and those of a source in the order of their numbers. They are handles, and their terms are merged
+/// from the sources' dictionaries: no text is copied, and none is read again.
 ///
-/// `TooLarge` if there are over 1,048,576 live documents; they are counted before any is taken.
+/// It is refused as `TooLarge` if there are over 1,048,576 live documents; they are counted first.
 pub fn merge(alloc: Global, sources: &[LiveSegment<'_>]) -> Result<Merged, Refusal>
     requires some { 0 < length sources.now }
     requires schemas { AreOfOneSchema sources.now }

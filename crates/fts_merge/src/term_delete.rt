@@ -20,11 +20,11 @@ pub(crate) struct TermDelete<'a> {
     pub(crate) stamp: Stamp,
     pub(crate) term: &'a Term,
     pub(crate) documents: &'a fts_pack::List,
-    /// What is cheap to compare of the documents, and seldom the same for two terms.
+    /// A cheap key (length, last document of the first block) that rarely collides between terms; used for sorting.
     pub(crate) shape: (usize, u32),
 }
 
-/// How many documents there are, and the last one of the first block.
+/// The number of documents, and the last one of the first block.
 fn shape_of(documents: &fts_pack::List) -> (usize, u32) {
     if documents.is_empty() {
         return (0, 0);
@@ -32,7 +32,7 @@ fn shape_of(documents: &fts_pack::List) -> (usize, u32) {
     (documents.len(), documents.source().last(0))
 }
 
-/// The delete of an operation, if it is one of a term that a document has.
+/// The delete of an operation, if it deletes a term that a document has.
 fn term_delete_of<'a>(segment: &'a Segment, op: &'a Stamped<Op>) -> Option<TermDelete<'a>>
     ensures none { IfNone result (All (λ d. strikes_by_term segment.now.schema op.now.stamp op.now.value d ≡ false)
         segment.now.documents) }
@@ -56,7 +56,7 @@ fn term_delete_of<'a>(segment: &'a Segment, op: &'a Stamped<Op>) -> Option<TermD
     }
 }
 
-/// Puts the delete of an operation after others, if it is one of a term that a document has.
+/// Appends the delete of an operation, if it deletes a term that a document has.
 fn push_found<'a>(
     deletes: &mut Vec<TermDelete<'a>>,
     segment: &'a Segment,
@@ -94,7 +94,7 @@ pub(crate) fn term_deletes<'a>(
     Ok(deletes)
 }
 
-/// Brings deletes of one term together, the latest first.
+/// An order in which deletes of one term are adjacent, the latest first.
 pub(crate) fn compare_deletes(delete: &TermDelete<'_>, other: &TermDelete<'_>) -> Ordering {
     delete
         .shape
@@ -103,7 +103,7 @@ pub(crate) fn compare_deletes(delete: &TermDelete<'_>, other: &TermDelete<'_>) -
         .then_with(|| other.stamp.cmp(&delete.stamp))
 }
 
-/// Brings equal terms together.
+/// An order in which equal terms are adjacent.
 fn order_of_terms(term: &Term, other: &Term) -> Ordering {
     term.field.cmp(&other.field).then_with(|| match (&term.value, &other.value) {
         (FieldValue::Text(text), FieldValue::Text(other)) => text.as_str().cmp(other.as_str()),
@@ -164,7 +164,7 @@ fn is_same(term: &Term, other: &Term) -> bool
     is_same_value(&term.value, &other.value)
 }
 
-/// Whether a delete strikes whatever another one strikes: it has the same term, and isn't before it.
+/// Whether a delete applies to each document that another one applies to: it has the same term, and isn't earlier.
 fn covers(delete: &TermDelete<'_>, other: &TermDelete<'_>) -> bool
     ensures { result ≡ true → (schema : List Field) (d : Stamped DocumentValue)
         → strikes_found schema other.now d ≡ true → strikes_found schema delete.now d ≡ true }
@@ -175,8 +175,8 @@ fn covers(delete: &TermDelete<'_>, other: &TermDelete<'_>) -> bool
     is_same(delete.term, other.term)
 }
 
-/// Whether a delete strikes nothing more than the one before it. Of deletes in order all but the latest of each term
-/// do.
+/// Whether the previous delete already covers this one. In this order, that is every delete but the latest of each
+/// term.
 pub(crate) fn is_covered(deletes: &[TermDelete<'_>], number: usize) -> bool
     requires { number < length deletes.now }
     ensures { result ≡ true → (schema : List Field) (d : Stamped DocumentValue)
