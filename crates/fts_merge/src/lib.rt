@@ -9,7 +9,7 @@
 //!
 //! ```text
 //! let live = strike(alloc, &segment, &live, &ops)?;
-//! let sources = vec![in alloc; Source::new(&segment, &live), Source::new(&other, &others_live)]?;
+//! let sources = vec![in alloc; LiveSegment::new(&segment, &live), LiveSegment::new(&other, &others_live)]?;
 //! let merged = merge(alloc, &sources)?;
 //! let origin = merged.origins()[0];
 //! // Document 0 of the merged segment was document `origin.document` of `sources[origin.source]`.

@@ -195,7 +195,6 @@ fn live_sizes(alloc: Global, segments: &[SegmentSize]) -> Result<Vec<u32>, Alloc
 ///
 /// First the levels that are large enough, as in `plan`; then each segment with more than the policy's share of deleted
 /// documents, unless its level is merged.
-/// than the policy's share are dead, unless it is in a level that is merged.
 pub fn plan_by(
     alloc: Global,
     policy: &MergePolicy,
