@@ -1,4 +1,4 @@
--- What commits and merges change of an index over segments.
+-- The changes that commits and merges make to an index over segments.
 use Rattle.std.proofs.Common.{◌≡◌, ◌+◌, ◌<◌, ◌≤◌, ◌⊎◌, inl, inr, ℕ, true, false, cond, None, Ok, Err, nat_lt, List, [], ◌∷◌, ◌++◌}
 use Rattle.std.proofs.Common.{length, get_or, drop, map, filter, is_none, refl, sym, ap, subst, ◌∙◌, arith}
 use Rattle.std.proofs.lemmas.Bool.{false≢true}
@@ -22,7 +22,7 @@ use Rattle.fts_snapshots.specs.Snapshots.{SnapshotValue, after_commit, content_o
 use Rattle.fts_snapshots.proofs.CountLemmas.{commit_counted, fewer_without, merge_counted, refused_by}
 use Rattle.fts_snapshots.proofs.SourceLemmas.{unless_ok}
 
--- a commit of a batch
+-- a commit of a batch is a change by its operations
 pub commits_made : (cut : Cut) (ops : List (Stamped Op)) (old new : SnapshotValue) → new ≡ after_commit cut ops old →
     content_of new ≡ alive old.schema (adds (content_of old) ++ ops) → Commits ops old new
 commits_made cut ops old new is content = record {
@@ -31,7 +31,7 @@ commits_made cut ops old new is content = record {
   segments = omega (arith, ap segments_and_numbers is, commit_counted cut ops old);
 }
 
--- a merge of segments
+-- a merge of segments is a change that leaves the content
 pub merges_made : (more : ℕ) (ids : List ℕ) (old new : SnapshotValue) → new ≡ after_merge ids old → merge_fault ids old ≡ None → 2 ≤ length ids + more →
     content_of new ≡ content_of old → Merges more old new
 merges_made more ids old new is fine enough content = record {
@@ -40,15 +40,15 @@ merges_made more ids old new is fine enough content = record {
   segments = omega (arith, ap segments_and_numbers is, merge_counted more ids old fine enough);
 }
 
--- a snapshot that stays
+-- an unchanged snapshot is merged
 pub merges_nothing : (more : ℕ) (s : SnapshotValue) → Merges more s s
 merges_nothing more s = record { schema = refl; documents = refl; segments = omega arith }
 
--- merges that take no more numbers take one at most
+-- merges that use no more numbers use at most one
 pub merges_at_most : (old new : SnapshotValue) → Merges 0 old new → Merges 1 old new
 merges_at_most old new m = record { schema = m.schema; documents = m.documents; segments = omega (arith, m.segments) }
 
--- merges one after the other
+-- merges one after the other are merges
 pub merges_then : (more : ℕ) (a b c : SnapshotValue) → Merges 0 a b → Merges more b c → Merges more a c
 merges_then more a b c ab bc =
     record { schema = bc.schema ∙ ab.schema; documents = bc.documents ∙ ab.documents; segments = omega (arith, ab.segments, bc.segments) }
@@ -58,18 +58,18 @@ some_named : (ids : List ℕ) (s : SnapshotValue) → merge_fault ids s ≡ None
 some_named [] s fine = cc
 some_named (id ∷ ids) s fine = omega arith
 
--- a merge of any number of segments
+-- a merge of any number of segments is a change that leaves the content
 pub merges_any : (ids : List ℕ) (old new : SnapshotValue) → new ≡ after_merge ids old → merge_fault ids old ≡ None → content_of new ≡ content_of old →
     Merges 1 old new
 merges_any ids old new is fine content = merges_made 1 ids old new is fine (omega (arith, some_named ids old fine)) content
 
--- a candidate that was merged
+-- the snapshot after a merged candidate
 pub candidate_merged : (ids : List ℕ) (old new : SnapshotValue) → ok_unless (merge_fault ids old) (after_merge ids old) ≡ Ok new → new ≡ after_candidate ids old
 candidate_merged ids old new given =
     let both = unless_ok (merge_fault ids old) (after_merge ids old) new given in
     both.1 ∙ sym (ap (λ fault. cond (is_none fault) (after_merge ids old) old) both.0)
 
--- a candidate that was refused, and not for memory
+-- the snapshot after a candidate that was refused, and not for memory
 pub candidate_left : (ids : List ℕ) (old new : SnapshotValue) (e : Refusal) → (e ≡ Memory → ⊥) →
     (e ≡ Memory) ⊎ (ok_unless (merge_fault ids old) (after_merge ids old) ≡ Err e) → new ≡ old → new ≡ after_candidate ids old
 candidate_left ids old new e other given same =
@@ -93,22 +93,22 @@ merged_into_one ids s fine all =
           (filter has_live one),
     )
 
--- what is to follow once so many candidates were tried and so many refused: whatever the others come to, all come to that
+-- the progress of candidates: if the rest reach a snapshot, all reach it
 abbrev pub Tried : (all left : List (List ℕ)) → (old now : SnapshotValue) → ℕ → Type 0
 Tried all left old now refused =
     (n : ℕ) (new : SnapshotValue) → MergesAllBut n (due left) now new → MergesAllBut (n + refused) (due all) old new
 
--- before the first
+-- no candidate was tried yet
 pub tried_none : (all : List (List ℕ)) (s : SnapshotValue) → Tried all all s s 0
 tried_none all s n new h = subst (λ m. MergesAllBut m (due all) s new) (omega arith) h
 
--- the first of the candidates that are left is this one
+-- the first of the candidates that are left
 due_first : {V : Type 0} (f : V → List ℕ) (vs : List V) (k : ℕ) (v : V) → k < length vs → v ≡ get_or vs k v →
     due (map f (drop k vs)) ≡ due (f v ∷ map f (drop (k + 1) vs))
 due_first f vs k v within is =
     at_drop_more (λ ws. due (map f ws)) vs k v within ∙ ap (λ w. due (f w ∷ map f (drop (k + 1) vs))) (sym is)
 
--- a candidate of several segments, and then those after it
+-- a candidate of several segments, followed by those after it
 due_more : {V : Type 0} (f : V → List ℕ) (vs : List V) (k : ℕ) (v : V) → k < length vs → v ≡ get_or vs k v → 2 ≤ length (f v) →
     due (map f (drop k vs)) ≡ f v ∷ due (map f (drop (k + 1) vs))
 due_more f vs k v within is several =
@@ -116,7 +116,7 @@ due_more f vs k v within is several =
     let more : nat_lt (length (f v)) 2 ≡ false = grind (arith, nat_tests) in
     due_first f vs k v within is ∙ ap (λ b. cond b (f v ∷ []) (f v ∷ due rest)) more
 
--- a candidate of one segment is the last
+-- a candidate of a single segment is the last
 due_last : {V : Type 0} (f : V → List ℕ) (vs : List V) (k : ℕ) (v : V) → k < length vs → v ≡ get_or vs k v → length (f v) < 2 →
     due (map f (drop k vs)) ≡ f v ∷ []
 due_last f vs k v within is one =
@@ -139,7 +139,7 @@ tried_more f vs k v old now next refused more within is several one t n new h =
     subst (λ m. MergesAllBut m (due (map f vs)) old new) counted
     (t (n + more) new (subst (λ cs. MergesAllBut (n + more) cs now new) (sym (due_more f vs k v within is several)) front))
 
--- the last, of one segment, was tried
+-- the last candidate, of a single segment, was tried
 pub tried_last : {V : Type 0} (f : V → List ℕ) (vs : List V) (k : ℕ) (v : V) (old now next : SnapshotValue) (refused more : ℕ) →
     k < length vs → v ≡ get_or vs k v → length (f v) < 2 → MergesAllBut more (f v ∷ []) now next →
     Tried (map f vs) (map f (drop k vs)) old now refused → MergesAllBut (refused + more) (due (map f vs)) old next
@@ -148,7 +148,7 @@ tried_last f vs k v old now next refused more within is few one t =
     subst (λ m. MergesAllBut m (due (map f vs)) old next) counted
     (t more next (subst (λ cs. MergesAllBut more cs now next) (sym (due_last f vs k v within is few)) one))
 
--- none is left
+-- no candidate is left
 pub tried_all : {V : Type 0} (f : V → List ℕ) (vs : List V) (k : ℕ) (old now : SnapshotValue) (refused : ℕ) → length vs ≤ k →
     Tried (map f vs) (map f (drop k vs)) old now refused → MergesAllBut refused (due (map f vs)) old now
 tried_all f vs k old now refused past t =
@@ -156,12 +156,12 @@ tried_all f vs k old now refused past t =
     subst (λ m. MergesAllBut m (due (map f vs)) old now) none
     (t 0 now (subst (λ cs. MergesAllBut 0 cs now now) (sym (at_drop_all (λ ws. due (map f ws)) vs k past)) (refl, refl)))
 
--- where memory ran out for all
+-- memory ran out for all candidates
 merges_none : (candidates : List (List ℕ)) (s : SnapshotValue) → MergesAllBut (length candidates) candidates s s
 merges_none [] s = (refl, refl)
 merges_none (ids ∷ candidates) s = inr (length candidates, omega arith, merges_none candidates s)
 
--- memory ran out before it was known what is due
+-- memory ran out before the candidates were known
 pub due_unknown : (candidates : List (List ℕ)) (s : SnapshotValue) → MergesDue candidates s s false
 due_unknown candidates s = record {
   refused = length (due candidates);
@@ -169,12 +169,12 @@ due_unknown candidates s = record {
   none = λ all. absurd (false≢true all);
 }
 
--- memory ran out for some
+-- memory ran out for some candidates
 pub due_some : (refused : ℕ) (candidates : List (List ℕ)) (old new : SnapshotValue) → MergesAllBut refused (due candidates) old new →
     MergesDue candidates old new false
 due_some refused candidates old new h = record { refused = refused; merges = h; none = λ all. absurd (false≢true all) }
 
--- memory ran out for none
+-- memory ran out for no candidate
 pub due_whole : (refused : ℕ) (candidates : List (List ℕ)) (old new : SnapshotValue) → refused ≤ 0 → MergesAllBut refused (due candidates) old new →
     MergesDue candidates old new true
 due_whole refused candidates old new none h = record { refused = refused; merges = h; none = λ all. omega (arith, none) }

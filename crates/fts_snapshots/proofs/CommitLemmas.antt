@@ -1,4 +1,4 @@
--- The content of a snapshot after a commit: what is alive after the operations of its batch.
+-- The content of a snapshot after a commit: the documents alive after the operations of its batch.
 use Rattle.std.proofs.Common.{◌≡◌, ◌<◌, ◌+◌, ◌&&◌, ◌||◌, ℕ, Bool, true, false, not, nat_lt, List, [], ◌∷◌, ◌++◌, map, filter, subst, refl, sym, ap, ◌∙◌}
 use Rattle.std.specs.List.{flat_map, list_any, AllByRecursion}
 use Rattle.std.proofs.lemmas.List.Elements.{All-from_recursion, recursion_from_All, filter-append, filter_agree}
@@ -22,7 +22,7 @@ use Rattle.fts_snapshots.proofs.EntryLemmas.{joined, entry_with, live_in-filter,
 use Rattle.fts_snapshots.proofs.CutLemmas.{groups_permute}
 use Rattle.fts_merge.proofs.BitsLemmas.{bits_where-same}
 
--- the stamps of a list, as the definitions say it
+-- rising stamps, as the definitions say it
 pub by_stamp : {X : Type 0} (xs : List (Stamped X)) → StampsRise xs → ByStamp xs
 by_stamp {X} xs h = rises_from_pairs (λ (x : Stamped X). x.stamp) xs h
 
@@ -33,7 +33,7 @@ no_strike : (b c : Bool) → not ((b && false) || c) ≡ not c
 no_strike true c = refl
 no_strike false c = refl
 
--- adds in front of operations strike nothing
+-- adds in front of operations delete nothing
 survives-adds : (schema : List Field) (ds : List (Stamped DocumentValue)) (ops : List (Stamped Op)) (d : Stamped DocumentValue) →
     survives schema (adds ds ++ ops) d ≡ survives schema ops d
 survives-adds schema [] ops d = refl
@@ -52,11 +52,11 @@ rises_added (op ∷ ops) r =
     let above = All-added (λ n. op.stamp < n) ops (All-from_recursion (λ o. op.stamp < o.stamp) ops r.0) in
     rises_added_by op.stamp op.value (added ops) (recursion_from_All (λ d. op.stamp < d.stamp) (added ops) above) (rises_added ops r.1)
 
--- documents and what is added on top of them
+-- documents followed by added ones have rising stamps
 rises_together : (ds : List (Stamped DocumentValue)) (ops : List (Stamped Op)) → ByStamp (adds ds ++ ops) → ByStamp (ds ++ added ops)
 rises_together ds ops r = subst ByStamp (added-adds ds ops) (rises_added (adds ds ++ ops) r)
 
--- old documents and new ones, cut in any way, in stamp order
+-- existing and new documents, divided in any way, sorted by stamp
 order_of_all : (cut : Cut) (es : List EntryValue) (batch : List (Stamped Op)) → ByStamp (adds (content es) ++ batch) →
     in_stamp_order (flat_map live_in es ++ joined (groups_of cut (added batch))) ≡ content es ++ added batch
 order_of_all cut es batch r =
@@ -68,7 +68,7 @@ order_of_all cut es batch r =
     (IsPermutation-append (content es) old (added batch) new (IsPermutation-sym old (content es) (permutation_in_order old)) (groups_permute cut (added batch)))
     ∙ stays
 
--- what the segments that a commit leaves contain: the survivors of old and new documents
+-- the content of the segments that a commit leaves: the survivors of existing and new documents
 live_in-committed : (cut : Cut) (schema : List Field) (batch : List (Stamped Op)) (id : ℕ) (es : List EntryValue) →
     AllByRecursion (λ e. e.segment.schema ≡ schema) es →
     flat_map live_in (committed cut schema batch id es) ≡ filter (survives schema batch) (flat_map live_in es ++ joined (groups_of cut (added batch)))
@@ -96,7 +96,7 @@ content-committed cut schema batch id es a rise =
     ∙ ap (filter (survives schema history)) (sym (added-adds (content es) batch))
     ∙ sym (alive-survives schema history rise)
 
--- operations that spare the same documents leave the same segments
+-- operations that delete the same documents leave the same segments
 pub same_after : (schema : List Field) (ops batch : List (Stamped Op)) →
     ((s : List Field) (d : Stamped DocumentValue) → survives s ops d ≡ survives s batch d) →
     (es : List EntryValue) (id : ℕ) (groups : List (List (Stamped DocumentValue))) →

@@ -1,4 +1,4 @@
--- How many segments and numbers commits and merges take, and if they can't be refused but for memory.
+-- The numbers of segments and ids that commits and merges use, and that they are refused only for memory.
 use Rattle.std.proofs.Common.{◌≡◌, ◌+◌, ◌*◌, ◌^◌, ◌<◌, ◌≤◌, ◌≢◌, ◌==◌, ◌||◌, ◌⊎◌, inl, inr, ℕ, zero, suc, Bool, true, false, cond, not, Option, None, Some, Err}
 use Rattle.std.proofs.Common.{List, [], ◌∷◌, ◌++◌, length, map, filter, sum_by, nat_lt, refl, sym, ap, subst, ◌∙◌, arith}
 use Rattle.std.specs.List.{AllByRecursion, flat_map}
@@ -28,19 +28,19 @@ use Rattle.fts_snapshots.proofs.MergeLemmas.{AreDifferent, names_given}
 use Rattle.fts_snapshots.proofs.OrderLemmas.{Rises, rises_from_pairs, permutation_in_order}
 use Rattle.fts_snapshots.proofs.SourceLemmas.{first_none, numbers_room}
 
--- where there is no fault, a refusal is want of memory
+-- if there is no fault, a refusal is for memory
 pub memory_alone : (fault : Option Refusal) (e : Refusal) → fault ≡ None → (e ≡ Memory) ⊎ (fault ≡ Some e) → e ≡ Memory
 memory_alone fault e none (inl h) = h
 memory_alone fault e none (inr h) = let bad : None ≡ Some e = sym none ∙ h in cc
 
--- why a call gives nothing
+-- the refusal of a call that gives nothing
 pub refused_by : {X : Type 0} (fault : Option Refusal) (wanted : X) (e : Refusal) → (e ≡ Memory) ⊎ (ok_unless fault wanted ≡ Err e) →
     (e ≡ Memory) ⊎ (fault ≡ Some e)
 refused_by fault wanted e (inl h) = inl h
 refused_by None wanted e (inr h) = cc
 refused_by (Some f) wanted e (inr h) = inr cc
 
--- one operation more that fits
+-- one more operation that fits
 pub misfit-push : (schema : List Field) (ops : List (Stamped Op)) (op : Stamped Op) → misfit schema ops ≡ None → op_fits schema op.value ≡ true →
     misfit schema (ops ++ op ∷ []) ≡ None
 misfit-push schema [] op h fit = ap (λ b. cond b None (Some (OtherSchema op.stamp))) fit
@@ -80,12 +80,12 @@ length-committed cut schema ops id es =
       length-fresh_from schema ops id (groups_of cut (added ops)),
     )
 
--- a commit takes at most two for each operation: a segment and its number
+-- a commit uses at most two for each operation: a segment and its number
 pub commit_counted : (cut : Cut) (ops : List (Stamped Op)) (s : SnapshotValue) →
     segments_and_numbers (after_commit cut ops s) ≤ segments_and_numbers s + 2 * length ops
 commit_counted cut ops s = omega (arith, length-committed cut s.schema ops s.next_id s.entries, new_segments-le cut ops)
 
--- there is no fault in operations where there are numbers left for as many segments
+-- operations have no fault if enough numbers are left for their segments
 pub no_commit_fault : (cut : Cut) (ops : List (Stamped Op)) (s : SnapshotValue) → s.next_id + length ops ≤ 2 ^ 62 → commit_fault cut ops s ≡ None
 no_commit_fault cut ops s room =
     let few = new_segments-le cut ops in
@@ -93,7 +93,7 @@ no_commit_fault cut ops s room =
     let left : nat_lt (2 ^ 62) (s.next_id + new_segments cut ops) ≡ false = grind (arith, nat_tests) in
     ap (λ b. cond b (Some StampsUsedUp) None) left
 
--- the segments of other numbers than this one
+-- the segments with other numbers than this one
 abbrev pub but : ℕ → List EntryValue → List EntryValue
 but id es = filter (λ e. not (e.id == id)) es
 
@@ -140,21 +140,21 @@ none_without : (es : List EntryValue) → length (without es []) ≤ length es
 none_without [] = omega arith
 none_without (e ∷ es) = omega (arith, none_without es)
 
--- without so many different segments that are there, there are so many fewer
+-- without some of its different segments, a list is that much shorter
 length-without : (ids : List ℕ) (es : List EntryValue) → AllByRecursion (λ id. is_there es id ≡ true) ids → AreDifferent ids →
     length (without es ids) + length ids ≤ length es
 length-without [] es t d = omega (arith, none_without es)
 length-without (id ∷ ids) es t d =
     omega (arith, ap length (without-more id ids es), length-without ids (but id es) (all_still_there id ids es d.0 t.1) d.1, but-lt id es t.0)
 
--- the number of a merge that nothing is wrong with can be given
+-- a merge without a fault has a number for its segment
 pub merge_room : (ids : List ℕ) (s : SnapshotValue) → merge_fault ids s ≡ None → s.next_id + 1 ≤ 2 ^ 62
 merge_room ids s fine =
     let large = size_fault (sum_by live_count (entries_at s.entries ids)) in
     numbers_room (s.next_id + 1)
     (first_none large (numbers_fault (s.next_id + 1)) (first_none (names_fault s.entries ids) (first_of large (numbers_fault (s.next_id + 1))) fine).1).1
 
--- a merge that nothing is wrong with leaves so many segments fewer beside its own
+-- a merge without a fault leaves fewer segments, by the number of its sources less one
 pub fewer_without : (ids : List ℕ) (s : SnapshotValue) → merge_fault ids s ≡ None →
     length (without s.entries (merged_of (entries_at s.entries ids)).ids) + length ids ≤ length s.entries
 fewer_without ids s fine =
@@ -162,7 +162,7 @@ fewer_without ids s fine =
     let given = (names_given s.entries ids (first_none (names_fault s.entries ids) (first_of large (numbers_fault (s.next_id + 1))) fine).0).1 in
     omega (arith, length-without ids s.entries given.there given.different, ap (λ ns. length (without s.entries ns)) (ids_named s.entries ids given.there))
 
--- a merge of two segments takes no more than it gives back, and a merge of one takes one more
+-- a merge of at least two segments uses no more than it frees, and a merge of one uses one more
 pub merge_counted : (more : ℕ) (ids : List ℕ) (s : SnapshotValue) → merge_fault ids s ≡ None → 2 ≤ length ids + more →
     segments_and_numbers (after_merge ids s) ≤ segments_and_numbers s + more
 merge_counted more ids s fine enough =
@@ -234,14 +234,14 @@ entries_above e es (f ∷ fs) a =
     let differs : (e.id == f.id) ≡ false = grind (arith, nat_tests) in
     ap (λ b. cond b (e ∷ []) (entry_at es f.id) ++ entries_at (e ∷ es) (map id_of fs)) differs ∙ ap (λ gs. entry_at es f.id ++ gs) (entries_above e es fs a.1)
 
--- all segments by their numbers
+-- the segments of all numbers are all segments
 entries_at-all : (es : List EntryValue) → Rises id_of es → entries_at es (map id_of es) ≡ es
 entries_at-all [] r = refl
 entries_at-all (e ∷ es) r =
     ap (λ b. cond b (e ∷ []) (entry_at es e.id) ++ entries_at (e ∷ es) (map id_of es)) (itself e.id)
     ∙ ap (λ fs. e ∷ fs) (entries_above e es es r.0 ∙ entries_at-all es r.1)
 
--- there is no fault in all segments, where they have few live documents together and there is a number left
+-- a merge of all segments has no fault, if they have few live documents together and a number is left
 pub no_fault_in_all : (s : SnapshotValue) → IsSnapshot s → 0 < length s.entries → sum_by live_count s.entries ≤ 1048576 → s.next_id + 1 ≤ 2 ^ 62 →
     merge_fault (ids_of s.entries) s ≡ None
 no_fault_in_all s i some few room =
@@ -255,12 +255,12 @@ no_fault_in_all s i some few room =
     ∙ ap (λ b. first_of (cond b (Some TooLarge) None) (numbers_fault (s.next_id + 1))) small
     ∙ ap (λ b. cond b (Some StampsUsedUp) None) left
 
--- the segments' live documents are what is found
+-- the segments' live documents are the content
 pub live_documents : (s : SnapshotValue) → IsSnapshot s → sum_by live_count s.entries ≡ length (content_of s)
 live_documents s i =
     sym (length-live_in s.entries i.each)
     ∙ sym (length_permutation (flat_map live_in s.entries) (content s.entries) (permutation_in_order (flat_map live_in s.entries)))
 
--- a list that isn't told to be empty
+-- a list that is not reported as empty has a member
 pub nonempty : (es : List EntryValue) (b : Bool) → b ≡ (length es == 0) → b ≡ false → 0 < length es
 nonempty es b e f = let g : (length es == 0) ≡ false = sym e ∙ f in grind (arith, nat_tests)

@@ -1,4 +1,4 @@
--- Members that are dealt to groups: these have the members in another order, and none has too many.
+-- Members divided among groups: these have the members in another order, and none has too many.
 use Rattle.std.proofs.Common.{◌≡◌, ◌<◌, ◌≤◌, ◌+◌, ◌*◌, ◌/◌, ◌%◌, ◌-◌, ℕ, zero, suc, List, [], ◌∷◌, ◌++◌, length, get_or, set, subst, refl, sym, ap, ◌∙◌}
 use Rattle.std.proofs.Common.{append_assoc, arith, ⊎_elim}
 use Rattle.std.specs.List.{AllByRecursion}
@@ -39,7 +39,7 @@ dealt_permutes place j groups (x ∷ xs) =
 pub groups_permute : {X : Type 0} (cut : Cut) (xs : List X) → IsPermutation xs (joined (groups_of cut xs))
 groups_permute cut xs = dealt_permutes (place_of cut) 0 [] xs
 
--- more members behind others
+-- more members are added after others
 pub dealt_from-append : {X : Type 0} (place : ℕ → ℕ) (j : ℕ) (groups : List (List X)) (xs ys : List X) →
     dealt_from place j groups (xs ++ ys) ≡ dealt_from place (j + length xs) (dealt_from place j groups xs) ys
 dealt_from-append place j groups [] ys = ap (λ n. dealt_from place n groups ys) (omega arith)
@@ -47,16 +47,16 @@ dealt_from-append place j groups (x ∷ xs) ys =
     let next = put_into (place j) x groups in
     dealt_from-append place (j + 1) next xs ys ∙ ap (λ n. dealt_from place n (dealt_from place (j + 1) next xs) ys) (omega arith)
 
--- a member put into the first group behind others
+-- a member is added to the first group after others
 put_behind : {X : Type 0} (x : X) (front back : List (List X)) → put_into (length front) x (front ++ back) ≡ front ++ put_into 0 x back
 put_behind x [] back = refl
 put_behind x (g ∷ front) back = ap (λ gs. g ∷ gs) (put_behind x front back)
 
--- no group has more than so many members
+-- no group has more than `most` members
 abbrev pub IsWithin : {X : Type 0} → ℕ → List (List X) → Type 0
 IsWithin most groups = AllByRecursion (λ group. length group ≤ most) groups
 
--- a member goes to this group where m builders take members in turn, and so many fill a group
+-- the group of a member if m builders take members in turn, and each group has the same capacity
 abbrev place_among : ℕ → ℕ → ℕ → ℕ
 place_among m most j = j / (m * most) * m + j % m
 
@@ -68,7 +68,8 @@ place_in m most before turns taken l k =
     ap (λ n. n / (m * most)) same ∙ div-mul-add before (m * most) (turns * m + taken) (mul-add-lt turns m taken most l k) in
     ap (λ n. n * m + j % m) round ∙ ap (λ n. before * m + n) (mod-mul-add (before * most + turns) m taken k)
 
--- groups while they are dealt to m builders, as often in turn: full ones, those that took a member in this turn, and those that wait for theirs
+-- groups while they are dealt to m builders: full ones, those that took a member in this turn, and those whose turn is
+-- next
 record IsDealt {X : Type 0} (m most before turns : ℕ) (full taken waiting : List (List X)) : Type 0 where
   pub turn : turns < most
   pub next : length taken < m
@@ -91,7 +92,7 @@ takes_next turns x [] w = (x ∷ [], [], record { put = refl; first_within = ome
 takes_next turns x (g ∷ gs) w =
     (g ++ x ∷ [], gs, record { put = refl; first_within = omega (arith, w.0, length-append g (x ∷ [])); count = omega arith; rest_within = w.1 })
 
--- where a member goes next
+-- the group that a member is added to
 put_next : {X : Type 0} (m most before turns : ℕ) (full taken waiting rest : List (List X)) (first : List X) (x : X) →
     IsDealt m most before turns full taken waiting → TakesNext turns x waiting first rest →
     put_into (place_among m most ((before * most + turns) * m + length taken)) x (full ++ (taken ++ waiting)) ≡ full ++ ((taken ++ first ∷ []) ++ rest)
@@ -195,27 +196,27 @@ groups_within (Runs n) xs h =
     All-weaker_by (λ g. length g ≤ n) (λ g. length g ≤ 65536) (λ g l. omega (arith, l, h.1)) (groups_of (Runs n) xs) (within_capacity 1 n xs (omega arith) h.0)
 groups_within (Deal m) xs h = within_capacity m 65536 xs h.0 (omega arith)
 
--- a member put into a group that is there
+-- a member is added to an existing group
 pub put_there : {X : Type 0} (gs : List (List X)) (at : ℕ) (x : X) (g h : List X) → at < length gs → g ≡ get_or gs at g → h ≡ g ++ x ∷ [] →
     set gs at h ≡ put_into at x gs
 put_there [] at x g h l e k = absurd (omega (arith, l))
 put_there (v ∷ gs) zero x g h l e k = ap (λ ys. ys ∷ gs) (k ∙ ap (λ w. w ++ x ∷ []) e)
 put_there (v ∷ gs) (suc at) x g h l e k = ap (λ ys. v ∷ ys) (put_there gs at x g h (omega (arith, l)) e k)
 
--- a member put into a group that is not there
+-- a member is added to a new group
 pub put_beyond : {X : Type 0} (gs : List (List X)) (at : ℕ) (x : X) → length gs ≤ at → gs ++ (x ∷ []) ∷ [] ≡ put_into at x gs
 put_beyond [] at x l = refl
 put_beyond (v ∷ gs) zero x l = absurd (omega (arith, l))
 put_beyond (v ∷ gs) (suc at) x l = ap (λ ys. v ∷ ys) (put_beyond gs at x (omega (arith, l)))
 
--- a group has room where it has it with a member more
+-- a group has a place left, if it has one more member within the limit
 pub room_there : {X : Type 0} (most : ℕ) (gs : List (List X)) (at : ℕ) (x : X) (g : List X) → at < length gs → g ≡ get_or gs at g →
     IsWithin most (put_into at x gs) → length g < most
 room_there most [] at x g l e w = absurd (omega (arith, l))
 room_there most (v ∷ gs) zero x g l e w = omega (arith, w.0, length-append v (x ∷ []), ap length e)
 room_there most (v ∷ gs) (suc at) x g l e w = room_there most gs at x g (omega (arith, l)) e w.1
 
--- more adds of a cut
+-- more adds are divided
 pub groups_of-append : {X : Type 0} (cut : Cut) (xs ys : List X) → dealt_from (place_of cut) (length xs) (groups_of cut xs) ys ≡ groups_of cut (xs ++ ys)
 groups_of-append cut xs ys = ap (λ n. dealt_from (place_of cut) n (groups_of cut xs) ys) (omega arith) ∙ sym (dealt_from-append (place_of cut) 0 [] xs ys)
 

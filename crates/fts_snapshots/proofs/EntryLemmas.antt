@@ -1,4 +1,4 @@
--- What segments contain after operations, and that segments without a live document contain nothing.
+-- The content of segments after operations; segments without a live document have none.
 use Rattle.std.proofs.Common.{◌≡◌, ◌<◌, ◌≤◌, ◌+◌, ℕ, Bool, true, false, cond, nat_lt, List, [], ◌∷◌, ◌++◌, length, get_or, take, map, filter, count_by}
 use Rattle.std.proofs.Common.{replicate, refl, sym, ap, ◌∙◌, arith}
 use Rattle.std.specs.List.{flat_map, list_any, AllByRecursion}
@@ -30,12 +30,12 @@ pub where_set-map : {X : Type 0} (p : X → Bool) (xs : List X) → where_set xs
 where_set-map p [] = refl
 where_set-map p (x ∷ xs) = ap (λ ys. cond (p x) (x ∷ ys) ys) (where_set-map p xs)
 
--- where all bits are set, those are left that pass
+-- if all bits are set, the bits of those that pass are left
 pub bits_where-full : {X : Type 0} (p : X → Bool) (xs : List X) → bits_where p xs (replicate (length xs) true) ≡ map p xs
 bits_where-full p [] = refl
 bits_where-full p (x ∷ xs) = ap (λ bits. p x ∷ bits) (bits_where-full p xs)
 
--- where all pass, the bits stay
+-- if all pass, the bits are unchanged
 pub bits_where-all : {X : Type 0} (xs : List X) (bits : List Bool) → length bits ≡ length xs → bits_where (λ x. true) xs bits ≡ bits
 bits_where-all [] [] e = refl
 bits_where-all [] (bit ∷ bits) e = absurd (omega (arith, e))
@@ -58,7 +58,7 @@ where_set-none (x ∷ xs) [] e = refl
 where_set-none (x ∷ xs) (true ∷ bits) e = cc
 where_set-none (x ∷ xs) (false ∷ bits) e = where_set-none xs bits e
 
--- segments without a live document may go
+-- segments without a live document can be dropped
 pub live_in-filter : (es : List EntryValue) → flat_map live_in (filter has_live es) ≡ flat_map live_in es
 live_in-filter [] = refl
 live_in-filter (e ∷ es) =
@@ -67,7 +67,7 @@ live_in-filter (e ∷ es) =
       | false ↦ λ h. live_in-filter es ∙ ap (λ ds. ds ++ flat_map live_in es) (sym (where_set-none e.segment.documents e.live h))
     ] refl
 
--- segments of one schema contain after operations what survives these
+-- segments of one schema have the survivors of operations as their content
 pub live_in-struck : (schema : List Field) (ops : List (Stamped Op)) (es : List EntryValue) → AllByRecursion (λ e. e.segment.schema ≡ schema) es →
     flat_map live_in (map (struck ops) es) ≡ filter (survives schema ops) (flat_map live_in es)
 live_in-struck schema ops [] a = refl
@@ -77,7 +77,7 @@ live_in-struck schema ops (e ∷ es) a =
     ∙ ap (λ s. filter (survives s ops) (live_in e)) a.0)
     ∙ sym (filter-append (survives schema ops) (live_in e) (flat_map live_in es))
 
--- new segments contain what survives of their documents
+-- new segments have the survivors of their documents as their content
 pub live_in-fresh : (schema : List Field) (ops : List (Stamped Op)) (id : ℕ) (groups : List (List (Stamped DocumentValue))) →
     flat_map live_in (fresh_from schema ops id groups) ≡ filter (survives schema ops) (joined groups)
 live_in-fresh schema ops id [] = refl
@@ -86,7 +86,7 @@ live_in-fresh schema ops id (ds ∷ groups) =
     ∙ ap (λ xs. xs ++ filter (survives schema ops) (joined groups)) (where_set-map (survives schema ops) ds)
     ∙ sym (filter-append (survives schema ops) ds (joined groups))
 
--- a segment of a snapshot by its parts
+-- a segment of a snapshot from its parts
 abbrev pub entry_with : ℕ → SegmentValue → List Bool → EntryValue
 entry_with id segment live = record { id = id; segment = segment; live = live }
 
@@ -98,7 +98,7 @@ same_entry id other segment segments live lives e f g =
 pub entry_struck : (ops : List (Stamped Op)) (e : EntryValue) → IsEntry e → IsEntry (struck ops e)
 entry_struck ops e i = record { bits = length-bits_where (survives e.segment.schema ops) e.segment.documents e.live i.bits; few = i.few }
 
--- no operations strike nothing
+-- no operations delete nothing
 pub struck_none : (e : EntryValue) → IsEntry e → struck [] e ≡ e
 struck_none e i = ap (λ bits. record { id = e.id; segment = e.segment; live = bits }) (bits_where-all e.segment.documents e.live i.bits)
 
@@ -113,7 +113,7 @@ fresh_from-push schema ops id (h ∷ gs) g =
     ap (λ es. fresh schema ops id h ∷ es) (fresh_from-push schema ops (id + 1) gs g ∙ ap (λ n. fresh_from schema ops (id + 1) gs ++ fresh schema ops n g ∷ [])
     (omega arith))
 
--- one new segment more
+-- one more new segment
 pub fresh_more : (schema : List Field) (ops : List (Stamped Op)) (id i : ℕ) (gs : List (List (Stamped DocumentValue))) (g : List (Stamped DocumentValue)) →
     i < length gs → g ≡ get_or gs i g →
     fresh_from schema ops id (take i gs) ++ fresh schema ops (id + i) g ∷ [] ≡ fresh_from schema ops id (take (i + 1) gs)
@@ -124,7 +124,7 @@ fresh_more schema ops id i gs g l e =
       length-take-le' : {X : Type 0} (i : ℕ) (xs : List X) → i < length xs → length (take i xs) ≡ i
       length-take-le' i xs l = omega (arith, length-take-le i xs)
 
--- what one operation more adds
+-- the document that one more operation adds
 pub added_more : (ops : List (Stamped Op)) (i : ℕ) (op : Stamped Op) → i < length ops → op ≡ get_or ops i op → added (take i ops) ++ added_by op.stamp op.value
     ≡ added (take (i + 1) ops)
 added_more ops i op l e = sym (added-push (take i ops) op) ∙ ap added (sym (taken ops i op l e))

@@ -1,4 +1,4 @@
--- The segments of runs, of which the first are kept and the others joined.
+-- The segments of runs, the first of which are shared and the others merged.
 use Rattle.std.proofs.Common.{◌≡◌, ◌-◌, ℕ, List, [], ◌∷◌, ◌++◌, Vec, Bor, All, length, map, take, drop, subst, sym, ap, ◌∙◌, append_assoc, arith}
 use Rattle.std.specs.declared.sync.Arc.{Arc}
 use Rattle.std.specs.Arc.{arc_value}
@@ -14,7 +14,7 @@ module _ {Z : Type 0} where
   abbrev pub items_of : Arc (Vec EntryValue Z) Z → List EntryValue
   items_of run = (arc_value run).items
 
-  -- the first runs, and one that has what the others have and more
+  -- the first runs, and one that has the segments of the others and more
   pub runs_joined : (k : ℕ) (runs first all : List (Arc (Vec EntryValue Z) Z)) (last : Arc (Vec EntryValue Z) Z) (more : List EntryValue) →
       entries_of first ≡ entries_of (take k runs) → all ≡ first ++ last ∷ [] →
       items_of last ≡ entries_of (take (length runs - k) (drop k runs)) ++ more → entries_of all ≡ entries_of runs ++ more
@@ -28,11 +28,11 @@ module _ {Z : Type 0} where
       ∙ sym (append_assoc (entries_of (take k runs)) (entries_of rest) more)
       ∙ ap (λ es. es ++ more) (sym (flat_map-append items_of (take k runs) rest) ∙ ap entries_of (take-append-drop k runs))
 
--- the segments that were passed
+-- the segments that an iterator gave
 abbrev pub passed : List (Bor EntryValue) → List EntryValue
 passed entries = map (λ entry. entry.now) entries
 
--- what holds of all segments holds of the one after those that were passed
+-- a property of all segments holds of the next one
 pub next_has : (P : EntryValue → Type 0) (before rest entries : List EntryValue) (entry : EntryValue) → before ++ entry ∷ rest ≡ entries → All P entries →
     P entry
 next_has P before rest entries entry same all =
@@ -41,7 +41,7 @@ next_has P before rest entries entry same all =
       at [] a = a.0
       at (e ∷ es) a = at es a.1
 
--- one segment more was passed
+-- one more segment was given
 pub passed_more : (yielded : List (Bor EntryValue)) (item : Bor EntryValue) (ahead rest entries : List EntryValue) → passed yielded ++ ahead ≡ entries →
     ahead ≡ item.now ∷ rest →
     (passed (yielded ++ item ∷ []) ≡ passed yielded ++ item.now ∷ []) × (passed (yielded ++ item ∷ []) ++ rest ≡ entries)

@@ -1,4 +1,4 @@
--- The documents that a batch adds fit the schema where its operations do, in groups too.
+-- The documents that a batch adds fit the schema if its operations do, in groups too.
 use Rattle.std.proofs.Common.{◌≡◌, ◌+◌, ℕ, zero, suc, true, false, cond, Some, None, List, [], ◌∷◌, refl, All}
 use Rattle.std.specs.List.{AllByRecursion}
 use Rattle.std.proofs.lemmas.List.Elements.{All-nil, All-push, All-from_recursion}
@@ -15,7 +15,7 @@ use Rattle.fts_snapshots.specs.Cuts.{place_of, put_into, dealt_from, groups_of}
 use Rattle.fts_snapshots.specs.Commits.{misfit}
 use Rattle.fts_snapshots.proofs.OrderLemmas.{All-joined}
 
--- what holds of members holds of them in groups
+-- a property of members holds of them in groups
 put_all : {X : Type 0} (P : X → Type 0) (k : ℕ) (x : X) (gs : List (List X)) → P x → AllByRecursion (All P) gs → AllByRecursion (All P) (put_into k x gs)
 put_all P k x [] h a = (All-push P [] x (All-nil P) h, tt)
 put_all P zero x (g ∷ gs) h a = (All-push P g x a.0 h, a.1)
@@ -26,7 +26,7 @@ dealt_all : {X : Type 0} (P : X → Type 0) (place : ℕ → ℕ) (j : ℕ) (gro
 dealt_all P place j groups [] h a = a
 dealt_all P place j groups (x ∷ xs) h a = dealt_all P place (j + 1) (put_into (place j) x groups) xs h.1 (put_all P (place j) x groups h.0 a)
 
--- where operations fit, the first does, and the others do
+-- if operations fit, the first does, and the others do
 first_fits : (schema : List Field) (op : Stamped Op) (ops : List (Stamped Op)) → misfit schema (op ∷ ops) ≡ None →
     (op_fits schema op.value ≡ true) × (misfit schema ops ≡ None)
 first_fits schema op ops h =

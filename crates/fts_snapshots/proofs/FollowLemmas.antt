@@ -1,4 +1,5 @@
--- Following is transitive, what fits a snapshot fits each that follows it, and commits and merges are followed.
+-- Following is transitive, a merged segment that fits a snapshot fits each that follows it, and commits and merges are
+-- followed.
 use Rattle.std.proofs.Common.{◌≡◌, ◌<◌, ◌≤◌, inl, inr, ℕ, zero, suc, Bool, true, not, Some, List, [], ◌∷◌, ◌++◌, map, filter, slice_get, subst, refl, sym, ap}
 use Rattle.std.proofs.Common.{◌∙◌, arith, Contains}
 use Rattle.std.proofs.lemmas.List.Elements.{All-contains, All-from_recursion, Contains-append_cases}
@@ -34,7 +35,7 @@ follows_further a b c f g = record {
       (two.0, two.1, record { id = one.2.id ∙ two.2.id; segment = one.2.segment ∙ two.2.segment; live = λ n k. two.2.live n (one.2.live n k) });
 }
 
--- a member stands at a place
+-- an element at an index is a member
 pub contains_at : {X : Type 0} (xs : List X) (k : ℕ) (x : X) → slice_get xs k ≡ Some x → Contains xs x
 contains_at [] k x h = cc
 contains_at (y ∷ xs) zero x h = Contains-first y xs x cc

@@ -8,7 +8,7 @@ use Rattle.fts_snapshots.specs.Entries.{EntryValue, has_live}
 use Rattle.fts_snapshots.specs.Jobs.{entry_of}
 use Rattle.fts_snapshots.specs.declared.commits.commit_job.CommitJob.{CommitJob}
 
--- one job's segment more
+-- the segment of one more job
 pub kept_in_turn : (jobs : List CommitJob) (i : ℕ) (d job : CommitJob) (entry : EntryValue) (kept : List EntryValue) → i < length jobs → job ≡ get_or jobs i d →
     entry ≡ entry_of job →
     kept ≡ filter has_live (map entry_of (take i jobs)) → kept ++ filter has_live (entry ∷ []) ≡ filter has_live (map entry_of (take (i + 1) jobs))

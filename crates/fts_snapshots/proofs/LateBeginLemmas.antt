@@ -1,4 +1,4 @@
--- What is begun is a job, what it makes is a merged segment, and that fits the snapshot.
+-- A started merge is a job, the job makes a merged segment, and that fits the snapshot.
 use Rattle.std.proofs.Common.{◌≡◌, ◌≢◌, ◌<◌, ◌≤◌, ◌+◌, ◌==◌, ◌||◌, inl, inr, ℕ, zero, suc, Bool, true, false, cond, Option, Some, None, List, [], ◌∷◌, ◌++◌}
 use Rattle.std.proofs.Common.{length, map, slice_get, sum_by, All, AllPairs, Contains, subst, refl, sym, ap, ◌∙◌, arith}
 use Rattle.std.specs.List.{flat_map, AllByRecursion}
@@ -47,7 +47,7 @@ pairs_different : (ids : List ℕ) → AreDifferent ids → AllPairs (λ a b. a 
 pairs_different [] d = pairs_none (λ a b. a ≢ b)
 pairs_different (id ∷ ids) d = AllPairs-cons (λ a b. a ≢ b) id ids (All-from_recursion (λ other. id ≢ other) ids d.0) (pairs_different ids d.1)
 
--- what is begun is a job
+-- a started merge is a job
 pub job_begun : (s : SnapshotValue) (ids : List ℕ) → IsSnapshot s → names_fault s.entries ids ≡ None → IsJob (entries_at s.entries ids)
 job_begun s ids i h =
     let given = (names_given s.entries ids h).1 in
@@ -66,11 +66,11 @@ bits_of es a = All-map HasBits source_of es (All-weaker IsEntry (λ e. HasBits (
 pub length-merged : (es : List EntryValue) → All IsEntry es → length (merged_of es).merged.segment.documents ≡ sum_by live_count es
 length-merged es each = length-contents_of (map source_of es) (bits_of es each) ∙ live_count-sources es
 
--- segments contain as many documents as they have live ones
+-- the content of segments has as many documents as they have live ones
 pub length-live_in : (es : List EntryValue) → All IsEntry es → length (flat_map live_in es) ≡ sum_by live_count es
 length-live_in es each = ap length (sym (contents-sources es)) ∙ length-merged es each
 
--- what a job makes is a merged segment
+-- a job makes a merged segment
 pub merged_by_job : (es : List EntryValue) → IsJob es → sum_by live_count es ≤ 1048576 → IsMergedSegment (merged_of es)
 merged_by_job es job few =
     let ss = map source_of es in
@@ -120,7 +120,7 @@ among_named es ids e c =
     All-contains (λ (f : EntryValue). Contains es f) (entries_at es ids) e
     (All-from_recursion (λ (f : EntryValue). Contains es f) (entries_at es ids) (all_entries_at (λ f. Contains es f) es ids (all_contained es es (λ f d. d)))) c
 
--- what is made of segments of a snapshot fits it
+-- a segment merged of segments of a snapshot fits it
 pub fits_begun : (s : SnapshotValue) (ids : List ℕ) → IsSnapshot s → names_fault s.entries ids ≡ None → Fits (merged_of (entries_at s.entries ids)) s
 fits_begun s ids i h =
     let es = s.entries in
@@ -152,7 +152,7 @@ none_gone : (es : List EntryValue) (ids : List ℕ) → AllByRecursion (λ id. i
 none_gone es [] a = refl
 none_gone es (id ∷ ids) a = ap (λ b. cond b (first_gone es ids) (Some id)) a.0 ∙ none_gone es ids a.1
 
--- a merge that was begun on a snapshot can end there, as far as its sources go
+-- a merge that started in a snapshot can end there, with respect to its sources
 pub here_begun : (es : List EntryValue) (ids : List ℕ) → names_fault es ids ≡ None → gone_fault (merged_of (entries_at es ids)) es ≡ None
 here_begun es ids h =
     let there = (names_given es ids h).1.there in
@@ -163,7 +163,7 @@ here_begun es ids h =
       neither_way true = refl
       neither_way false = refl
 
--- a merge that is begun, run and ended with nothing between
+-- a merge that is started, run and ended at once
 pub merge_here : (s : SnapshotValue) (ids : List ℕ) (m : MergedSegmentValue) → names_fault s.entries ids ≡ None →
     size_fault (sum_by live_count (entries_at s.entries ids)) ≡ None →
     m ≡ merged_of (entries_at s.entries ids) → ok_unless (end_fault s.next_id m s.entries) (after_end m s) ≡ ok_unless (merge_fault ids s) (after_merge ids s)

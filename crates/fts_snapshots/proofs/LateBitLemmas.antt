@@ -23,7 +23,7 @@ use Rattle.fts_snapshots.specs.Lookups.{place_in, is_live_there}
 use Rattle.fts_snapshots.proofs.LookupLemmas.{there_by_place, live_by_place}
 use Rattle.fts_snapshots.proofs.LateContentLemmas.{got_mapped, all_got, sources_named, named_by}
 
--- the bits of the first members of a list by a test, and behind them bits that are clear
+-- the bits of the first members of a list by a test, followed by clear bits
 abbrev pub marked : {X : Type 0} → (X → Bool) → List X → ℕ → List Bool
 marked f [] i = []
 marked f (x ∷ xs) zero = false ∷ marked f xs zero
@@ -76,7 +76,7 @@ pub bit_by_place : (es : List EntryValue) (ids : List ℕ) (o : Origin) (p : Opt
     is_live_there es p o.document ≡ bit_of es ids o
 bit_by_place es ids o p h = ap (λ q. is_live_there es q o.document) h ∙ live_by_place es (get_or ids o.source 0) o.document
 
--- one member more of those whose bit is set
+-- one more member whose bit is set
 where_set-next : {X : Type 0} (xs : List X) (bits : List Bool) (i : ℕ) (x : X) (b : Bool) → slice_get xs i ≡ Some x → slice_get bits i ≡ Some b →
     where_set (take (suc i) xs) (take (suc i) bits) ≡ where_set (take i xs) (take i bits) ++ cond b (x ∷ []) []
 where_set-next [] bits i x b h k = cc
@@ -144,7 +144,7 @@ stamps_all ds bits i e l =
     ∙ ap (λ n. map (λ (d : Stamped DocumentValue). d.stamp) (where_set ds (take n bits))) (sym l)
     ∙ ap (λ bs. map (λ (d : Stamped DocumentValue). d.stamp) (where_set ds bs)) (take-length bits)
 
--- a test of the live documents from a place on
+-- a test of the live documents from an index
 abbrev pub any_from : (Stamped DocumentValue → Bool) → List (Stamped DocumentValue) → List Bool → ℕ → Bool
 any_from P ds bits i = list_any P (where_set (drop i ds) (drop i bits))
 
@@ -177,11 +177,11 @@ any_next P ds bits i d false h k p = sym (any_step P ds bits i d false h k)
 pub any_end : (P : Stamped DocumentValue → Bool) (ds : List (Stamped DocumentValue)) (bits : List Bool) (i : ℕ) → length ds ≤ i → any_from P ds bits i ≡ false
 any_end P ds bits i l = ap (λ xs. list_any P (where_set xs (drop i bits))) (drop_all i ds l)
 
--- an origin of no place, which a list gives past its end
+-- the origin that a list gives past its end
 abbrev pub no_origin : Origin
 no_origin = record { source = 0; document = 0 }
 
--- the origin at a place, and the place of its source
+-- the origin at an index, and the index of its source
 pub record IsOriginAt (es : List EntryValue) (m : MergedSegmentValue) (i : ℕ) (o : Origin) (p : Option ℕ) : Type 0 where
   pub is : slice_get m.merged.origins i ≡ Some o
   pub place : p ≡ place_in es (get_or m.ids o.source 0)
@@ -205,7 +205,7 @@ pub gone_step : (es : List EntryValue) (m : MergedSegmentValue) (i : ℕ) (o : O
 gone_step es m i o p b at h =
     gone_bit es m i o b at.is (sym (not-not b) ∙ ap not (sym h ∙ ap is_some at.place ∙ there_by_place es (get_or m.ids o.source 0)))
 
--- the stamp that was read is that of the document at this place
+-- the stamp that was read is that of the document at this index
 pub stamp_at : (ds : List (Stamped DocumentValue)) (i stamp : ℕ) → option_map (λ d. d.stamp) (slice_get ds i) ≡ Some stamp →
     (d : Stamped DocumentValue) × (slice_get ds i ≡ Some d) × (stamp ≡ d.stamp)
 stamp_at [] i stamp h = cc
@@ -217,7 +217,7 @@ document_at [] i l = absurd (omega (arith, l))
 document_at (d ∷ ds) zero l = (d, refl)
 document_at (d ∷ ds) (suc i) l = document_at ds i (omega (arith, l))
 
--- a fault is that of each call that has it
+-- two calls with the same fault are refused alike
 pub unless_err : {X Y E : Type 0} (fault : Option E) (x : X) (y : Y) (e : E) → ok_unless fault x ≡ Err e → ok_unless fault y ≡ Err e
 unless_err None x y e h = cc
 unless_err (Some f) x y e h = let same : f ≡ e = cc in ap Err same

@@ -1,4 +1,4 @@
--- The end of a merge leaves the content: each live document of a source is taken out once, and nothing else is.
+-- The end of a merge leaves the content: each live document of a source is moved once, and no other is.
 use Rattle.std.proofs.Common.{◌≡◌, ◌≢◌, ◌<◌, ◌≤◌, ◌+◌, ◌^◌, ◌==◌, ◌||◌, inl, inr, ℕ, zero, suc, Bool, true, false, cond, not, Option, Some, None, List, [], ◌∷◌}
 use Rattle.std.proofs.Common.{◌++◌, length, get_or, map, filter, slice_get, All, AllPairs, Contains, subst, refl, sym, ap, ◌∙◌, arith}
 use Rattle.std.specs.List.{AllByRecursion, flat_map}
@@ -29,7 +29,7 @@ use Rattle.fts_snapshots.proofs.EntryLemmas.{live_in-filter}
 use Rattle.fts_snapshots.proofs.CommitLemmas.{by_stamp}
 use Rattle.fts_snapshots.proofs.MergeLemmas.{ById}
 
--- no pair stands twice
+-- no pair occurs twice
 abbrev AreOnce : List (ℕ × ℕ) → Type 0
 AreOnce [] = Unit
 AreOnce (o ∷ os) = AllByRecursion (λ p. o ≢ p) os × AreOnce os
@@ -106,7 +106,7 @@ untouched o (e ∷ es) a =
     ap (λ c. record { id = e.id; segment = e.segment; live = cond c (clear_bit e.live o.1) e.live } ∷ map (cleared o) es) other
     ∙ ap (λ fs. e ∷ fs) (untouched o es a.1)
 
--- what clearing one bit does to the live documents of segments
+-- clearing one bit removes one live document of segments
 one_cleared : (o : ℕ × ℕ) (es : List EntryValue) (d : Stamped DocumentValue) → ById es → is_live_at es o.0 o.1 ≡ true → doc_at es o.0 o.1 ≡ Some d →
     IsPermutation (flat_map live_in es) (d ∷ flat_map live_in (map (cleared o) es))
 one_cleared o [] d r h k = cc
@@ -241,7 +241,7 @@ still_cleared_by : (os : List (ℕ × ℕ)) (e : EntryValue) (n : ℕ) → is_se
 still_cleared_by [] e n h = h
 still_cleared_by (o ∷ os) e n h = still_cleared o e n (still_cleared_by os (cleared o e) n h)
 
--- a document among the origins is cleared
+-- the bit of a document among the origins is clear
 cleared_there : (os : List (ℕ × ℕ)) (e : EntryValue) (n k : ℕ) → slice_get os k ≡ Some (e.id, n) → is_set (cleared_by os e).live n ≡ true → ⊥
 cleared_there [] e n k h s = cc
 cleared_there (o ∷ os) e n zero h s =
@@ -255,7 +255,7 @@ cleared_there (o ∷ os) e n zero h s =
     cc
 cleared_there (o ∷ os) e n (suc k) h s = cleared_there os (cleared o e) n k h s
 
--- a segment of another number stays
+-- a segment of another number is unchanged
 stays : (os : List (ℕ × ℕ)) (e : EntryValue) → AllByRecursion (λ o. o.0 ≢ e.id) os → cleared_by os e ≡ e
 stays [] e a = refl
 stays (o ∷ os) e a =
@@ -269,7 +269,7 @@ all_named ids [] id h n = tt
 all_named ids (o ∷ os) id h n =
     (λ e. let there = among_contained ids o.0 (h 0 o refl) in let same = ap (is_among ids) e in cc, all_named ids os id (λ k. h (suc k)) n)
 
--- what is left behind the origins: the live documents of the other segments
+-- the live documents that are left without the origins are those of the other segments
 left_behind : (ids : List ℕ) (os : List (ℕ × ℕ)) (es : List EntryValue) → ((k : ℕ) (o : ℕ × ℕ) → slice_get os k ≡ Some o → Contains ids o.0) →
     ((e : EntryValue) → Contains es e → Contains ids e.id → (n : ℕ) → is_set e.live n ≡ true → (k : ℕ) × (slice_get os k ≡ Some (e.id, n))) →
     flat_map live_in (map (cleared_by os) es) ≡ flat_map live_in (filter (λ e. not (is_among ids e.id)) es)
@@ -295,7 +295,7 @@ one_place (p ∷ os) zero (suc j) o a h i = let same : p ≡ o = cc in absurd (a
 one_place (p ∷ os) (suc k) zero o a h i = let same : p ≡ o = cc in absurd (away p os k o a.0 h same)
 one_place (p ∷ os) (suc k) (suc j) o a h i = ap suc (one_place os k j o a.1 h i)
 
--- where a live document is
+-- a live document is in a segment
 found_at : (es : List EntryValue) (id n : ℕ) → is_live_at es id n ≡ true → (e : EntryValue) × Contains es e × (e.id ≡ id) × (is_set e.live n ≡ true)
     × (doc_at es id n ≡ slice_get e.segment.documents n)
 found_at [] id n h = cc
@@ -325,7 +325,7 @@ all_got P [] k x a h = cc
 all_got P (y ∷ xs) zero x a h = let same : y ≡ x = cc in subst P same a.0
 all_got P (y ∷ xs) (suc k) x a h = all_got P xs k x a.1 h
 
--- a number among others has a place
+-- a number among others has an index
 pub place_in : (ids : List ℕ) (id : ℕ) → Contains ids id → (k : ℕ) × (slice_get ids k ≡ Some id)
 place_in [] id c = absurd (Contains-none id c)
 place_in (i ∷ ids) id c =
@@ -350,7 +350,7 @@ same_origin ids o p d l m e =
     let change : ℕ → ℕ → Origin = λ s n. record { source = s; document = n } in
     ap (λ s. change s o.document) source ∙ ap (change p.source) document
 
--- where no origin stands twice, no document of a source does
+-- if no origin occurs twice, no document of a source does
 once_named : (ids : List ℕ) (os : List Origin) → AllPairs (λ a b. a ≢ b) ids → AllByRecursion (λ (o : Origin). o.source < length ids) os →
     AllPairs (λ a b. a ≢ b) os →
     AreOnce (map (named_by ids) os)
@@ -376,7 +376,7 @@ origins_named m w k o h =
     m.merged.origins (sources_named m w)))
     h
 
--- each live document of a source has an origin, at whose place it stands
+-- each live document of a source has an origin, with the document at its index
 found_in : (m : MergedSegmentValue) (s : SnapshotValue) → Fits m s → (e : EntryValue) → Contains s.entries e → Contains m.ids e.id → (n : ℕ) →
     is_set e.live n ≡ true →
     (k : ℕ) × (slice_get (origins_of m) k ≡ Some (e.id, n)) × (slice_get m.merged.segment.documents k ≡ slice_get e.segment.documents n)
@@ -398,7 +398,7 @@ right_documents m s w f k o h live =
     let same = one_place (origins_of m) mapped.0 k o once (mapped.1 ∙ ap (λ id. Some (id, o.1)) at.2) h in
     at.4 ∙ sym mapped.2 ∙ ap (slice_get m.merged.segment.documents) same
 
--- the content stays
+-- the content is unchanged
 pub content-ended : (m : MergedSegmentValue) (s : SnapshotValue) → IsMergedSegment m → IsSnapshot s → Fits m s →
     content (after_end m s).entries ≡ content s.entries
 content-ended m s w i f =
@@ -421,7 +421,7 @@ content-ended m s w i f =
     (IsPermutation-trans (flat_map live_in es) (new ++ flat_map live_in kept) (flat_map live_in kept ++ new) moved
     (IsPermutation-append_comm new (flat_map live_in kept))))
 
--- what the end of a merge leaves is a snapshot
+-- the end of a merge leaves a snapshot
 pub snapshot_after_end : (m : MergedSegmentValue) (s : SnapshotValue) → IsMergedSegment m → IsSnapshot s → Fits m s → m.merged.segment.schema ≡ s.schema →
     s.next_id + 1 ≤ 2 ^ 62 → IsSnapshot (after_end m s)
 snapshot_after_end m s w i f schema room =

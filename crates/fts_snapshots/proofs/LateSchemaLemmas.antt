@@ -29,7 +29,7 @@ any_there es (id ∷ ids) h =
       | false ↦ λ _ k. let rest = any_there es ids k in (rest.0, rest.1, Contains-behind id ids rest.0.id rest.2)
     ] refl h
 
--- where none is gone, the first one is there
+-- if no source is gone, the first one is there
 none_gone : (es : List EntryValue) (ids : List ℕ) → 0 < length ids → option_map SourceGone (first_gone es ids) ≡ None → list_any (is_there es) ids ≡ true
 none_gone es [] l h = absurd (omega (arith, l))
 none_gone es (id ∷ ids) l h =
@@ -44,7 +44,7 @@ some_there m es l h =
       | false ↦ λ t k. sym t ∙ none_gone es m.ids l k
     ] refl h
 
--- the schema of a merged segment that can take the place of its sources is that of the snapshot
+-- the schema of a merged segment that can replace its sources is that of the snapshot
 pub schema_ended : (m : MergedSegmentValue) (s : SnapshotValue) → IsMergedSegment m → IsSnapshot s → Fits m s → gone_fault m s.entries ≡ None →
     m.merged.segment.schema ≡ s.schema
 schema_ended m s w i f h =

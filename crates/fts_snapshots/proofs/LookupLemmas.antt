@@ -1,4 +1,4 @@
--- The places of segments, and what is there.
+-- The indexes of segments, and the segments at them.
 use Rattle.std.proofs.Common.{◌≡◌, ◌≢◌, ◌<◌, ◌≤◌, ◌==◌, ◌||◌, inl, inr, ℕ, zero, suc, true, false, cond, Option, Some, None, Result, Ok, Err, List, [], ◌∷◌}
 use Rattle.std.proofs.Common.{length, get_or, slice_get, subst, refl, sym, ap, ◌∙◌, arith}
 use Rattle.std.specs.Prelude.{MatchResult, MatchOption}
@@ -52,7 +52,7 @@ place_absent (e ∷ es) id h =
     let other : (e.id == id) ≡ false = grind (arith, nat_tests, first) in
     ap (λ b. cond b (Some 0) (option_map suc (place_in es id))) other ∙ ap (option_map suc) (place_absent es id (λ k l. h (suc k) (omega (arith, l))))
 
--- what a search by halving finds
+-- the result of a binary search
 pub place_searched : (es : List EntryValue) (numbers : List ℕ) (id : ℕ) (r : Result ℕ ℕ) → IdsRise es → numbers ≡ ids_of es →
     IsBinarySearchResult (λ y. nat_cmp y id) numbers r →
     MatchResult r (λ i. Some i ≡ place_in es id) (λ i. None ≡ place_in es id)
@@ -95,7 +95,7 @@ there_by_place (e ∷ es) id =
     elim (e.id == id) as (λ b. is_some (cond b (Some 0) (option_map suc (place_in es id))) ≡ (b || is_there es id))
     [ true ↦ refl | false ↦ some_mapped (place_in es id) ∙ there_by_place es id ]
 
--- whether there is a segment of a number, by what there is
+-- whether there is a segment of a number, by the list of those with it
 pub there_none : (es : List EntryValue) (id : ℕ) → entry_at es id ≡ [] → is_there es id ≡ false
 there_none [] id h = refl
 there_none (e ∷ es) id h =
@@ -116,12 +116,12 @@ entry_none (e ∷ es) id h =
       unmapped None k = refl
       unmapped (Some n) k = cc
 
--- a place that was moved on by one
+-- an index that is one larger
 moved : (o : Option ℕ) (k : ℕ) → option_map suc o ≡ Some k → (j : ℕ) × (o ≡ Some j) × (k ≡ suc j)
 moved None k h = cc
 moved (Some j) k h = let same : suc j ≡ k = cc in (j, refl, sym same)
 
--- the segment at the place of a number
+-- the segment at the index of a number
 pub entry_some : (es : List EntryValue) (id k : ℕ) → place_in es id ≡ Some k → (e : EntryValue) × (slice_get es k ≡ Some e) × (entry_at es id ≡ e ∷ [])
 entry_some [] id k h = cc
 entry_some (e ∷ es) id k h =
@@ -144,7 +144,7 @@ live_by_place (e ∷ es) id n =
     elim (e.id == id) as (λ b. is_live_there (e ∷ es) (cond b (Some 0) (option_map suc (place_in es id))) n ≡ cond b (is_set e.live n) (is_live_at es id n))
     [ true ↦ refl | false ↦ there_next e es (place_in es id) n ∙ live_by_place es id n ]
 
--- what is read at the place of a number
+-- the segment that is read at the index of a number
 pub found_by_place : (es : List EntryValue) (id k : ℕ) (r : Option (Bor EntryValue)) → place_in es id ≡ Some k → IsItemAt es k r →
     MatchOption r (entry_at es id ≡ []) (λ e. entry_at es id ≡ e.now ∷ [])
 found_by_place es id k (Some e) h is =

@@ -11,7 +11,7 @@ use Rattle.fts_snapshots.proofs.OrderLemmas.{Rises}
 abbrev pub ById : List EntryValue → Type 0
 ById es = Rises (λ (e : EntryValue). e.id) es
 
--- no number stands twice
+-- no number occurs twice
 abbrev pub AreDifferent : List ℕ → Type 0
 AreDifferent [] = Unit
 AreDifferent (id ∷ ids) = AllByRecursion (λ other. id ≢ other) ids × AreDifferent ids
@@ -30,7 +30,7 @@ all_among_append before id (other ∷ ids) a =
     let rest = all_among_append before id ids a.1 in
     ((first.0, rest.0), (first.1, rest.1))
 
--- numbers without a fault behind others: each is of a segment, none is among the others, and none stands twice
+-- numbers without a fault after others: each is of a segment, none is among the others, and none occurs twice
 pub record AreNamed (es : List EntryValue) (before ids : List ℕ) : Type 0 where
   pub there : AllByRecursion (λ id. is_there es id ≡ true) ids
   pub new : AllByRecursion (λ id. is_among before id ≡ false) ids
@@ -53,12 +53,12 @@ named es before (id ∷ ids) h =
           ] refl k
     ] refl h
 
--- numbers without a fault: there is one, and what else they are
+-- numbers without a fault: there is at least one, and each is of a segment and occurs once
 pub names_given : (es : List EntryValue) (ids : List ℕ) → names_fault es ids ≡ None → (ids ≢ []) × AreNamed es [] ids
 names_given es [] h = cc
 names_given es (id ∷ ids) h = ((λ e. cc), named es [] (id ∷ ids) h)
 
--- numbers behind others: one that no segment has, one that stands before, and any other
+-- numbers after others: one that no segment has, one that comes before, and any other
 pub fault_unknown : (es : List EntryValue) (before ids : List ℕ) (id : ℕ) → is_there es id ≡ false →
     fault_behind es before (id ∷ ids) ≡ Some (UnknownSegment id)
 fault_unknown es before ids id h =

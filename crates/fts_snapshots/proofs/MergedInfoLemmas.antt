@@ -1,4 +1,4 @@
--- How large segments are after a merge.
+-- The sizes of segments after a merge.
 use Rattle.std.proofs.Common.{◌≡◌, ◌+◌, ◌<◌, ◌≤◌, ◌==◌, ◌||◌, ◌≢◌, ℕ, Bool, true, false, cond, not, None, Some, List, [], ◌∷◌, ◌++◌, length}
 use Rattle.std.proofs.Common.{map, filter, nat_lt, slice_index, sum_by, count_by, All, refl, sym, ap, subst, ◌∙◌, arith}
 use Rattle.std.specs.List.{AllByRecursion, flat_map, list_any}
@@ -28,7 +28,7 @@ use Rattle.fts_snapshots.proofs.OrderLemmas.{permutation_in_order}
 use Rattle.fts_snapshots.proofs.SnapshotLemmas.{all_entries_at, some_sources}
 use Rattle.fts_snapshots.proofs.SourceLemmas.{first_none, numbers_room, unless_ok}
 
--- where some are counted, one passes
+-- if some members are counted, one passes
 passes_where_counted : {X : Type 0} (p : X → Bool) (xs : List X) → 0 < count_by p xs → list_any p xs ≡ true
 passes_where_counted p [] h = absurd (omega (arith, h))
 passes_where_counted p (x ∷ xs) h =
@@ -37,7 +37,7 @@ passes_where_counted p (x ∷ xs) h =
       | false ↦ λ k. passes_where_counted p xs (omega (arith, k))
     ] (omega (arith, h, sum_by-cons (λ y. cond (p y) 1 0) x xs))
 
--- where one passes, some are counted
+-- if one member passes, some are counted
 counted_where_passes : {X : Type 0} (p : X → Bool) (xs : List X) → list_any p xs ≡ true → 0 < count_by p xs
 counted_where_passes p [] h = cc
 counted_where_passes p (x ∷ xs) h =
@@ -48,7 +48,7 @@ counted_where_passes p (x ∷ xs) h =
     ] in
     omega (arith, rest (p x) h, sum_by-cons (λ y. cond (p y) 1 0) x xs)
 
--- segments that have a live document each have one together
+-- segments that have a live document each have at least one together
 live_together : (es : List EntryValue) → AllByRecursion (λ e. has_live e ≡ true) es → 0 < length es → 0 < sum_by live_count es
 live_together [] a some = absurd (omega (arith, some))
 live_together (e ∷ es) a some = omega (arith, counted_where_passes (λ bit. bit) e.live a.0, sum_by-cons live_count e es)
@@ -71,7 +71,7 @@ live_but id (e ∷ es) =
       | false ↦ omega (arith, live_but id es, sum_by-cons live_count e es, sum_by-cons live_count e (but id es))
     ]
 
--- the segment of another number is the same without this one
+-- the segment of another number is unchanged without this one
 entry_at-but : (id other : ℕ) (es : List EntryValue) → id ≢ other → entry_at (but id es) other ≡ entry_at es other
 entry_at-but id other [] n = refl
 entry_at-but id other (e ∷ es) n =
@@ -104,7 +104,7 @@ live_without (id ∷ ids) es d =
       sum_by-append live_count (entry_at es id) (entries_at es ids),
     )
 
--- what segments contain, by their live documents
+-- the content of segments has as many documents as they have live ones
 length-content : (es : List EntryValue) → All IsEntry es → length (content es) ≡ sum_by live_count es
 length-content es each = length_permutation (flat_map live_in es) (content es) (permutation_in_order (flat_map live_in es)) ∙ length-live_in es each
 
@@ -115,7 +115,7 @@ small n h =
     elim (nat_lt 1048576 n) as (λ b. cond b (Some TooLarge) None ≡ None → b ≡ false) [ true ↦ λ k. cc | false ↦ λ _. refl ] h in
     grind (arith, nat_tests)
 
--- a merge leaves one segment in place of its sources, and each of its documents is live
+-- a merge replaces its sources by one segment, and each of its documents is live
 pub infos_merged : (s : SnapshotValue) (ids : List ℕ) → IsSnapshot s → merge_fault ids s ≡ None →
     map info_of (after_merge ids s).entries ≡ infos_after_merge ids s
 infos_merged s ids i fine =
@@ -166,7 +166,7 @@ infos_merged s ids i fine =
             | false ↦ omega arith
           ]
 
--- the same of what a merge gives
+-- the sizes of segments after the result of a merge
 pub infos_given : (s : SnapshotValue) (ids : List ℕ) (r : Result SnapshotValue Refusal) → IsSnapshot s →
     Gives (λ new. new) r (ok_unless (merge_fault ids s) (after_merge ids s)) →
     IfOk r (λ new. map info_of new.entries ≡ infos_after_merge ids s)

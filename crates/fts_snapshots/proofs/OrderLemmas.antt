@@ -1,4 +1,4 @@
--- Lists that rise by a number of their members, and lists put in the order of stamps.
+-- Lists that rise by a number of their members, and lists sorted by stamp.
 use Rattle.std.proofs.Common.{◌≡◌, ◌≢◌, ◌≤◌, ◌<◌, ℕ, Bool, true, false, cond, ◌==◌, List, [], ◌∷◌, ◌++◌, filter, subst, refl, sym, ap, ◌∙◌, arith, nat_le}
 use Rattle.std.proofs.Common.{AllPairs}
 use Rattle.std.specs.List.{AllByRecursion, sum_by}
@@ -30,7 +30,7 @@ pairs_from_rises rank [] h = pairs_none (λ x y. rank x < rank y)
 pairs_from_rises rank (x ∷ xs) h =
     AllPairs-cons (λ x y. rank x < rank y) x xs (All-from_recursion (λ y. rank x < rank y) xs h.0) (pairs_from_rises rank xs h.1)
 
--- what holds of each holds of each that is kept
+-- a property of each member holds of each that passes a filter
 pub All-filtered : {X : Type 0} (P : X → Type 0) (p : X → Bool) (xs : List X) → AllByRecursion P xs → AllByRecursion P (filter p xs)
 All-filtered P p [] a = tt
 All-filtered P p (x ∷ xs) a =
@@ -50,7 +50,7 @@ rises_filtered rank p (x ∷ xs) r =
     elim (p x) as (λ b. Rises rank (cond b (x ∷ filter p xs) (filter p xs)))
     [ true ↦ (All-filtered (λ y. rank x < rank y) p xs r.0, rises_filtered rank p xs r.1) | false ↦ rises_filtered rank p xs r.1 ]
 
--- what stays below a number, and behind it what doesn't
+-- rising members below a number, followed by rising ones that are not below it, rise
 pub rises_joined : {X : Type 0} (rank : X → ℕ) (n : ℕ) (xs ys : List X) → Rises rank xs → AllByRecursion (λ x. rank x < n) xs → Rises rank ys →
     AllByRecursion (λ y. n ≤ rank y) ys →
     Rises rank (xs ++ ys)
@@ -102,11 +102,11 @@ ordered_in_order : {X : Type 0} (xs : List (Stamped X)) → IsOrdered (in_stamp_
 ordered_in_order [] = tt
 ordered_in_order (x ∷ xs) = ordered_placed x (in_stamp_order xs) (ordered_in_order xs)
 
--- 1 where the stamp is n, and else 0
+-- 1 if the stamp is n, and otherwise 0
 abbrev at_stamp : {X : Type 0} → ℕ → Stamped X → ℕ
 at_stamp n x = cond (x.stamp == n) 1 0
 
--- no stamp stands twice
+-- no stamp occurs twice
 abbrev IsOnce : {X : Type 0} → List (Stamped X) → Type 0
 IsOnce {X} xs = (n : ℕ) → sum_by (at_stamp {X = X} n) xs ≤ 1
 
@@ -154,7 +154,7 @@ rises_from {X} (x ∷ xs) o once =
 once_moved : {X : Type 0} (xs ys : List (Stamped X)) → IsPermutation xs ys → IsOnce xs → IsOnce ys
 once_moved {X} xs ys p o n = omega (arith, o n, sum_by-IsPermutation (at_stamp {X = X} n) xs ys p)
 
--- the stamp order of a list whose stamps differ is that of each list with its members
+-- a list whose stamps differ, sorted, equals any permutation of it, sorted
 pub in_stamp_order-permutation : {X : Type 0} (xs ys : List (Stamped X)) → ByStamp (in_stamp_order xs) → IsPermutation xs ys →
     in_stamp_order ys ≡ in_stamp_order xs
 in_stamp_order-permutation {X} xs ys r p =
@@ -182,7 +182,7 @@ ordered_from_rises : {X : Type 0} (xs : List (Stamped X)) → ByStamp xs → IsO
 ordered_from_rises [] r = tt
 ordered_from_rises (x ∷ xs) r = (All-weaker_by (λ y. x.stamp < y.stamp) (λ y. x.stamp ≤ y.stamp) (λ y h. omega arith) xs r.0, ordered_from_rises xs r.1)
 
--- a list that rises is in order
+-- a list that rises is sorted
 pub in_stamp_order-rises : {X : Type 0} (xs : List (Stamped X)) → ByStamp xs → in_stamp_order xs ≡ xs
 in_stamp_order-rises xs r = ordered_stays xs (ordered_from_rises xs r)
 
@@ -211,7 +211,7 @@ chosen : {X : Type 0} (b : Bool) (x : Stamped X) (xs : List (Stamped X)) → con
 chosen true x xs = refl
 chosen false x xs = refl
 
--- what a test leaves of a list in stamp order is the stamp order of what it leaves
+-- filtering a sorted list is sorting the filtered list
 pub filter-in_stamp_order : {X : Type 0} (p : Stamped X → Bool) (xs : List (Stamped X)) → filter p (in_stamp_order xs) ≡ in_stamp_order (filter p xs)
 filter-in_stamp_order p [] = refl
 filter-in_stamp_order p (x ∷ xs) =

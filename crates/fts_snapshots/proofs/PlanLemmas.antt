@@ -22,7 +22,7 @@ each_within f n (v ∷ vs) a =
     let parts = all_parts (λ i. i < n) (f v) (flat_map (λ c. c) (map f vs)) a in
     (All-from_recursion (λ i. i < n) (f v) parts.0, each_within f n vs parts.1)
 
--- indexes that are within as they stand in all lists are within in each
+-- if all indexes in lists are below a bound, those of each list are
 pub within_lists : {V : Type 0} (f : V → List ℕ) (n : ℕ) (vs : List V) → All (λ i. i < n) (flat_map (λ c. c) (map f vs)) → All (λ v. All (λ i. i < n) (f v)) vs
 within_lists f n vs a =
     All-from_recursion (λ v. All (λ i. i < n) (f v)) vs (each_within f n vs (recursion_from_All (λ i. i < n) (flat_map (λ c. c) (map f vs)) a))

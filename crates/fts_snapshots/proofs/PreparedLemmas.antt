@@ -1,4 +1,4 @@
--- Commits that were prepared, and finished.
+-- Prepared commits, and their finish.
 use Rattle.std.proofs.Common.{◌≡◌, ◌<◌, ◌+◌, ◌++◌, ◌^◌, ◌⊎◌, inl, inr, ℕ, true, Some, Ok, Err, List, Result, IfOk, IsOkUnless, length, sym, ap, ◌∙◌, arith}
 use Rattle.std.proofs.lemmas.List.Elements.{recursion_from_All}
 use Rattle.fts_base.specs.declared.refusal.Refusal.{Refusal}
@@ -33,7 +33,7 @@ content-left p i =
     i.snapshot.schemas)
     (rise_behind (content_of s) p.batch i.snapshot.stamps i.behind)
 
--- the segments that it leaves are those that the batch spares, and then those that its jobs left
+-- the segments of the snapshot are those that the batch can't change, and then those that its jobs left
 pub all_left : (p : PreparedValue) → IsPrepared p → spared_by p.batch p.snapshot.entries ++ entries_kept p ≡ (left p).entries
 all_left p i =
     let s = p.snapshot in
@@ -43,7 +43,7 @@ all_left p i =
 pub few_left : (p : PreparedValue) → IsPrepared p → length (left p).entries < 2 ^ 64
 few_left p i = omega (arith, few_segments (left p) (left_is p i), i.room)
 
--- the snapshot of them
+-- the finished snapshot has these segments
 pub finished : (p : PreparedValue) → IsPrepared p → (schema : List Field) (before jobs all : List EntryValue) (next : ℕ) → schema ≡ p.snapshot.schema →
     before ≡ p.snapshot.entries → jobs ≡ entries_kept p → all ≡ spared_by p.batch before ++ jobs → next ≡ p.snapshot.next_id + new_segments p.cut p.batch →
     snapshot_with schema all next ≡ left p
@@ -52,7 +52,7 @@ finished p i schema before jobs all next same old kept made number =
     same_snapshot schema s.schema all (left p).entries next (s.next_id + new_segments p.cut p.batch) same
     (made ∙ ap (λ es. spared_by p.batch es ++ jobs) old ∙ ap (λ es. spared_by p.batch s.entries ++ es) kept ∙ all_left p i) number
 
--- what is finished of a prepared commit is what the commit gives
+-- finishing a prepared commit gives the result of the commit
 pub gives_commit : (cut : Cut) (batch : List (Stamped Op)) (s : SnapshotValue) (p : PreparedValue) (r : Result SnapshotValue Refusal) →
     ok_unless (commit_fault cut batch s) (prepared cut batch s) ≡ Ok p →
     IfOk r (λ new. new ≡ left p) → IfOk r (λ new. content_of new ≡ alive p.snapshot.schema (adds (content_of p.snapshot) ++ p.batch)) → IsOkUnless r Memory →
@@ -65,7 +65,7 @@ gives_commit cut batch s p (Ok new) is same holds memory =
     }
 gives_commit cut batch s p (Err e) is same holds memory = record { snapshot = inl memory; content = tt }
 
--- nor does a commit give anything that can't be prepared
+-- a commit that can't be prepared gives nothing
 pub not_prepared : (cut : Cut) (batch : List (Stamped Op)) (s : SnapshotValue) (e : Refusal) →
     (e ≡ Memory) ⊎ (ok_unless (commit_fault cut batch s) (prepared cut batch s) ≡ Err e) →
     GivesCommit cut batch s (Err e)

@@ -1,4 +1,4 @@
--- What holds of every snapshot holds after a commit.
+-- A commit leaves a snapshot.
 use Rattle.std.proofs.Common.{◌≡◌, ◌<◌, ◌≤◌, ◌+◌, ◌^◌, ◌||◌, ◌==◌, ℕ, true, false, cond, None, List, [], ◌∷◌, ◌++◌, length, map, filter, All, subst, refl, sym}
 use Rattle.std.proofs.Common.{ap, ◌∙◌, arith}
 use Rattle.std.specs.List.{AllByRecursion}
@@ -49,7 +49,7 @@ ids_to : (schema : List Field) (ops : List (Stamped Op)) (id high : ℕ) (groups
 ids_to schema ops id high [] l = tt
 ids_to schema ops id high (ds ∷ groups) l = (omega (arith, l), ids_to schema ops (id + 1) high groups (omega (arith, l)))
 
--- what holds of each new segment
+-- a property of each new segment
 all_fresh : (P : EntryValue → Type 0) (schema : List Field) (ops : List (Stamped Op)) (id : ℕ) (groups : List (List (Stamped DocumentValue))) →
     ((n : ℕ) (ds : List (Stamped DocumentValue)) → length ds ≤ 65536 → P (fresh schema ops n ds)) → IsWithin 65536 groups →
     AllByRecursion P (fresh_from schema ops id groups)
@@ -88,7 +88,7 @@ snapshot_after_commit cut batch s k i rise room =
           (alive-pairs (λ m n. m < n) s.schema (adds (content s.entries) ++ batch) rise);
     }
 
--- what holds of each segment holds of each of a number
+-- a property of each segment holds of each with a number
 all_at : (P : EntryValue → Type 0) (es : List EntryValue) (id : ℕ) → AllByRecursion P es → AllByRecursion P (entry_at es id)
 all_at P [] id a = tt
 all_at P (e ∷ es) id a = elim (e.id == id) as (λ b. AllByRecursion P (cond b (e ∷ []) (entry_at es id))) [ true ↦ (a.0, tt) | false ↦ all_at P es id a.1 ]
@@ -97,21 +97,21 @@ pub all_entries_at : (P : EntryValue → Type 0) (es : List EntryValue) (ids : L
 all_entries_at P es [] a = tt
 all_entries_at P es (id ∷ ids) a = All-joined P (entry_at es id) (entries_at es ids) (all_at P es id a) (all_entries_at P es ids a)
 
--- there is a segment of a number that one has
+-- there is a segment of a number if one has it
 pub some_at : (es : List EntryValue) (id : ℕ) → is_there es id ≡ true → 0 < length (entry_at es id)
 some_at [] id h = cc
 some_at (e ∷ es) id h =
     elim (e.id == id) as (λ b. (b || is_there es id) ≡ true → 0 < length (cond b (e ∷ []) (entry_at es id)))
     [ true ↦ λ _. omega arith | false ↦ λ k. some_at es id k ] h
 
--- there is a source where the names have no fault
+-- there is a source if the numbers have no fault
 pub some_sources : (es : List EntryValue) (ids : List ℕ) → names_fault es ids ≡ None → 0 < length (entries_at es ids)
 some_sources es [] h = cc
 some_sources es (id ∷ ids) h =
     let given = (names_given es (id ∷ ids) h).1 in
     omega (arith, some_at es id given.there.0, length-append (entry_at es id) (entries_at es ids))
 
--- a snapshot by its parts
+-- a snapshot from its parts
 abbrev pub snapshot_with : List Field → List EntryValue → ℕ → SnapshotValue
 snapshot_with schema entries next = record { schema = schema; entries = entries; next_id = next }
 
@@ -129,7 +129,7 @@ adds_rise : (ds : List (Stamped DocumentValue)) → Rises (λ d. d.stamp) ds →
 adds_rise [] h = tt
 adds_rise (d ∷ ds) h = (all_adds (λ s. d.stamp < s) ds h.0, adds_rise ds h.1)
 
--- operations behind documents, after those that add these
+-- operations after documents, following those that add these, have rising stamps
 pub rise_behind : (ds : List (Stamped DocumentValue)) (ops : List (Stamped Op)) → StampsRise ds → IsBehind ds ops → StampsRise (adds ds ++ ops)
 rise_behind ds ops rise behind =
     stamps_rise (adds ds ++ ops)

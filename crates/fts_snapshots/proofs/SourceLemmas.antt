@@ -1,4 +1,4 @@
--- The segments of a snapshot as the sources of a merge, and what a merge is refused for.
+-- The segments of a snapshot as the sources of a merge, and the refusals of a merge.
 use Rattle.std.proofs.Common.{◌≡◌, ◌<◌, ◌≤◌, ◌+◌, ◌^◌, ◌↔◌, ℕ, true, false, cond, nat_lt, Option, Some, None, Result, Ok, Err, List, [], ◌∷◌, ◌++◌, length, map}
 use Rattle.std.proofs.Common.{sum_by, count_by, All, refl, sym, ap, ◌∙◌, ⊎_elim, arith}
 use Rattle.std.specs.List.{flat_map, AllByRecursion}
@@ -57,7 +57,7 @@ pub snapshot_schema : (schema : List Field) (es : List EntryValue) → All (λ e
 snapshot_schema schema [] a = λ k d l. absurd (omega (arith, l))
 snapshot_schema schema (e ∷ es) a = one_schema schema (e ∷ es) (recursion_from_All (λ f. f.segment.schema ≡ schema) (e ∷ es) a) (omega arith)
 
--- those of some numbers too, and the schema is the same
+-- the segments of some numbers are sources of the snapshot's schema
 pub named_schema : (es : List EntryValue) (ids : List ℕ) → AreOfOneSchema (map source_of es) → names_fault es ids ≡ None →
     AreOfOneSchema (map source_of (entries_at es ids)) × (schema_of (map source_of (entries_at es ids)) ≡ schema_of (map source_of es))
 named_schema es ids a h =
@@ -67,7 +67,7 @@ named_schema es ids a h =
     let at = all_entries_at (λ e. e.segment.schema ≡ schema) es ids each in
     (one_schema schema (entries_at es ids) at some, schema_of-sources schema (entries_at es ids) at some)
 
--- what was merged was not too large
+-- a merge that succeeded was not too large
 pub not_large : (result : Result MergedValue Refusal) (merged : MergedValue) (n : ℕ) → result ≡ Ok merged → (result ≡ Err TooLarge) ↔ (1048576 < n) →
     n ≤ 1048576
 not_large result merged n e h = ⊎_elim (λ (l : 1048576 < n). let f : Ok merged ≡ Err TooLarge = sym e ∙ h.1 l in cc) (λ (l : n ≤ 1048576). l)
@@ -94,7 +94,7 @@ numbers_room n h =
     (λ (l : n ≤ 2 ^ 62). l)
     (cases_lt (2 ^ 62) n)
 
--- there is a segment where the names are right
+-- there is a segment if the numbers have no fault
 pub some_entries : (es : List EntryValue) (ids : List ℕ) → names_fault es ids ≡ None → 0 < length es
 some_entries [] [] h = cc
 some_entries [] (id ∷ ids) h = cc

@@ -1,4 +1,4 @@
--- Commits of batches without a delete, which leave the old segments as they are.
+-- Commits of batches without a delete, which leave the existing segments as they are.
 use Rattle.std.proofs.Common.{◌≡◌, ◌<◌, ◌≤◌, ◌+◌, ◌&&◌, ℕ, true, false, cond, not, nat_lt, List, [], ◌∷◌, ◌++◌, length, map, filter}
 use Rattle.std.proofs.Common.{refl, sym, ap, ◌∙◌, arith}
 use Rattle.std.specs.List.{AllByRecursion, list_any}
@@ -40,7 +40,7 @@ struck_by_none : (es : List EntryValue) → AllByRecursion IsEntry es → map (s
 struck_by_none [] a = refl
 struck_by_none (e ∷ es) a = ap (λ f. f ∷ map (struck []) es) (struck_none e a.0) ∙ ap (λ fs. e ∷ fs) (struck_by_none es a.1)
 
--- without a delete segments stay as they are
+-- segments are unchanged by a batch without a delete
 struck_same : (batch : List (Stamped Op)) (es : List EntryValue) → has_delete batch ≡ false → AllByRecursion IsEntry es → map (struck batch) es ≡ es
 struck_same batch es h a =
     sym (append-nil (map (struck batch) es))
@@ -52,7 +52,8 @@ live_stay : (es : List EntryValue) → AllByRecursion (λ e. has_live e ≡ true
 live_stay [] a = refl
 live_stay (e ∷ es) a = ap (λ b. cond b (e ∷ filter has_live es) (filter has_live es)) a.0 ∙ ap (λ fs. e ∷ fs) (live_stay es a.1)
 
--- the segments that a batch spares, and then what a commit leaves of the others, are what it leaves of all
+-- the segments that a batch can't change, followed by those that a commit leaves of the others, are those that it
+-- leaves of all
 pub spared_and_committed : (cut : Cut) (schema : List Field) (batch : List (Stamped Op)) (id : ℕ) (es : List EntryValue) →
     AllByRecursion IsEntry es → AllByRecursion (λ e. has_live e ≡ true) es →
     spared_by batch es ++ committed cut schema batch id (struck_by batch es) ≡ committed cut schema batch id es
@@ -74,7 +75,7 @@ rising_few low high (e ∷ es) l a r b =
     let above = All-weaker_by (λ (f : EntryValue). e.id < f.id) (λ f. e.id + 1 ≤ f.id) (λ f h. omega (arith, h)) es r.0 in
     omega (arith, rising_few (e.id + 1) high es (omega (arith, b.0)) above r.1 b.1, a.0)
 
--- a snapshot has fewer segments than numbers that were given
+-- a snapshot has no more segments than numbers that were given
 pub few_segments : (s : SnapshotValue) → IsSnapshot s → length s.entries ≤ s.next_id
 few_segments s i =
     let below = recursion_from_All (λ (e : EntryValue). e.id < s.next_id) s.entries i.below in

@@ -1,4 +1,4 @@
--- The stamps of operations, and of what their commit leaves.
+-- The stamps of operations, and of the documents that their commit leaves.
 use Rattle.std.proofs.Common.{◌≡◌, ◌<◌, ◌≤◌, ◌+◌, ◌^◌, ℕ, zero, suc, true, false, cond, List, [], ◌∷◌, ◌++◌, length, subst, sym, ap, arith, All}
 use Rattle.std.specs.List.{AllByRecursion, range_with_len}
 use Rattle.std.proofs.lemmas.List.Elements.{All-from_recursion, recursion_from_All}
@@ -15,7 +15,7 @@ use Rattle.fts_snapshots.proofs.OrderLemmas.{Rises, All-weaker_by, All-joined}
 use Rattle.fts_snapshots.proofs.CommitLemmas.{by_stamp, stamps_rise}
 use Rattle.fts_snapshots.proofs.SnapshotLemmas.{all_adds, rise_behind}
 
--- numbers one after the other
+-- consecutive numbers
 run_from : (k a n : ℕ) → k ≤ a → AllByRecursion (λ x. k ≤ x) (range_with_len a n)
 run_from k a zero h = tt
 run_from k a (suc n) h = (h, run_from k (a + 1) n (omega (arith, h)))
@@ -32,7 +32,7 @@ run_rises a (suc n) = (
       (a + 1) n,
 )
 
--- what holds of the stamps holds of the operations
+-- a property of the stamps holds of the operations
 all_stamped : (P : ℕ → Type 0) (ops : List (Stamped Op)) → AllByRecursion P (stamps_of ops) → AllByRecursion (λ o. P o.stamp) ops
 all_stamped P [] h = tt
 all_stamped P (op ∷ ops) h = (h.0, all_stamped P ops h.1)
@@ -41,7 +41,7 @@ stamped_rise : (ops : List (Stamped Op)) → Rises (λ x. x) (stamps_of ops) →
 stamped_rise [] h = tt
 stamped_rise (op ∷ ops) h = (all_stamped (λ s. op.stamp < s) ops h.0, stamped_rise ops h.1)
 
--- a batch whose first stamp is above those of documents
+-- a batch whose first stamp is above those of documents comes after them
 pub batch_behind : (ds : List (Stamped DocumentValue)) (ops : List (Stamped Op)) (stamp first : ℕ) → All (λ d. d.stamp < stamp) ds → stamp < first →
     stamps_of ops ≡ range_with_len first (length ops) → IsBehind ds ops
 batch_behind ds ops stamp first below above run = record {
@@ -61,7 +61,7 @@ left_all P schema stamp (Add document) later h =
 left_all P schema stamp (Delete term) later h = tt
 left_all P schema stamp DeleteAll later h = tt
 
--- what holds of the stamps of operations holds of what they leave
+-- a property of the stamps of operations holds of the documents that they leave
 alive_all : (P : ℕ → Type 0) (schema : List Field) (ops : List (Stamped Op)) → AllByRecursion (λ o. P o.stamp) ops →
     AllByRecursion (λ d. P d.stamp) (alive schema ops)
 alive_all P schema [] h = tt
@@ -69,7 +69,7 @@ alive_all P schema (op ∷ ops) h =
     All-joined (λ (d : Stamped DocumentValue). P d.stamp) (left_by schema op.stamp op.value ops) (alive schema ops)
     (left_all P schema op.stamp op.value ops h.0) (alive_all P schema ops h.1)
 
--- what a commit leaves lies below its stamp
+-- the documents that a commit leaves have stamps below its own
 pub left_below : (schema : List Field) (ds : List (Stamped DocumentValue)) (ops : List (Stamped Op)) (stamp first : ℕ) → All (λ d. d.stamp < stamp) ds →
     stamp < first →
     stamps_of ops ≡ range_with_len first (length ops) → All (λ d. d.stamp < first + length ops) (alive schema (adds ds ++ ops))
@@ -108,7 +108,7 @@ length-below ds high rise below =
           ds below),
     )
 
--- what a commit leaves are no more documents than stamps
+-- a commit leaves no more documents than there are stamps
 pub left_few : (schema : List Field) (ds : List (Stamped DocumentValue)) (ops : List (Stamped Op)) (stamp first : ℕ) → StampsRise ds →
     All (λ d. d.stamp < stamp) ds → stamp < first →
     stamps_of ops ≡ range_with_len first (length ops) → length (alive schema (adds ds ++ ops)) ≤ first + length ops
@@ -117,7 +117,7 @@ left_few schema ds ops stamp first rise below above run =
     (alive-pairs (λ m n. m < n) schema (adds ds ++ ops) (rise_behind ds ops rise (batch_behind ds ops stamp first below above run)))
     (left_below schema ds ops stamp first below above run)
 
--- what a commit leaves is stamped by it
+-- the documents that a commit leaves are bounded by its stamp
 pub left_stamped : (snapshot : SnapshotValue) (schema : List Field) (ds : List (Stamped DocumentValue)) (ops : List (Stamped Op)) (stamp first end : ℕ) →
     content_of snapshot ≡ alive schema (adds ds ++ ops) → StampsRise ds → All (λ d. d.stamp < stamp) ds → stamp < first →
     stamps_of ops ≡ range_with_len first (length ops) → end ≡ first + length ops → end < 2 ^ 62 → IsStamped end snapshot
@@ -128,7 +128,7 @@ left_stamped snapshot schema ds ops stamp first end holds rise below above run a
   few = omega (arith, ap length holds, left_few schema ds ops stamp first rise below above run, at, room);
 }
 
--- the same content is stamped alike
+-- snapshots with the same content have the same bound on stamps
 pub stamped_alike : (stamp : ℕ) (old new : SnapshotValue) → content_of new ≡ content_of old → IsStamped stamp old → IsStamped stamp new
 stamped_alike stamp old new same i = record {
   small = i.small;

@@ -1,4 +1,4 @@
--- What a commit does to segments.
+-- The effect of a commit on segments.
 use Rattle.std.specs.Prelude.{ℕ, ◌+◌, nat_lt, ◌^◌, Bool, true, false, Option, Some, None, List, []}
 use Rattle.std.specs.Prelude.{◌∷◌, ◌++◌, length, map, filter, if◌then◌else◌}
 use Rattle.std.specs.List.{list_any}
@@ -15,12 +15,12 @@ use Rattle.fts_snapshots.specs.Entries.{EntryValue, has_live}
 use Rattle.fts_model.specs.declared.cut.Cut.{Cut}
 use Rattle.fts_snapshots.specs.Cuts.{groups_of}
 
--- the first operation that doesn't fit the schema, if there is one
+-- the refusal of the first operation that doesn't fit the schema, if there is one
 abbrev pub misfit : List Field → List (Stamped Op) → Option Refusal
 misfit schema [] = None
 misfit schema (op ∷ ops) = if op_fits schema op.value then misfit schema ops else Some (OtherSchema op.stamp)
 
--- whether an operation deletes: all but an add do
+-- whether an operation is a delete: all but adds are
 abbrev pub deletes : Op → Bool
 deletes (Add document) = false
 deletes (Delete term) = true
@@ -30,15 +30,15 @@ deletes DeleteAll = true
 abbrev pub has_delete : List (Stamped Op) → Bool
 has_delete batch = list_any (λ op. deletes op.value) batch
 
--- the segments that a batch may strike: all if it has a delete, or else none
+-- the segments that a batch may change: all if it has a delete, and otherwise none
 abbrev pub struck_by : List (Stamped Op) → List EntryValue → List EntryValue
 struck_by batch entries = if has_delete batch then entries else []
 
--- the segments that stay as they are: all the others
+-- the segments that a batch can't change: all others
 abbrev pub spared_by : List (Stamped Op) → List EntryValue → List EntryValue
 spared_by batch entries = if has_delete batch then [] else entries
 
--- a segment after operations
+-- a segment after the deletes of operations are applied to it
 abbrev pub struck : List (Stamped Op) → EntryValue → EntryValue
 struck ops entry = record {
   id = entry.id;
@@ -46,7 +46,7 @@ struck ops entry = record {
   live = bits_after entry.segment.schema ops entry.segment.documents entry.live;
 }
 
--- a new segment of these documents after operations, which may strike some of them
+-- a new segment of these documents after the deletes of operations are applied to it
 abbrev pub fresh : List Field → List (Stamped Op) → ℕ → List (Stamped DocumentValue) → EntryValue
 fresh schema ops id documents = record {
   id = id;
@@ -54,12 +54,12 @@ fresh schema ops id documents = record {
   live = map (survives schema ops) documents;
 }
 
--- new segments, numbered from `id` on
+-- new segments, numbered from `id`
 abbrev pub fresh_from : List Field → List (Stamped Op) → ℕ → List (List (Stamped DocumentValue)) → List EntryValue
 fresh_from schema ops id [] = []
 fresh_from schema ops id (documents ∷ groups) = fresh schema ops id documents ∷ fresh_from schema ops (id + 1) groups
 
--- the segments after a batch, with those that have no live document: the old ones, and new ones of the adds
+-- the segments after a batch, including those without a live document: the existing ones, and new ones of the adds
 abbrev pub all_after : Cut → List Field → List (Stamped Op) → ℕ → List EntryValue → List EntryValue
 all_after cut schema batch id entries =
     map (struck batch) entries ++ fresh_from schema batch id (groups_of cut (added batch))
@@ -68,10 +68,10 @@ all_after cut schema batch id entries =
 abbrev pub committed : Cut → List Field → List (Stamped Op) → ℕ → List EntryValue → List EntryValue
 committed cut schema batch id entries = filter has_live (all_after cut schema batch id entries)
 
--- how many new segments a batch makes, those counted that have no live document
+-- the number of new segments that a batch makes, including those without a live document
 abbrev pub new_segments : Cut → List (Stamped Op) → ℕ
 new_segments cut batch = length (groups_of cut (added batch))
 
--- why numbers can't be given, where the one after them is `next`: the last of them would be 2^62 or more
+-- the refusal if the number after the last one is `next`: there is one if the last would be 2^62 or more
 abbrev pub numbers_fault : ℕ → Option Refusal
 numbers_fault next = if nat_lt (2 ^ 62) next then Some StampsUsedUp else None

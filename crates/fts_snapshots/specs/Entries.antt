@@ -1,4 +1,4 @@
--- The segments of a snapshot, each with its number and its live bits, and what they contain.
+-- The segments of a snapshot, each with its number and its live bits, and their content.
 use Rattle.std.specs.Prelude.{◌≡◌, ◌≤◌, ℕ, Bool, List, length, count_by, flat_map}
 use Rattle.std.specs.List.{list_any}
 use Rattle.fts_model.specs.declared.operation.Stamped.{Stamped}
@@ -14,7 +14,7 @@ pub record EntryValue : Type 0 where
   pub segment : SegmentValue
   pub live : List Bool
 
--- what holds of every segment of a snapshot: it has one bit per document, and `most_merged` documents at most
+-- every segment of a snapshot has one bit per document, and at most `most_merged` documents
 pub record IsEntry (entry : EntryValue) : Type 0 where
   pub bits : length entry.live ≡ length entry.segment.documents
   pub few : length entry.segment.documents ≤ most_merged
@@ -23,7 +23,7 @@ pub record IsEntry (entry : EntryValue) : Type 0 where
 abbrev pub live_in : EntryValue → List (Stamped DocumentValue)
 live_in entry = content_of entry.segment entry.live
 
--- how many live documents a segment has
+-- the number of live documents of a segment
 abbrev pub live_count : EntryValue → ℕ
 live_count entry = count_by (λ bit. bit) entry.live
 
@@ -31,6 +31,6 @@ live_count entry = count_by (λ bit. bit) entry.live
 abbrev pub has_live : EntryValue → Bool
 has_live entry = list_any (λ bit. bit) entry.live
 
--- the live documents of segments together, in the order of their stamps
+-- the live documents of all segments, in the order of their stamps
 abbrev pub content : List EntryValue → List (Stamped DocumentValue)
 content entries = in_stamp_order (flat_map live_in entries)

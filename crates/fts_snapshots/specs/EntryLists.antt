@@ -1,4 +1,4 @@
--- The segments of a snapshot in runs, as a list keeps them and an iterator goes over them.
+-- The segments of a snapshot in runs, as a list stores them and an iterator reads them.
 use Rattle.std.specs.Prelude.{List, ◌++◌, flat_map}
 use Rattle.std.specs.Arc.{arc_value}
 use Rattle.std.specs.declared.sync.Arc.{Arc}
@@ -10,6 +10,6 @@ use Rattle.fts_snapshots.specs.declared.entries.entry_list.EntryIter.{EntryIter}
 abbrev pub entries_of : {Z : Type 0} → List (Arc (Vec EntryValue Z) Z) → List EntryValue
 entries_of {Z} runs = flat_map (λ (run : Arc (Vec EntryValue Z) Z). (arc_value run).items) runs
 
--- the segments that are still to come
+-- the segments that an iterator has not reached
 abbrev pub entries_ahead : EntryIter → List EntryValue
 entries_ahead entries = entries.run.now ++ entries_of entries.runs.now

@@ -1,4 +1,4 @@
--- What the jobs of a commit make.
+-- The results of the jobs of a commit.
 use Rattle.std.specs.Prelude.{◌≡◌, List, Result, IfOk, IsOkUnless}
 use Rattle.fts_model.specs.declared.operation.Op.{Op}
 use Rattle.fts_model.specs.declared.operation.Stamped.{Stamped}
@@ -19,6 +19,6 @@ entry_of_task ops (Build segment) = fresh segment.schema.now ops segment.id segm
 abbrev pub entry_of : CommitJob → EntryValue
 entry_of job = entry_of_task job.ops.now job.task
 
--- a job answers the segment that it leaves, or that memory ran out
+-- a job returns the segment that it leaves, or memory ran out
 abbrev pub Answers : CommitJob → Result EntryValue Refusal → Type 0
 Answers job result = IfOk result (λ entry. entry ≡ entry_of job) × IsOkUnless result Memory

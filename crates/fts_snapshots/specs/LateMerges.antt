@@ -1,4 +1,4 @@
--- What a merge makes of the snapshot in which it ends.
+-- The effect of a merge on the snapshot in which it ends.
 use Rattle.std.specs.Prelude.{ℕ, ◌+◌, ◌||◌, ◌==◌, Bool, false, not, Option, None, Some, List}
 use Rattle.std.specs.Prelude.{[], ◌∷◌, ◌++◌, map, filter, flat_map, if◌then◌else◌}
 use Rattle.std.specs.List.{list_any}
@@ -28,11 +28,11 @@ ended id m entries = record {
   live = map (λ origin. is_live_at entries origin.0 origin.1) (origins_of m);
 }
 
--- the segments when a merge has ended: the merged segment, if a document of it is live, in place of its sources
+-- the segments after a merge has ended: the merged segment, if it has a live document, replaces its sources
 abbrev pub replaced : ℕ → MergedSegmentValue → List EntryValue → List EntryValue
 replaced id m entries = without entries m.ids ++ filter has_live (ended id m entries ∷ [])
 
--- the snapshot when a merge has ended, with the live bits that its sources have by then
+-- the snapshot after a merge has ended, with the live bits that its sources have by then
 abbrev pub after_end : MergedSegmentValue → SnapshotValue → SnapshotValue
 after_end m s = record {
   schema = s.schema;
@@ -40,7 +40,7 @@ after_end m s = record {
   next_id = s.next_id + 1;
 }
 
--- the snapshot when a merge of the segments of these numbers was begun, run and ended with nothing between
+-- the snapshot after a merge of the segments with these numbers is started, run and ended at once
 abbrev pub after_merge : List ℕ → SnapshotValue → SnapshotValue
 after_merge ids s = after_end (merged_of (entries_at s.entries ids)) s
 
@@ -49,7 +49,7 @@ abbrev pub first_gone : List EntryValue → List ℕ → Option ℕ
 first_gone entries [] = None
 first_gone entries (id ∷ ids) = if is_there entries id then first_gone entries ids else Some id
 
--- the stamps of the documents whose source is gone
+-- the stamps of documents whose source segment is gone
 abbrev pub stamps_left : MergedSegmentValue → List EntryValue → List ℕ
 stamps_left m entries =
     map (λ document. document.stamp)
@@ -59,14 +59,14 @@ stamps_left m entries =
 abbrev pub is_some_live : List EntryValue → List ℕ → Bool
 is_some_live entries stamps = list_any (λ document. is_among stamps document.stamp) (flat_map live_in entries)
 
--- whether none of the sources is there, or one that is gone has a document that is live in another segment
+-- whether all sources are gone, or one that is gone has a document that is live in another segment
 abbrev pub is_gone : MergedSegmentValue → List EntryValue → Bool
 is_gone m entries = not (list_any (is_there entries) m.ids) || is_some_live entries (stamps_left m entries)
 
--- why a merge can't end among these segments, for want of a source
+-- the refusal of a merge that can't end because a source is missing
 abbrev pub gone_fault : MergedSegmentValue → List EntryValue → Option Refusal
 gone_fault m entries = if is_gone m entries then option_map SourceGone (first_gone entries m.ids) else None
 
--- why a merge can't end: a source is gone, or numbers are used up
+-- the refusal of a merge that can't end: a source is missing, or numbers are used up
 abbrev pub end_fault : ℕ → MergedSegmentValue → List EntryValue → Option Refusal
 end_fault next m entries = first_of (gone_fault m entries) (numbers_fault (next + 1))

@@ -1,4 +1,4 @@
--- Merged segments that remember the segments that they were made of, and the jobs that make them.
+-- Merged segments with the numbers of their sources, and the jobs that make them.
 use Rattle.std.specs.Prelude.{◌≡◌, ◌≢◌, ◌<◌, ◌≤◌, ℕ, List, map, length, slice_index, All, AllPairs}
 use Rattle.fts_merge.specs.Merges.{MergedValue, IsMerged, AreOfOneSchema, merge_of}
 use Rattle.fts_model.specs.Limits.{most_merged}
@@ -9,24 +9,24 @@ use Rattle.fts_snapshots.specs.Sources.{source_of}
 abbrev pub ids_of : List EntryValue → List ℕ
 ids_of entries = map (λ entry. entry.id) entries
 
--- what holds of the segments of a job: there is one, all have one schema, and no number occurs twice
+-- every job has at least one segment, all of one schema, and no number twice
 pub record IsJob (entries : List EntryValue) : Type 0 where
   pub some : 0 < length entries
   pub each : All IsEntry entries
   pub schemas : AreOfOneSchema (map source_of entries)
   pub different : AllPairs (λ a b. a ≢ b) (ids_of entries)
 
--- a merged segment, and the numbers of the segments that it was made of
+-- a merged segment, and the numbers of its sources
 pub record MergedSegmentValue : Type 0 where
   pub merged : MergedValue
   pub ids : List ℕ
 
--- this merged segment, of segments of these numbers
+-- a merged segment with these numbers of its sources
 abbrev pub segment_of : MergedValue → List ℕ → MergedSegmentValue
 segment_of merged ids = record { merged = merged; ids = ids }
 
--- what holds of every merged segment: no two documents have one origin, each origin is one of the sources, and no two
--- sources have one number
+-- every merged segment has origins that are all different, each in one of its sources, and no two sources with one
+-- number
 pub record IsMergedSegment (m : MergedSegmentValue) : Type 0 where
   pub merged : IsMerged m.merged
   pub sources : m.merged.sources ≡ length m.ids
@@ -34,10 +34,10 @@ pub record IsMergedSegment (m : MergedSegmentValue) : Type 0 where
   pub different : AllPairs (λ a b. a ≢ b) m.ids
   pub few : length m.merged.segment.documents ≤ most_merged
 
--- what a job makes of its segments
+-- the merged segment that a job makes of its segments
 abbrev pub merged_of : List EntryValue → MergedSegmentValue
 merged_of entries = segment_of (merge_of (map source_of entries)) (ids_of entries)
 
--- where the documents of a merged segment come from: the number of the source, and that of the document there
+-- the origins of a merged segment's documents: the number of the source, and that of the document there
 abbrev pub origins_of : MergedSegmentValue → List (ℕ × ℕ)
 origins_of m = map (λ origin. (slice_index m.ids origin.source, origin.document)) m.merged.origins

@@ -1,4 +1,4 @@
--- Commits that were prepared, whose jobs may be run in any threads.
+-- Prepared commits, whose jobs may be run by any threads.
 use Rattle.std.specs.Prelude.{◌≡◌, ◌+◌, ◌≤◌, ◌^◌, None, List}
 use Rattle.fts_model.specs.declared.operation.Op.{Op}
 use Rattle.fts_model.specs.declared.operation.Stamped.{Stamped}
@@ -8,7 +8,7 @@ use Rattle.fts_snapshots.specs.Commits.{all_after, committed, misfit, new_segmen
 use Rattle.fts_snapshots.specs.Entries.{EntryValue}
 use Rattle.fts_snapshots.specs.Snapshots.{IsBehind, IsSnapshot, SnapshotValue, content_of}
 
--- a commit that was prepared: of this batch, cut in this way, on this snapshot
+-- a prepared commit: its batch, its cut, and its snapshot
 pub record PreparedValue : Type 0 where
   pub cut : Cut
   pub batch : List (Stamped Op)
@@ -18,7 +18,7 @@ pub record PreparedValue : Type 0 where
 abbrev pub prepared : Cut → List (Stamped Op) → SnapshotValue → PreparedValue
 prepared cut batch snapshot = record { cut = cut; batch = batch; snapshot = snapshot }
 
--- what holds of every prepared commit: nothing is wrong with it
+-- every prepared commit has a batch that can be committed
 pub record IsPrepared (p : PreparedValue) : Type 0 where
   pub cut : IsCut p.cut
   pub behind : IsBehind (content_of p.snapshot) p.batch
@@ -26,12 +26,12 @@ pub record IsPrepared (p : PreparedValue) : Type 0 where
   pub room : p.snapshot.next_id + new_segments p.cut p.batch ≤ 2 ^ 62
   pub snapshot : IsSnapshot p.snapshot
 
--- the segments that its jobs leave, one per job: of the old ones those that may be struck, and the new ones
+-- the segments that the jobs leave, one per job: the existing ones that may be changed, and the new ones
 abbrev pub entries_left : PreparedValue → List EntryValue
 entries_left p =
     all_after p.cut p.snapshot.schema p.batch p.snapshot.next_id (struck_by p.batch p.snapshot.entries)
 
--- of the segments that a commit's jobs leave, those that stay
+-- the segments with a live document among those that the jobs leave
 abbrev pub entries_kept : PreparedValue → List EntryValue
 entries_kept p =
     committed p.cut p.snapshot.schema p.batch p.snapshot.next_id (struck_by p.batch p.snapshot.entries)

@@ -1,4 +1,4 @@
--- Snapshots, what a commit makes of them, and why a commit or a merge is refused.
+-- Snapshots, the effect of a commit on them, and the refusals of commits and merges.
 use Rattle.std.specs.Prelude.{◌≡◌, ◌<◌, ◌≤◌, ℕ, ◌+◌, ◌^◌, ◌++◌, true, Option, List, Result, IfOk, length, sum_by, All}
 use Rattle.std.specs.Prelude.{AllPairs}
 use Rattle.fts_model.specs.declared.schema.Field.{Field}
@@ -19,20 +19,19 @@ pub record SnapshotValue : Type 0 where
   pub entries : List EntryValue
   pub next_id : ℕ
 
--- the documents that are found in a snapshot, in the order of their stamps
+-- the live documents of a snapshot, in the order of their stamps
 abbrev pub content_of : SnapshotValue → List (Stamped DocumentValue)
 content_of s = content s.entries
 
--- how many segments there are, and how many numbers were given to segments, together
+-- the number of segments plus the number of numbers that were given to segments
 abbrev pub segments_and_numbers : SnapshotValue → ℕ
 segments_and_numbers s = s.next_id + length s.entries
 
--- the segments stand by rising numbers
+-- the numbers of the segments rise
 abbrev pub IdsRise : List EntryValue → Type 0
 IdsRise entries = AllPairs (λ a b. a.id < b.id) entries
 
--- what holds of every snapshot: its segments' numbers rise below 2^62, each segment has a live document, no stamp
--- occurs twice
+-- every snapshot has segments whose numbers rise below 2^62, each with a live document, and no stamp twice
 pub record IsSnapshot (s : SnapshotValue) : Type 0 where
   pub ids : IdsRise s.entries
   pub below : All (λ entry. entry.id < s.next_id) s.entries
@@ -57,18 +56,18 @@ after_commit cut batch s = record {
   next_id = s.next_id + new_segments cut batch;
 }
 
--- why a batch can't be committed: numbers of segments are used up
+-- the refusal of a batch: the numbers of segments are used up
 abbrev pub commit_fault : Cut → List (Stamped Op) → SnapshotValue → Option Refusal
 commit_fault cut batch s = numbers_fault (s.next_id + new_segments cut batch)
 
--- what a commit gives: the snapshot that it leaves, whose content is what is alive after the adds of the content before
--- and the batch, or a refusal
+-- the result of a commit: a snapshot whose content is alive after the adds of the content before and the batch, or a
+-- refusal
 pub record GivesCommit (cut : Cut) (batch : List (Stamped Op)) (old : SnapshotValue)
     (result : Result SnapshotValue Refusal) : Type 0 where
   pub snapshot : Gives (λ new. new) result (ok_unless (commit_fault cut batch old) (after_commit cut batch old))
   pub content : IfOk result (λ new. content_of new ≡ alive old.schema (adds (content_of old) ++ batch))
 
--- why the segments of these numbers can't be merged
+-- the refusal of a merge of the segments with these numbers
 abbrev pub merge_fault : List ℕ → SnapshotValue → Option Refusal
 merge_fault ids s =
     first_of (names_fault s.entries ids)

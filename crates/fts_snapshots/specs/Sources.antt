@@ -1,4 +1,4 @@
--- The segments of a snapshot as a merge takes them.
+-- The segments of a snapshot as the sources of a merge.
 use Rattle.fts_merge.specs.Merges.{SourceValue}
 use Rattle.fts_snapshots.specs.Entries.{EntryValue}
 

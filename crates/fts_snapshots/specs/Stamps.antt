@@ -1,4 +1,4 @@
--- What is known of the stamps of a commit.
+-- The bounds on the stamps of a commit.
 use Rattle.std.specs.Prelude.{ℕ, ◌<◌, ◌^◌, length, All}
 use Rattle.fts_snapshots.specs.Snapshots.{SnapshotValue, content_of}
 

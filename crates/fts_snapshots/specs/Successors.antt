@@ -1,4 +1,4 @@
--- How a snapshot follows another, and when a segment that was merged fits one in place of its sources.
+-- The order of snapshots, and the snapshots in which a merged segment can replace its sources.
 use Rattle.std.specs.Prelude.{◌≡◌, ◌≤◌, ◌<◌, ℕ, Bool, true, false, Some, List, slice_get, Contains}
 use Rattle.std.specs.Option.{option_map_or}
 use Rattle.fts_snapshots.specs.Entries.{EntryValue}
@@ -9,21 +9,21 @@ use Rattle.fts_snapshots.specs.Snapshots.{SnapshotValue}
 abbrev pub is_set : List Bool → ℕ → Bool
 is_set bits n = option_map_or (λ bit. bit) (slice_get bits n) false
 
--- a segment later on: its number and documents are the same, and what is live was live before
+-- a later state of a segment: its number and its documents are the same, and no document is live that was not
 pub record IsLater (before after : EntryValue) : Type 0 where
   pub id : after.id ≡ before.id
   pub segment : after.segment ≡ before.segment
   pub live : (n : ℕ) → is_set after.live n ≡ true → is_set before.live n ≡ true
 
--- a snapshot follows another: the next number doesn't fall, and of the old segments those that are left have no
--- document live that wasn't
+-- a snapshot follows another: the next number is no smaller, and the old segments that are left have no document live
+-- that was not
 pub record Follows (old new : SnapshotValue) : Type 0 where
   pub next : old.next_id ≤ new.next_id
   pub segments : (entry : EntryValue) → Contains new.entries entry → entry.id < old.next_id →
       (before : EntryValue) × Contains old.entries before × IsLater before entry
 
--- a merged segment can take the place of its sources in a snapshot: their numbers were given already, and of each
--- source that is there it has the schema and each live document, whose origin is at the same place
+-- a merged segment can replace its sources in a snapshot: their numbers were given already, and it has the schema of
+-- each source that is there and each of its live documents, with the origin at the same index
 pub record Fits (m : MergedSegmentValue) (s : SnapshotValue) : Type 0 where
   pub below : (id : ℕ) → Contains m.ids id → id < s.next_id
   pub schema : (entry : EntryValue) → Contains s.entries entry → Contains m.ids entry.id →

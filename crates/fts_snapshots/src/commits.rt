@@ -1,4 +1,5 @@
-// A commit cuts the adds of a batch into new segments, and is a job for each, and for each old one if there is a delete.
+// A commit divides the adds of a batch among new segments. It has a job for each of them, and for each existing segment
+// if there is a delete.
 
 mod batch_jobs;
 mod segment_of_add;

@@ -1,23 +1,23 @@
-//! What is found in an index at one time, and how commits and merges lead from one such state to the next.
+//! The states of an index, and how commits and merges lead from one to the next.
 //!
-//! - A [`Snapshot`] is what is found at one time: segments, each an [`Entry`] with its number and its live bits. It
-//!   never changes: a commit or a merge makes another one, which shares all that stays, so a refusal leaves everything
-//!   as it was, and who holds a snapshot keeps it. Its segments are an [`EntryList`], of which a commit that deletes
-//!   nothing copies a small part.
-//! - A commit cuts the adds of a batch into new segments as a [`Cut`] says. What it does to each segment is a job of
-//!   its own ([`CommitJob`]): [`Snapshot::commit_alone`] runs them one after the other, and those of a
-//!   [`PreparedCommit`] may be run in any threads.
+//! - A [`Snapshot`] is the state of an index at one time: segments, each an [`Entry`] with its number and its live
+//!   bits. It never changes. A commit or a merge makes another snapshot, which shares all that is unchanged, so a
+//!   refusal leaves everything as it was, and a snapshot stays valid as long as it is held. Its segments are an
+//!   [`EntryList`], of which a commit without a delete copies only a small part.
+//! - A commit divides the adds of a batch among new segments by a [`Cut`]. The work on each segment is a job of its own
+//!   ([`CommitJob`]): [`Snapshot::commit_alone`] runs them one after the other, and those of a [`PreparedCommit`] may
+//!   be run by any threads.
 //! - A merge can end later: [`Snapshot::begin_merge`] gives a [`MergeJob`], which any thread may run, and
-//!   [`Snapshot::end_merge`] puts the [`MergedSegment`] in place of its sources, with the live bits that these have in
-//!   the snapshot if it ends. It may end in every snapshot that follows the one where it began ([`laws`]).
+//!   [`Snapshot::end_merge`] replaces the sources by the [`MergedSegment`], with the live bits that they have in the
+//!   snapshot in which it ends. It may end in every snapshot that follows the one in which it began ([`laws`]).
 //!
-//! It starts no thread, waits for none and publishes nothing: that is for the crates above.
+//! This crate starts no thread, waits for none and publishes nothing: the crates above do.
 //!
 //! ```text
 //! let next = snapshot.commit_alone(alloc, batch, Cut::Runs(65_536))?;
 //! // in any thread:
 //! let merged = next.begin_merge(alloc, &[0, 1])?.run(alloc)?;
-//! // where the merge ends, which may be commits later:
+//! // when the merge ends, possibly after several commits:
 //! let smaller = next.end_merge(alloc, &merged)?;
 //! ```
 #![tactic(auto)]

@@ -1,4 +1,4 @@
-// Merges in whatever holds the last commit of an index: of all segments, and of those that a policy names.
+// Merges in any holder of the last commit of an index: of all segments, and of those that a policy chooses.
 ghost use Rattle.std.specs.Prelude.{◌≡◌, ◌+◌, ◌^◌, ◌<◌, ◌≤◌, ◌⊎◌, ◌∷◌, [], length, map, sum_by};
 ghost use Rattle.std.specs.Prelude.{IfOk, IfErr, OnOk, OnErr, IsOkUnless, MatchOption, is_ok};
 ghost use Rattle.fts_model.specs.Limits.{most_merged};
@@ -16,26 +16,26 @@ use fts_model::{MOST_MERGED, Refusal};
 use std::alloc::Global;
 use std::sync::Arc;
 
-/// What holds the last commit of an index, and can merge its segments, given an `R` to work with: a writer may have to
-/// wait, and needs one that can.
+/// A holder of the last commit of an index that can merge its segments, given an `R` to work with. A writer may have to
+/// wait, so it needs an `R` that can.
 pub trait Mergeable<R> {
     ghost use Rattle.std.specs.Prelude.{◌≡◌, OnOk, OnErr};
     ghost use Rattle.fts_base.specs.Results.{Gives, ok_unless};
     ghost use Rattle.fts_snapshots.specs.LateMerges.{after_merge};
     ghost use Rattle.fts_snapshots.specs.Snapshots.{SnapshotValue, content_of, merge_fault};
 
-    /// What the last commit left.
+    /// The snapshot of the last commit.
     ghost left: { Self → SnapshotValue };
 
-    /// What merges leave as it is, beside what is found.
+    /// What merges leave unchanged, beside the content.
     ghost keeps: { Self → Self → Type 0 };
 
-    /// What the last commit left.
+    /// The snapshot of the last commit.
     fn last_commit(&self) -> &Snapshot
         ensures { result.now ≡ left self.now };
 
-    /// Makes one segment of the live documents of the segments of these numbers, as [`Snapshot::merge`] does. A refusal
-    /// leaves everything as it was.
+    /// Makes one segment of the live documents of the segments with these numbers, as [`Snapshot::merge`] does. A
+    /// refusal leaves everything as it was.
     fn merge_segments(&mut self, rt: &R, alloc: Global, ids: &[u64]) -> Result<(), Refusal>
         ensures snapshot { Gives (λ done. left self.new) result
             (ok_unless (merge_fault ids.now (left self.old)) (after_merge ids.now (left self.old))) }
@@ -73,7 +73,7 @@ impl<R> Mergeable<R> for Arc<CommitPoint> {
     ghost keeps_further = { λ x y z xy yz. yz ∙ xy };
 }
 
-/// How many live documents segments have together, unless they are over 1,048,576: then no merge makes one of them.
+/// The number of live documents, or none if there are over 1,048,576, too many for one segment.
 fn live_in(entries: &[Entry]) -> Option<usize>
     ensures { MatchOption result (most_merged < sum_by live_count entries.now)
         (λ live. (live ≡ sum_by live_count entries.now) × (live ≤ most_merged)) }
@@ -89,8 +89,8 @@ fn live_in(entries: &[Entry]) -> Option<usize>
     Some(live)
 }
 
-/// Merges all segments into one, if there is one, and answers how many documents are live. It is refused as `TooLarge`
-/// if there are over 1,048,576.
+/// Merges all segments into one, if there are any, and returns the number of live documents. It is refused as
+/// `TooLarge` if there are over 1,048,576.
 pub fn merge_all<R, S: Mergeable<R>>(rt: &R, alloc: Global, index: &mut S) -> Result<u64, Refusal>
     requires { 0 < length (S.left index.old).entries → (S.left index.old).next_id + 1 ≤ 2 ^ 62 }
     ensures merges { OnOk result (Merges 1 (S.left index.old) (S.left index.new)) }
@@ -114,7 +114,7 @@ pub fn merge_all<R, S: Mergeable<R>>(rt: &R, alloc: Global, index: &mut S) -> Re
     Ok(live as u64)
 }
 
-/// Merges the segments of a candidate. If they can't be merged, they stay.
+/// Merges the segments of a candidate. If they can't be merged, they are unchanged.
 fn merge_candidate<R, S: Mergeable<R>>(
     rt: &R,
     alloc: Global,
@@ -135,7 +135,7 @@ fn merge_candidate<R, S: Mergeable<R>>(
     }
 }
 
-/// Merges the segments of a candidate, and tells for how many memory ran out: for it, or for none.
+/// Merges the segments of a candidate, and returns the number of candidates for which memory ran out: 1 or 0.
 fn try_candidate<R, S: Mergeable<R>>(rt: &R, alloc: Global, index: &mut S, ids: &[u64]) -> usize
     ensures merged { MergesAllBut result (ids.now ∷ []) (S.left index.old) (S.left index.new) }
     ensures few { result ≤ 1 }
@@ -149,9 +149,8 @@ fn try_candidate<R, S: Mergeable<R>>(rt: &R, alloc: Global, index: &mut S, ids: 
     }
 }
 
-/// Merges candidates one after the other, up to the first of one segment: that takes a number for a segment which no
-/// other call gives back, and a commit has one to spare. If memory runs out for one, its segments stay, and the others
-/// are merged. Tells for how many it ran out.
+/// Runs candidates in order, stopping after the first single-segment one: such a merge uses up an id without freeing
+/// one, and the bound on ids allows one per commit. A candidate that runs out of memory is skipped and counted.
 fn merge_due<R, S: Mergeable<R>>(
     rt: &R,
     alloc: Global,
@@ -173,9 +172,9 @@ fn merge_due<R, S: Mergeable<R>>(
     refused
 }
 
-/// Merges what a policy says of the last commit: its candidates one after the other, up to the first of one segment.
-/// One that can't be merged stays, and so does one for which memory runs out, which is refused: a later commit may
-/// merge it. The others are merged.
+/// Merges the candidates of a policy in the last commit, one after the other, up to the first of a single segment. A
+/// candidate that can't be merged is skipped, and so is one for which memory runs out. In the latter case the call is
+/// refused as `Memory` after the others are merged; a later commit may merge the candidate.
 pub fn merge_planned<R, S: Mergeable<R>>(
     rt: &R,
     alloc: Global,

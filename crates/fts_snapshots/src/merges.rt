@@ -1,4 +1,4 @@
-// A merge makes one segment of several: it is planned, begun, run in any thread and ended.
+// A merge makes one segment of several: it is planned, started, run in any thread and ended.
 
 mod candidates;
 pub(crate) mod end_entries;

@@ -1,4 +1,4 @@
-// What is seen of an index at one time, and what commits and merges make of it.
+// The state of an index at one time, and the states that commits and merges make of it.
 ghost use Rattle.std.specs.Prelude.{◌≡◌, ◌≤◌, ◌^◌, [], None, map, IfOk, IsOkUnless};
 ghost use Rattle.fts_model.specs.Limits.{most_merged};
 ghost use Rattle.fts_base.specs.Results.{Gives, ok_unless};
@@ -23,8 +23,8 @@ use fts_model::{Cut, Op, Refusal, Schema, Stamped};
 use std::alloc::{AllocError, Global};
 use std::marker::Model;
 
-/// The segments of an index at one time, by rising numbers. It never changes: a commit or a merge makes another one,
-/// and a refused one nothing.
+/// The segments of an index at one time, by rising numbers. It never changes: a commit or a merge makes another
+/// snapshot, and a refused one makes none.
 #[derive(Drop)]
 pub struct Snapshot {
     schema: Schema,
@@ -71,7 +71,7 @@ impl Snapshot {
         &self.entries
     }
 
-    /// The snapshot of these segments.
+    /// Makes a snapshot of these segments.
     pub(crate) fn of(schema: Schema, entries: EntryList, next_id: u64) -> Snapshot
         requires { IsSnapshot (record { schema = schema; entries = entries; next_id = next_id }) }
         ensures { result ≡ record { schema = schema; entries = entries; next_id = next_id } }
@@ -91,10 +91,10 @@ impl Snapshot {
         self.next_id
     }
 
-    /// Begins a commit of a batch that fits the schema and comes after the documents that are there: its adds are cut
-    /// into new segments. The jobs that it is made of may be run in any threads.
+    /// Starts a commit of a batch that fits the schema and comes after the documents of this snapshot: its adds are
+    /// divided among new segments. Any threads may run the jobs of the commit.
     ///
-    /// `StampsUsedUp` where the number of a new segment would be 2^62 or more.
+    /// It is refused as `StampsUsedUp` if the number of a new segment would be 2^62 or more.
     pub fn prepare_commit<'a>(
         &'a self,
         alloc: Global,
@@ -110,10 +110,10 @@ impl Snapshot {
         PreparedCommit::new(alloc, cut, batch, self)
     }
 
-    /// The snapshot after a batch that fits the schema and comes after the documents that are there. Its adds are cut
-    /// into new segments; one without a live document is gone. The calling thread does all of it.
+    /// The snapshot after a batch that fits the schema and comes after the documents of this snapshot. Its adds are
+    /// divided among new segments; a segment without a live document is dropped. The calling thread does all the work.
     ///
-    /// `StampsUsedUp` where the number of a new segment would be 2^62 or more.
+    /// It is refused as `StampsUsedUp` if the number of a new segment would be 2^62 or more.
     pub fn commit_alone(
         &self,
         alloc: Global,
@@ -131,7 +131,7 @@ impl Snapshot {
         commit.finish(alloc, entries)
     }
 
-    /// A merge that is begun, run and ended at once, with the refusals of these three.
+    /// Starts, runs and ends a merge at once, with the refusals of these three.
     pub fn merge(&self, alloc: Global, ids: &[u64]) -> Result<Snapshot, Refusal>
         ensures snapshot { Gives (λ new. new) result
             (ok_unless (merge_fault ids.now self.now) (after_merge ids.now self.now)) }
@@ -145,10 +145,10 @@ impl Snapshot {
         }
     }
 
-    /// Begins a merge of the segments of these numbers, in their order, and keeps them with their live bits as they
-    /// are.
+    /// Starts a merge of the segments with these numbers, in their order. The job holds them with their current live
+    /// bits.
     ///
-    /// `NoSegments`, or at the first bad place `UnknownSegment` or `SegmentTwice`.
+    /// It is refused as `NoSegments`, or by the first faulty number as `UnknownSegment` or `SegmentTwice`.
     pub fn begin_merge(&self, alloc: Global, ids: &[u64]) -> Result<MergeJob, Refusal>
         ensures job { Gives (λ job. job) result
             (ok_unless (names_fault self.now.entries ids.now) (entries_at self.now.entries ids.now)) }
@@ -160,10 +160,11 @@ impl Snapshot {
         Ok(MergeJob::new(entries))
     }
 
-    /// The snapshot with a merged segment in place of its sources, under the next number. Its live bits are those that
-    /// its sources have here, and if none is left the segment isn't there.
+    /// The snapshot in which a merged segment replaces its sources, under the next number. Its live bits are those that
+    /// its sources have in this snapshot, and if none is set the segment is dropped.
     ///
-    /// `SourceGone` for want of a source; then `StampsUsedUp` where the number would be 2^62.
+    /// It is refused as `SourceGone` if a missing source prevents the end; otherwise as `StampsUsedUp` if the number
+    /// would be 2^62.
     pub fn end_merge(&self, alloc: Global, merged: &MergedSegment) -> Result<Snapshot, Refusal>
         requires { Fits merged.now self.now }
         ensures snapshot { Gives (λ new. new) result
@@ -184,7 +185,7 @@ impl Snapshot {
         })
     }
 
-    /// How large the segments are, by rising numbers.
+    /// The sizes of the segments, by rising numbers.
     pub fn segments(&self, alloc: Global) -> Result<Vec<SegmentInfo>, Refusal>
         ensures segments { IfOk result (λ infos. infos.items ≡ map info_of self.now.entries) }
         ensures memory { IsOkUnless result Refusal.Memory }
@@ -201,7 +202,7 @@ impl Snapshot {
         candidates(alloc, &entries)
     }
 
-    /// The segments that are worth merging by a policy, by their numbers: each list is one merge.
+    /// The candidates of a policy, each as the numbers of its segments.
     pub fn plan_by(&self, alloc: Global, policy: &MergePolicy) -> Result<Vec<Vec<u64>>, Refusal>
         requires floor { policy.now.floor ≤ most_merged }
         requires most { policy.now.most ≤ most_merged }
@@ -214,7 +215,7 @@ impl Snapshot {
     }
 }
 
-/// How large segments are.
+/// The sizes of segments.
 fn infos(alloc: Global, entries: &EntryList) -> Result<Vec<SegmentInfo>, AllocError>
     ensures { IfOk result (λ infos. infos.items ≡ map info_of entries.now) }
 {

@@ -1,4 +1,4 @@
-// The parts of a commit between the jobs: which operations strike at all, and which segments stay.
+// The jobs of a batch: which of its operations can delete, and which segments need no job.
 ghost use Rattle.std.specs.Prelude.{◌≡◌, ◌<◌, ◌≤◌, ◌+◌, ◌^◌, ◌++◌, ◌∷◌, [], List, length};
 ghost use Rattle.std.specs.Prelude.{map, filter, IfOk, OnOk, IsOkUnless, All};
 ghost use Rattle.fts_model.specs.declared.schema.Field.{Field};
@@ -18,7 +18,7 @@ use fts_model::{Op, Refusal, Schema, Stamped};
 use fts_pool::Job;
 use std::alloc::{AllocError, Global};
 
-/// A batch without the adds after its last delete: these strike nothing.
+/// A batch without the adds after its last delete: they delete nothing.
 fn strikers(batch: &[Stamped<Op>]) -> &[Stamped<Op>]
     ensures { (schema : List Field) (document : Stamped DocumentValue) →
         survives schema result.now document ≡ survives schema batch.now document }
@@ -39,7 +39,7 @@ fn has_delete(batch: &[Stamped<Op>]) -> bool
     batch.iter().any(|op| !matches!(op.value, Op::Add(_)))
 }
 
-/// The segments that a batch may strike.
+/// The segments whose documents a batch may delete.
 fn struck_by<'a>(batch: &[Stamped<Op>], entries: &'a EntryList) -> EntryIter<'a>
     ensures { entries_ahead result ≡ struck_by batch.now entries.now }
 {
@@ -50,7 +50,7 @@ fn struck_by<'a>(batch: &[Stamped<Op>], entries: &'a EntryList) -> EntryIter<'a>
     }
 }
 
-/// The segments after a batch: those that it can't strike, and then those that its jobs left.
+/// The segments after a batch: those that it can't change, and then those that its jobs left.
 pub(crate) fn entries_after(
     alloc: Global,
     batch: &[Stamped<Op>],
@@ -67,7 +67,7 @@ pub(crate) fn entries_after(
     }
 }
 
-/// Puts a segment after others, if it has a live document.
+/// Appends a segment, if it has a live document.
 pub fn push_live(entries: &mut Vec<Entry>, entry: Entry) -> Result<(), AllocError>
     ensures { OnOk result (entries.new.items ≡ entries.old.items ++ filter has_live (entry ∷ [])) }
 {
@@ -77,8 +77,8 @@ pub fn push_live(entries: &mut Vec<Entry>, entry: Entry) -> Result<(), AllocErro
     Ok(())
 }
 
-/// The jobs of a batch, whose adds are in these groups: one for each old segment that it may strike, and then one for
-/// each group, whose segments are numbered from `next` on.
+/// The jobs of a batch whose adds are in these groups: one for each existing segment that the batch may change, and
+/// then one for each group. The new segments are numbered from `next`.
 pub(crate) fn jobs_of_batch<'a>(
     alloc: Global,
     schema: &'a Schema,
@@ -96,7 +96,7 @@ pub(crate) fn jobs_of_batch<'a>(
     commit_jobs(alloc, schema, strikers(batch), entries, next, groups)
 }
 
-/// The segments that jobs leave and that have a live document, of jobs that are run one after the other.
+/// The segments with a live document that jobs leave, run one after the other.
 pub(crate) fn entries_in_turn(alloc: Global, jobs: &[CommitJob<'_>]) -> Result<Vec<Entry>, Refusal>
     ensures ok { IfOk result (λ entries. entries.items ≡ filter has_live (map entry_of jobs.now)) }
     ensures memory { IsOkUnless result Refusal.Memory }

@@ -1,4 +1,4 @@
-// The jobs of a commit: what it does to one segment each.
+// The jobs of a commit, one for each segment that it changes or builds.
 ghost use Rattle.std.specs.Prelude.{◌≡◌, ◌≤◌, ◌+◌, ◌++◌, ◌<◌, ◌^◌, true, map, length, IfOk, OnOk, IsOkUnless, All};
 ghost use Rattle.fts_model.specs.Operations.{survives};
 ghost use Rattle.fts_segment.specs.Segments.{AllFit};
@@ -17,16 +17,17 @@ use fts_pool::Job;
 use fts_segment::{Builder, Segment};
 use std::alloc::{AllocError, Global};
 
-/// What a job is about.
+/// The task of a job.
 #[derive(Drop)]
 pub(crate) enum Task<'a> {
-    /// An old segment is struck.
+    /// Deletes are applied to an existing segment.
     Strike(&'a Entry),
-    /// A new segment is built and struck.
+    /// A new segment is built, and deletes are applied to it.
     Build(NewSegment<'a>),
 }
 
-/// What a commit does to one segment: an old one is struck, or a new one is built of its documents and struck.
+/// The work of a commit on one segment: deletes are applied to an existing one, or a new one is built of its documents
+/// and deletes are applied to it.
 #[derive(Drop)]
 pub struct CommitJob<'a> {
     alloc: Global,
@@ -41,7 +42,7 @@ impl Job for CommitJob<'_> {
 
     ghost gives = { Answers };
 
-    /// Answers the segment that it leaves, and the only refusal is `Memory`.
+    /// Returns the segment that it leaves. The only refusal is `Memory`.
     fn run(&self) -> Result<Entry, Refusal> {
         match &self.task {
             Task::Strike(entry) => struck(self.alloc, self.ops, entry),
@@ -50,7 +51,7 @@ impl Job for CommitJob<'_> {
     }
 }
 
-/// A segment after operations. Its bits are shared if there are none.
+/// A segment with deletes applied. Its bits are shared if there are no operations.
 fn struck(alloc: Global, ops: &[Stamped<Op>], entry: &Entry) -> Result<Entry, Refusal>
     ensures ok { IfOk result (λ new. new ≡ struck ops.now entry.now) }
     ensures memory { IsOkUnless result Refusal.Memory }
@@ -82,7 +83,7 @@ fn built(
     builder.finish(alloc).map_err(|(_, refusal)| refusal)
 }
 
-/// A new segment after operations.
+/// A new segment with deletes applied.
 fn fresh(alloc: Global, ops: &[Stamped<Op>], new: &NewSegment<'_>) -> Result<Entry, Refusal>
     ensures ok { IfOk result (λ entry. entry ≡ fresh new.now.schema.now ops.now new.now.id new.now.group.now) }
     ensures memory { IsOkUnless result Refusal.Memory }
@@ -93,8 +94,8 @@ fn fresh(alloc: Global, ops: &[Stamped<Op>], new: &NewSegment<'_>) -> Result<Ent
     Ok(Entry::new(alloc, new.id, segment, live)?)
 }
 
-/// The jobs of a commit: one for each of these old segments, and then one for each group of adds, whose segments are
-/// numbered from `id` on.
+/// The jobs of a commit: one for each of these existing segments, and then one for each group of adds. The new segments
+/// are numbered from `id`.
 pub(crate) fn commit_jobs<'a>(
     alloc: Global,
     schema: &'a Schema,
@@ -117,7 +118,7 @@ pub(crate) fn commit_jobs<'a>(
     Ok(jobs)
 }
 
-/// Puts the jobs of new segments after others.
+/// Appends the jobs of new segments.
 fn push_builds<'a>(
     jobs: &mut Vec<CommitJob<'a>>,
     alloc: Global,

@@ -36,7 +36,7 @@ impl Drop for Group {
 }
 
 impl Group {
-    /// One document.
+    /// A group of one document.
     fn of(alloc: Global, document: Stamped<Document>) -> Result<Group, AllocError>
         ensures { IfOk result (λ group. group ≡ document ∷ []) }
     {
@@ -62,7 +62,7 @@ impl Group {
     }
 }
 
-/// Puts a document into the group of this number, or into another after the last.
+/// Adds a document to the group of this number, or to a new group after the last.
 fn put(
     alloc: Global,
     groups: &mut Vec<Group>,
@@ -79,7 +79,7 @@ fn put(
     Ok(())
 }
 
-/// Puts the document that an operation adds into its group, where this many were added before. Answers how many were
+/// Adds the document that an operation adds to its group, if `count` were added before, and returns how many were
 /// added.
 fn put_added(
     alloc: Global,

@@ -1,10 +1,10 @@
-// A segment that is to be built.
+// A segment before it is built.
 ghost use Rattle.fts_segment.specs.Segments.{AllFit};
 
 use crate::commits::group::Group;
 use fts_model::Schema;
 
-/// A segment to be built: its number, its schema, and its documents, which fit it.
+/// A segment before it is built: its number, its schema, and its documents, which fit it.
 #[derive(Drop)]
 pub(crate) struct NewSegment<'a> {
     pub(crate) schema: &'a Schema,

@@ -1,4 +1,4 @@
-// A commit whose jobs may be run in any threads.
+// A commit whose jobs may be run by any threads.
 ghost use Rattle.std.specs.Prelude.{◌≡◌, ◌++◌, None, map, IfOk, IsOkUnless};
 ghost use Rattle.fts_base.specs.Results.{Gives, ok_unless};
 ghost use Rattle.fts_model.specs.Operations.{alive, adds};
@@ -17,8 +17,8 @@ use fts_model::{Cut, Op, Refusal, Stamped};
 use std::alloc::{AllocError, Global};
 use std::marker::Model;
 
-/// A commit of a batch that was cut into new segments: what is left of it are its jobs, one for each segment, which any
-/// threads may run.
+/// A commit of a batch whose adds are divided among new segments. What remains are its jobs, one for each segment,
+/// which any threads may run.
 #[derive(Drop)]
 pub struct PreparedCommit<'a> {
     cut: Cut,
@@ -42,7 +42,7 @@ impl<'a> Model for PreparedCommit<'a> {
 }
 
 impl<'a> PreparedCommit<'a> {
-    /// The commit of a batch that fits the schema and comes after the documents of the snapshot.
+    /// Prepares a commit of a batch that fits the schema and comes after the documents of the snapshot.
     pub(crate) fn new(
         alloc: Global,
         cut: Cut,
@@ -67,8 +67,8 @@ impl<'a> PreparedCommit<'a> {
         })
     }
 
-    /// The jobs: if the batch has a delete, one for each segment that is there; and then one for each new one, in the
-    /// order of their first adds.
+    /// The jobs: if the batch has a delete, one for each existing segment; and then one for each new one, in the order
+    /// of their first adds.
     pub fn jobs(&self, alloc: Global) -> Result<Vec<CommitJob<'_>>, AllocError>
         ensures { IfOk result (λ jobs. map entry_of jobs.items ≡ entries_left self.now) }
     {
@@ -83,8 +83,8 @@ impl<'a> PreparedCommit<'a> {
         )
     }
 
-    /// The snapshot after the commit, of the segments that its jobs left, without those that have no live document. If
-    /// the batch has no delete, they come after the segments that were there, which stay as they are.
+    /// The snapshot after the commit: the segments that its jobs left, without those that have no live document. If the
+    /// batch has no delete, they come after the existing segments, which are unchanged.
     pub fn finish(&self, alloc: Global, entries: Vec<Entry>) -> Result<Snapshot, Refusal>
         requires { entries.items ≡ entries_kept self.now }
         ensures snapshot { IfOk result (λ new.

@@ -1,10 +1,10 @@
-// Which segment the adds of a batch go to.
+// Decides which new segment each add of a batch goes to.
 ghost use Rattle.std.specs.Prelude.{◌≡◌};
 ghost use Rattle.fts_snapshots.specs.Cuts.{IsCut, builders, capacity, place_of};
 
 use fts_model::{Cut, MOST_BUILT};
 
-/// How many builders take the adds in turn.
+/// The number of builders that take the adds in turn.
 fn builders(cut: Cut) -> usize
     ensures { result ≡ builders cut }
 {
@@ -14,7 +14,7 @@ fn builders(cut: Cut) -> usize
     }
 }
 
-/// How many adds fill a segment.
+/// The number of adds that fill a segment.
 fn capacity(cut: Cut) -> usize
     ensures { result ≡ capacity cut }
 {

@@ -8,14 +8,13 @@ use std::alloc::{AllocError, Global};
 use std::marker::Model;
 use std::sync::Arc;
 
-/// A segment with its number and a bit for each of its documents, which is set if the document is live. A copy is
-/// one handle more on all of it.
+/// A segment with its number and a live bit for each of its documents. A copy shares the data.
 #[derive(Drop)]
 pub struct Entry {
     shared: Arc<EntryData>,
 }
 
-/// What all copies of an entry share.
+/// The data that copies of an entry share.
 #[derive(Drop)]
 struct EntryData {
     id: u64,
@@ -42,14 +41,14 @@ impl Model for Entry {
     }) };
 }
 
-/// How large a segment of a snapshot is.
+/// The size of a segment of a snapshot.
 #[derive(Clone, Copy, Debug, PartialEq, Eq)]
 pub struct SegmentInfo {
     /// The number of the segment.
     pub id: u64,
-    /// How many documents it has.
+    /// The number of documents.
     pub docs: usize,
-    /// How many of them are live.
+    /// The number of live documents.
     pub live: usize,
 }
 
@@ -60,7 +59,7 @@ impl Entry {
     ghost use Rattle.fts_snapshots.specs.Infos.{info_of, size_of};
     ghost use Rattle.fts_snapshots.specs.Successors.{is_set};
 
-    /// The segment of this number with these bits.
+    /// Makes an entry of a segment, its number and its live bits.
     pub(crate) fn new(
         alloc: Global,
         id: u64,
@@ -89,7 +88,7 @@ impl Entry {
         &self.shared.segment
     }
 
-    /// The bits of its documents.
+    /// The live bits of the documents.
     pub fn live(&self) -> &Bits
         ensures live { result.now ≡ self.now.live }
         ensures bits { IsEntry self.now }
@@ -97,7 +96,7 @@ impl Entry {
         &self.shared.live
     }
 
-    /// How many documents are live.
+    /// The number of live documents.
     pub fn live_count(&self) -> usize
         ensures count { result ≡ live_count self.now }
         ensures few { result ≤ most_merged }
@@ -105,7 +104,7 @@ impl Entry {
         self.live().count_ones()
     }
 
-    /// Whether a document is live.
+    /// Whether the segment has a live document.
     pub fn has_live(&self) -> bool
         ensures { result ≡ has_live self.now }
     {
@@ -120,7 +119,7 @@ impl Entry {
         self.live().contains(document)
     }
 
-    /// How large the segment is.
+    /// The size of the segment.
     pub fn info(&self) -> SegmentInfo
         ensures { result ≡ info_of self.now }
     {
@@ -131,7 +130,7 @@ impl Entry {
         }
     }
 
-    /// How large the segment is for a merge policy.
+    /// The size of the segment, for a merge policy.
     pub(crate) fn size(&self) -> SegmentSize
         ensures { result ≡ size_of self.now }
     {

@@ -1,4 +1,4 @@
-// The segments of a snapshot, in runs that it shares with others.
+// The segments of a snapshot, in runs that several snapshots share.
 ghost use Rattle.std.specs.Prelude.{◌≡◌, ◌≤◌, ◌++◌, IfOk, length};
 ghost use Rattle.fts_snapshots.specs.EntryLists.{entries_ahead, entries_of};
 
@@ -7,10 +7,10 @@ use std::alloc::{AllocError, Global};
 use std::marker::Model;
 use std::sync::Arc;
 
-/// The segments of a snapshot, by rising numbers. Contracts see it as the list of them.
+/// The segments of a snapshot, by rising numbers. Contracts see the list of them.
 ///
-/// They are in runs, which a list shares with those that were made of it. A run has more segments than those after it
-/// together: so there are few, and a segment that is put after n others is copied log n times until there are 2 n.
+/// The list consists of runs of segments, which later lists share. A run has more segments than all runs after it
+/// together, so there are few runs, and a segment is copied O(log n) times while n segments are appended.
 #[derive(Drop)]
 pub struct EntryList {
     runs: Vec<Arc<Vec<Entry>>>,
@@ -33,7 +33,7 @@ impl EntryList {
     ghost use Rattle.std.specs.Prelude.{◌≡◌, ◌+◌, ◌<◌, ◌^◌, ◌++◌, ◌↔◌, [], IfOk, IsTrue, length};
     ghost use Rattle.fts_snapshots.specs.EntryLists.{entries_ahead};
 
-    /// No segment.
+    /// An empty list.
     pub(crate) fn new(alloc: Global) -> EntryList
         ensures { result ≡ [] }
     {
@@ -43,7 +43,7 @@ impl EntryList {
         }
     }
 
-    /// How many segments there are.
+    /// The number of segments.
     pub fn len(&self) -> usize
         ensures { result ≡ length self.now }
     {
@@ -57,21 +57,21 @@ impl EntryList {
         self.len() == 0
     }
 
-    /// The segments, one after the other.
+    /// Iterates over the segments.
     pub fn iter(&self) -> EntryIter<'_>
         ensures { entries_ahead result ≡ self.now }
     {
         EntryIter::of(&self.runs)
     }
 
-    /// A handle on each segment.
+    /// The segments as a vector of handles.
     pub(crate) fn to_vec(&self, alloc: Global) -> Result<Vec<Entry>, AllocError>
         ensures { IfOk result (λ entries. entries.items ≡ self.now) }
     {
         joined(alloc, self.iter(), Vec::new(alloc))
     }
 
-    /// These segments, and then more. Runs that aren't longer than what comes after them are joined with it.
+    /// This list with more segments appended. Runs that aren't longer than the segments after them are merged into one.
     pub(crate) fn with_more(&self, alloc: Global, more: Vec<Entry>) -> Result<EntryList, AllocError>
         requires { length self.now + length more.items < 2 ^ 64 }
         ensures { IfOk result (λ list. list ≡ self.now ++ more.items) }
@@ -82,7 +82,7 @@ impl EntryList {
     }
 }
 
-/// The segments of a list that are left, one after the other.
+/// An iterator over the segments of a list.
 #[derive(Drop)]
 pub struct EntryIter<'a> {
     run: &'a [Entry],
@@ -93,14 +93,14 @@ impl<'a> EntryIter<'a> {
     ghost use Rattle.std.specs.Prelude.{◌≡◌, []};
     ghost use Rattle.fts_snapshots.specs.EntryLists.{entries_ahead, entries_of};
 
-    /// The segments of these runs.
+    /// Iterates over the segments of these runs.
     fn of(runs: &'a [Arc<Vec<Entry>>]) -> EntryIter<'a>
         ensures { entries_ahead result ≡ entries_of runs.entry.now }
     {
         EntryIter { run: &[], runs }
     }
 
-    /// None.
+    /// An iterator without a segment.
     pub(crate) fn none() -> EntryIter<'a>
         ensures { entries_ahead result ≡ [] }
     {
@@ -133,7 +133,7 @@ impl<'a> Iterator for EntryIter<'a> {
     }
 }
 
-/// Handles on segments, and then more segments.
+/// Handles on the segments of some runs, with more segments appended.
 fn joined(
     alloc: Global,
     entries: EntryIter<'_>,
@@ -149,8 +149,8 @@ fn joined(
     Ok(all)
 }
 
-/// How many runs stay as they are if this many segments come after them: the others aren't longer than what comes after
-/// them.
+/// The number of runs that are unchanged if `more` segments are appended. The other runs aren't longer than the
+/// segments after them.
 fn runs_kept(runs: &[Arc<Vec<Entry>>], more: usize) -> usize
     ensures { result ≤ length runs.now }
 {
@@ -176,7 +176,7 @@ fn shared(alloc: Global, runs: &[Arc<Vec<Entry>>]) -> Result<Vec<Arc<Vec<Entry>>
     Ok(copy)
 }
 
-/// The runs of a list with more segments.
+/// The runs of a list with more segments appended.
 fn runs_with(
     alloc: Global,
     runs: &[Arc<Vec<Entry>>],

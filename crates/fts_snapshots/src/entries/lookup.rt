@@ -1,4 +1,4 @@
-// Looks up the segments of a snapshot by their numbers, by halving.
+// A binary search for the segments of a snapshot by their numbers.
 ghost use Rattle.std.specs.Prelude.{◌≡◌, ◌∷◌, [], IfOk, MatchOption, map};
 ghost use Rattle.fts_snapshots.specs.Snapshots.{IdsRise};
 ghost use Rattle.fts_snapshots.specs.MergedSegments.{ids_of};
@@ -9,7 +9,7 @@ use crate::entries::entry::Entry;
 use std::alloc::{AllocError, Global};
 use std::marker::Model;
 
-/// Segments by rising numbers, and their numbers alone. Contracts see it as the segments.
+/// Segments by rising numbers, with a separate list of the numbers. Contracts see the segments.
 #[derive(Drop)]
 pub(crate) struct Lookup<'a> {
     entries: &'a [Entry],
@@ -30,7 +30,7 @@ impl<'a> Model for Lookup<'a> {
 }
 
 impl<'a> Lookup<'a> {
-    /// For these segments.
+    /// Makes a look-up of these segments.
     pub(crate) fn new(alloc: Global, entries: &'a [Entry]) -> Result<Lookup<'a>, AllocError>
         requires { IdsRise entries.now }
         ensures { IfOk result (λ lookup. lookup ≡ entries.now) }
@@ -46,7 +46,7 @@ impl<'a> Lookup<'a> {
         self.entries
     }
 
-    /// The place of the segment of this number, if there is one.
+    /// The index of the segment of this number, if there is one.
     pub(crate) fn place_in(&self, id: u64) -> Option<usize>
         ensures { result ≡ place_in self.now id }
     {
@@ -74,7 +74,7 @@ impl<'a> Lookup<'a> {
         self.place_in(id).is_some()
     }
 
-    /// Whether a document of the segment at a place is live.
+    /// Whether a document of the segment at an index is live.
     pub(crate) fn is_live(&self, place: Option<usize>, document: usize) -> bool
         ensures { result ≡ is_live_there self.now place document }
     {
@@ -99,7 +99,7 @@ pub(crate) fn ids_of_entries(alloc: Global, entries: &[Entry]) -> Result<Vec<u64
     Ok(numbers)
 }
 
-/// The places of the segments of these numbers.
+/// The indexes of the segments of these numbers.
 pub(crate) fn places(
     alloc: Global,
     lookup: &Lookup<'_>,

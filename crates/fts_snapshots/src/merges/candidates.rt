@@ -1,4 +1,4 @@
-// Which segments of a snapshot are worth merging.
+// The segments of a snapshot that are worth merging.
 ghost use Rattle.std.specs.Prelude.{◌≡◌, ◌<◌, ◌≤◌, All, map, length, IfOk, IsOkUnless};
 ghost use Rattle.fts_model.specs.Limits.{most_merged};
 ghost use Rattle.fts_snapshots.specs.Entries.{live_count};
@@ -32,7 +32,7 @@ fn ids_at(alloc: Global, entries: &[Entry], indexes: &[usize]) -> Result<Vec<u64
     Ok(ids)
 }
 
-/// The same of several lists.
+/// As `ids_at`, for several lists.
 fn all_ids_at(
     alloc: Global,
     entries: &[Entry],
@@ -59,7 +59,7 @@ pub(crate) fn candidates(alloc: Global, entries: &[Entry]) -> Result<Vec<Vec<u64
     Ok(all_ids_at(alloc, entries, &found)?)
 }
 
-/// How large each segment is.
+/// The size of each segment.
 fn segment_sizes(alloc: Global, entries: &[Entry]) -> Result<Vec<SegmentSize>, AllocError>
     ensures { IfOk result (λ sizes. sizes.items ≡ map size_of entries.now) }
 {
@@ -70,7 +70,7 @@ fn segment_sizes(alloc: Global, entries: &[Entry]) -> Result<Vec<SegmentSize>, A
     Ok(sizes)
 }
 
-/// The candidates of a policy, by the numbers of segments.
+/// The candidates of a policy, each as the numbers of its segments.
 pub(crate) fn candidates_by(
     alloc: Global,
     policy: &MergePolicy,

@@ -1,4 +1,4 @@
-// The parts of the end of a merge: whether it can end, and what is live of its segment by then.
+// The parts of the end of a merge: whether it can end, and which documents of its segment are live by then.
 ghost use Rattle.std.specs.Prelude.{◌≡◌, ◌≤◌, ◌^◌, ◌==◌, ℕ, IfOk, OnOk, IsOkUnless, map, nat_eq, length};
 ghost use Rattle.std.specs.List.{list_any, flat_map};
 ghost use Rattle.std.specs.HashSet.{contains};
@@ -20,7 +20,7 @@ use fts_pack::bits::Bits;
 use std::alloc::{AllocError, Global};
 use std::collections::HashSet;
 
-/// The first number that no segment has.
+/// The first of these numbers that no segment has.
 fn first_gone(lookup: &Lookup<'_>, ids: &[u64]) -> Option<u64>
     ensures { result ≡ first_gone lookup.now ids.now }
 {
@@ -39,7 +39,7 @@ fn is_any_there(lookup: &Lookup<'_>, ids: &[u64]) -> bool
     ids.iter().any(|id| lookup.is_there(*id))
 }
 
-/// The stamps of the documents whose source is gone, where the sources are at these places.
+/// The stamps of documents whose source segment is gone.
 fn stamps_left(
     alloc: Global,
     lookup: &Lookup<'_>,
@@ -77,7 +77,7 @@ fn has_one(entry: &Entry, stamps: &HashSet<u64>) -> bool
     false
 }
 
-/// Whether a live document has one of these stamps.
+/// Whether a live document of some segment has one of these stamps.
 fn is_some_live(entries: &[Entry], stamps: &HashSet<u64>) -> bool
     ensures { result ≡ list_any (λ d. contains nat_eq stamps.now d.stamp)
         (flat_map live_in entries.now) }
@@ -90,7 +90,7 @@ fn is_some_live(entries: &[Entry], stamps: &HashSet<u64>) -> bool
     false
 }
 
-/// The source for want of which a merge can't end.
+/// The first missing source, if the merge can't end because of it.
 fn gone(
     alloc: Global,
     lookup: &Lookup<'_>,
@@ -114,7 +114,7 @@ fn gone(
     Ok(None)
 }
 
-/// The live bits that the sources have now, where they are at these places.
+/// The live bits of the merged segment, from those that its sources have now. The sources are at these indexes.
 fn live_bits(
     alloc: Global,
     lookup: &Lookup<'_>,
@@ -171,7 +171,7 @@ fn set_of(alloc: Global, ids: &[u64]) -> Result<HashSet<u64>, AllocError>
     Ok(set)
 }
 
-/// The segments of other numbers.
+/// The segments with other numbers.
 fn others(alloc: Global, entries: &[Entry], ids: &[u64]) -> Result<Vec<Entry>, AllocError>
     ensures { IfOk result (λ others. others.items ≡ without entries.now ids.now) }
 {
@@ -185,7 +185,7 @@ fn others(alloc: Global, entries: &[Entry], ids: &[u64]) -> Result<Vec<Entry>, A
     Ok(others)
 }
 
-/// The segments with a merged one in place of its sources, if a document of it is live.
+/// The segments in which a merged one replaces its sources, if it has a live document.
 pub(crate) fn end_entries(
     alloc: Global,
     entries: &[Entry],

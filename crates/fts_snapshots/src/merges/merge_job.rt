@@ -1,4 +1,4 @@
-// A merge that was begun: it may be run in any thread, beside the writer.
+// A merge that was started: any thread may run it, beside the writer.
 ghost use Rattle.std.specs.Prelude.{◌≡◌, ◌⊎◌, None, Some, IfOk, IfErr, OnOk, map, sum_by};
 ghost use Rattle.fts_base.specs.Results.{Gives, ok_unless};
 ghost use Rattle.fts_snapshots.specs.Entries.{live_count};
@@ -13,8 +13,8 @@ use fts_model::Refusal;
 use std::alloc::{AllocError, Global};
 use std::marker::Model;
 
-/// The segments of a merge with their live bits as they were when it was begun. Contracts see it as these segments, in
-/// the order of the merge.
+/// The segments of a merge with the live bits that they had when it started. Contracts see these segments, in the order
+/// of the merge.
 #[derive(Drop)]
 pub struct MergeJob {
     entries: Vec<Entry>,
@@ -33,7 +33,7 @@ impl Model for MergeJob {
 }
 
 impl MergeJob {
-    /// The job of these segments.
+    /// Makes a job of these segments.
     pub(crate) fn new(entries: Vec<Entry>) -> MergeJob
         requires { IsJob entries.items }
         ensures { result ≡ entries.items }
@@ -49,10 +49,10 @@ impl MergeJob {
         &self.entries
     }
 
-    /// Makes one segment of the live documents, in the order of the segments. It needs no writer, and nothing is found
-    /// differently by it.
+    /// Makes one segment of the live documents, in the order of the segments. It needs no writer, and no search result
+    /// changes by it.
     ///
-    /// `TooLarge` for over 1,048,576 live documents. A refusal hands the job back.
+    /// It is refused as `TooLarge` for over 1,048,576 live documents. A refusal hands the job back.
     pub fn run(self, alloc: Global) -> Result<MergedSegment, (MergeJob, Refusal)>
         ensures merged { IfOk result (λ merged. merged ≡ merged_of self) }
         ensures few { OnOk result (size_fault (sum_by live_count self) ≡ None) }

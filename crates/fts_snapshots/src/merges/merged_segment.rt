@@ -1,12 +1,12 @@
-// A merged segment that hasn't taken the place of its sources yet.
+// A merged segment that has not replaced its sources yet.
 ghost use Rattle.std.specs.Prelude.{◌≡◌};
 ghost use Rattle.fts_snapshots.specs.MergedSegments.{MergedSegmentValue, IsMergedSegment, segment_of};
 
 use fts_merge::Merged;
 use std::marker::Model;
 
-/// A segment of the live documents of others, with the numbers of these: what a [`MergeJob`](crate::MergeJob) makes. It
-/// tells where each document comes from, and no two documents come from one place.
+/// A segment of the live documents of its sources, with their segment numbers: the result of a
+/// [`MergeJob`](crate::MergeJob). It has the origin of each document, and no two documents have the same.
 #[derive(Drop)]
 pub struct MergedSegment {
     merged: Merged,
@@ -24,7 +24,7 @@ impl Model for MergedSegment {
 }
 
 impl MergedSegment {
-    /// What was merged of the segments of these numbers.
+    /// Adds the numbers of its sources to a merged segment.
     pub(crate) fn new(merged: Merged, ids: Vec<u64>) -> MergedSegment
         requires { IsMergedSegment (segment_of merged ids.items) }
         ensures { result ≡ segment_of merged ids.items }
@@ -32,8 +32,8 @@ impl MergedSegment {
         MergedSegment { merged, ids }
     }
 
-    /// The segment, and for each of its documents the index of its source in [`sources`](MergedSegment::sources) and
-    /// its number there.
+    /// The segment, with the origin of each document: the index of its source in [`sources`](MergedSegment::sources),
+    /// and its number there.
     pub fn merged(&self) -> &Merged
         ensures merged { result.now ≡ self.now.merged }
         ensures each { IsMergedSegment self.now }
@@ -41,7 +41,7 @@ impl MergedSegment {
         &self.merged
     }
 
-    /// The numbers of the segments that were merged, in the order of the merge.
+    /// The numbers of the sources, in the order of the merge.
     pub fn sources(&self) -> &[u64]
         ensures ids { result.now ≡ self.now.ids }
         ensures each { IsMergedSegment self.now }

@@ -1,4 +1,4 @@
-// The segments that a merge is begun with.
+// The segments that a merge starts with.
 ghost use Rattle.std.specs.Prelude.{◌≡◌, ◌⊎◌, ◌++◌, ◌∷◌, [], ℕ, List, Some, IfOk, OnOk, MatchResult, nat_eq};
 ghost use Rattle.std.specs.HashSet.{contains};
 ghost use Rattle.fts_base.specs.Results.{Gives, ok_unless};
@@ -11,8 +11,8 @@ use fts_model::Refusal;
 use std::alloc::{AllocError, Global};
 use std::collections::HashSet;
 
-/// The segment of this number, which is put among those that were named. Or why it can't be named: no segment has the
-/// number, or it was named before.
+/// The segment of this number, which is added to the numbers so far. It is refused if no segment has the number, or if
+/// it is one of them.
 fn named(lookup: &Lookup<'_>, names: &mut HashSet<u64>, id: u64) -> Result<Entry, Refusal>
     ensures names { (before : List ℕ) → TellsOf (contains nat_eq names.old) before →
         OnOk result (TellsOf (contains nat_eq names.new) (before ++ id ∷ [])) }
@@ -31,8 +31,8 @@ fn named(lookup: &Lookup<'_>, names: &mut HashSet<u64>, id: u64) -> Result<Entry
     Ok(entry.clone()?)
 }
 
-/// The segments of these numbers, in the order of the numbers; or what is wrong with the numbers: there is none, or the
-/// first that no segment has or that comes before.
+/// The segments of these numbers, in the order of the numbers. It is refused if there is no number, or by the first
+/// number that no segment has or that comes twice.
 pub(crate) fn named_entries(
     alloc: Global,
     entries: &[Entry],

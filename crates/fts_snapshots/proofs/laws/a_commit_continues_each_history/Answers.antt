@@ -1,4 +1,4 @@
--- What is left of the proof of `laws::a_commit_continues_each_history`.
+-- The rest of the proof of `laws::a_commit_continues_each_history`.
 use Rattle.std.proofs.Common.{◌≡◌, ◌++◌, sym, ap, ◌∙◌}
 use Rattle.std.proofs.lemmas.List.Elements.{recursion_from_All}
 use Rattle.fts_model.specs.Operations.{alive, adds}

@@ -1,4 +1,4 @@
--- What is left of the proof of `laws::a_merge_fits_where_it_begins`.
+-- The rest of the proof of `laws::a_merge_fits_where_it_begins`.
 use Rattle.fts_snapshots.proofs.LateBeginLemmas.{fits_begun}
 use Rattle.fts_snapshots.proofs.laws.a_merge_fits_where_it_begins.Goals as goal
 

@@ -1,4 +1,4 @@
--- What is left of the proof of `laws::commits_and_merges_are_followed`.
+-- The rest of the proof of `laws::commits_and_merges_are_followed`.
 use Rattle.fts_snapshots.proofs.FollowLemmas.{follows_commit, follows_end}
 use Rattle.fts_snapshots.proofs.laws.commits_and_merges_are_followed.Goals as goal
 

@@ -1,4 +1,4 @@
--- What is left of the proof of `laws::following_is_transitive`.
+-- The rest of the proof of `laws::following_is_transitive`.
 use Rattle.fts_snapshots.proofs.FollowLemmas.{follows_itself, follows_further}
 use Rattle.fts_snapshots.proofs.laws.following_is_transitive.Goals as goal
 

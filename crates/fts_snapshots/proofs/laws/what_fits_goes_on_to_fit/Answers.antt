@@ -1,4 +1,4 @@
--- What is left of the proof of `laws::what_fits_goes_on_to_fit`.
+-- The rest of the proof of `laws::what_fits_goes_on_to_fit`.
 use Rattle.fts_snapshots.proofs.FollowLemmas.{fits_further}
 use Rattle.fts_snapshots.proofs.laws.what_fits_goes_on_to_fit.Goals as goal
 

@@ -1,4 +1,4 @@
--- What stays true in the loop of `merging::live_in`.
+-- The invariant of the loop of `mergeable::live_in`.
 use Rattle.std.proofs.Common.{◌≡◌, ◌≤◌, take, sum_by}
 use Rattle.fts_snapshots.specs.Entries.{live_count}
 use Rattle.fts_snapshots.proofs.mergeable.live_in.Given as goal

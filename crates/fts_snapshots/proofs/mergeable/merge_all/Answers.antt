@@ -1,4 +1,4 @@
--- What is left of the proof of `merging::merge_all`.
+-- The rest of the proof of `mergeable::merge_all`.
 use Rattle.std.proofs.Common.{◌≡◌, ◌<◌, ◌≤◌, ◌==◌, None, List, inl, inr, length, sum_by, refl, sym, ap, subst, ◌∙◌, arith}
 use Rattle.std.proofs.lemmas.List.{length-map}
 use Rattle.std.proofs.lemmas.Result.{err_from_is_err_and}

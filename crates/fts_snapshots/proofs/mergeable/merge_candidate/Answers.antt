@@ -1,4 +1,4 @@
--- What is left of the proof of `merging::merge_candidate`.
+-- The rest of the proof of `mergeable::merge_candidate`.
 use Rattle.std.proofs.Common.{arith}
 use Rattle.fts_snapshots.specs.LateMerges.{after_merge}
 use Rattle.fts_snapshots.specs.Snapshots.{merge_fault}

@@ -1,4 +1,4 @@
--- What is left of the proof of `merging::merge_due`.
+-- The rest of the proof of `mergeable::merge_due`.
 use Rattle.std.proofs.Common.{rules, ◌≤◌, ◌<◌, [], ◌∷◌, Global, Vec, ℕ, length, sym, subst, arith}
 use Rattle.fts_snapshots.specs.Candidates.{MergesAllBut}
 use Rattle.fts_snapshots.proofs.ChangeLemmas.{merges_then, tried_all, tried_last, tried_more}

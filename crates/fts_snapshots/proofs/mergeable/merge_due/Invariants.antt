@@ -1,4 +1,4 @@
--- What stays true in the loop of `merging::merge_due`.
+-- The invariant of the loop of `mergeable::merge_due`.
 use Rattle.std.proofs.Common.{◌≤◌, drop, map}
 use Rattle.fts_snapshots.specs.Changes.{Merges}
 use Rattle.fts_snapshots.proofs.ChangeLemmas.{Tried}

@@ -1,4 +1,4 @@
--- What is left of the proof of `merging::merge_planned`.
+-- The rest of the proof of `mergeable::merge_planned`.
 use Rattle.fts_snapshots.specs.Infos.{candidate_ids_by}
 use Rattle.fts_snapshots.proofs.ChangeLemmas.{due_unknown}
 use Rattle.fts_snapshots.proofs.mergeable.merge_planned.Goals as goal

@@ -1,4 +1,4 @@
--- What is left of the proof of `merging::try_candidate`.
+-- The rest of the proof of `mergeable::try_candidate`.
 use Rattle.std.proofs.Common.{inl, inr, refl, ap}
 use Rattle.fts_snapshots.proofs.mergeable.try_candidate.Goals as goal
 

@@ -1,4 +1,4 @@
--- What stays true in the loop of `snapshot::infos`.
+-- The invariant of the loop of `snapshot::infos`.
 use Rattle.std.proofs.Common.{◌≡◌, ◌++◌, map}
 use Rattle.fts_snapshots.specs.EntryLists.{entries_ahead}
 use Rattle.fts_snapshots.specs.Infos.{info_of}

@@ -1,4 +1,4 @@
--- What is left of the proof of `commits::commit::entries_in_turn`.
+-- The rest of the proof of `commits::batch_jobs::entries_in_turn`.
 use Rattle.std.proofs.Common.{◌∙◌}
 use Rattle.fts_snapshots.proofs.JobLemmas.{kept_in_turn}
 use Rattle.fts_snapshots.proofs.commits.batch_jobs.entries_in_turn.Goals as goal

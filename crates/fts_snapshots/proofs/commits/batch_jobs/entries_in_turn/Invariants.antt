@@ -1,4 +1,4 @@
--- What stays true in the loop of `commits::commit::entries_in_turn`.
+-- The invariant of the loop of `commits::batch_jobs::entries_in_turn`.
 use Rattle.std.proofs.Common.{◌≡◌, map, filter, take}
 use Rattle.fts_snapshots.specs.Entries.{has_live}
 use Rattle.fts_snapshots.specs.Jobs.{entry_of}

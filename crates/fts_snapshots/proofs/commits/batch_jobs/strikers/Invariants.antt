@@ -1,4 +1,4 @@
--- What stays true in the loop of `commits::commit::strikers`.
+-- The invariant of the loop of `commits::batch_jobs::strikers`.
 use Rattle.std.proofs.Common.{◌≡◌, ◌≤◌, List, take}
 use Rattle.fts_model.specs.declared.schema.Field.{Field}
 use Rattle.fts_model.specs.declared.operation.Stamped.{Stamped}

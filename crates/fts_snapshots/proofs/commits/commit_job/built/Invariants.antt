@@ -1,4 +1,4 @@
--- What stays true in the loop of `commits::jobs::built`.
+-- The invariant of the loop of `commits::commit_job::built`.
 use Rattle.std.proofs.Common.{◌≡◌, false, take}
 use Rattle.fts_snapshots.proofs.commits.commit_job.built.Given as goal
 

@@ -1,4 +1,4 @@
--- What stays true in the loop of `commits::jobs::commit_jobs`.
+-- The invariant of the loop of `commits::commit_job::commit_jobs`.
 use Rattle.std.proofs.Common.{◌≡◌, ◌++◌, map}
 use Rattle.fts_snapshots.specs.Commits.{struck}
 use Rattle.fts_snapshots.specs.EntryLists.{entries_ahead}

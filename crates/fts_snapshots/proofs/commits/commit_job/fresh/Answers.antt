@@ -1,4 +1,4 @@
--- What is left of the proof of `commits::jobs::fresh`.
+-- The rest of the proof of `commits::commit_job::fresh`.
 use Rattle.std.proofs.Common.{◌≤◌, true, length, replicate, refl, sym, ap, subst, ◌∙◌}
 use Rattle.fts_model.specs.Operations.{survives}
 use Rattle.fts_segment.specs.Segments.{SegmentValue}

@@ -1,4 +1,4 @@
--- What is left of the proof of `commits::jobs::push_builds`.
+-- The rest of the proof of `commits::commit_job::push_builds`.
 use Rattle.std.proofs.Common.{◌+◌, ◌++◌, ◌∷◌, [], map, take, ap, ◌∙◌, append_assoc, arith}
 use Rattle.std.proofs.lemmas.List.{map-append}
 use Rattle.fts_snapshots.specs.Commits.{fresh, fresh_from}

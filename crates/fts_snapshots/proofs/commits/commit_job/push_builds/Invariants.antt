@@ -1,4 +1,4 @@
--- What stays true in the loop of `commits::jobs::push_builds`.
+-- The invariant of the loop of `commits::commit_job::push_builds`.
 use Rattle.std.proofs.Common.{◌≡◌, ◌+◌, ◌++◌, map, take}
 use Rattle.fts_snapshots.specs.Commits.{fresh_from}
 use Rattle.fts_snapshots.specs.Jobs.{entry_of}

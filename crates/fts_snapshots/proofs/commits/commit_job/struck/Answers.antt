@@ -1,4 +1,4 @@
--- What is left of the proof of `commits::jobs::struck`.
+-- The rest of the proof of `commits::commit_job::struck`.
 use Rattle.std.proofs.Common.{sym, ap, subst, ◌∙◌, arith}
 use Rattle.std.proofs.lemmas.Bool.Decides.{nat_tests}
 use Rattle.fts_merge.specs.Strikes.{bits_after}

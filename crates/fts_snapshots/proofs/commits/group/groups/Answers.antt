@@ -1,4 +1,4 @@
--- What is left of the proof of `commits::group::groups`.
+-- The rest of the proof of `commits::group::groups`.
 use Rattle.std.proofs.Common.{◌≡◌, ◌≤◌, ◌+◌, length, take, sym, ap, ◌∙◌, arith}
 use Rattle.std.proofs.lemmas.List.{length-append, length-take-le}
 use Rattle.std.proofs.lemmas.List.Elements.{All-from_recursion, All-same}

@@ -1,4 +1,4 @@
--- What stays true in the loop of `commits::group::groups`.
+-- The invariant of the loop of `commits::group::groups`.
 use Rattle.std.proofs.Common.{◌≡◌, length, take}
 use Rattle.fts_model.specs.Operations.{added}
 use Rattle.fts_snapshots.specs.Cuts.{groups_of}

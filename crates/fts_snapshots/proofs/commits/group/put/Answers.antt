@@ -1,4 +1,4 @@
--- What is left of the proof of `commits::group::put`.
+-- The rest of the proof of `commits::group::put`.
 use Rattle.std.proofs.Common.{◌≤◌, ◌∙◌, ap, arith, length, [], ◌∷◌, ◌++◌}
 use Rattle.std.proofs.lemmas.List.Elements.{recursion_from_All}
 use Rattle.std.proofs.lemmas.Result.{on_ok_weaker}

@@ -1,4 +1,4 @@
--- What stays true in the loop of `entries::entry_list::joined`.
+-- The invariant of the loop of `entries::entry_list::joined`.
 use Rattle.std.proofs.Common.{◌≡◌, ◌++◌}
 use Rattle.fts_snapshots.specs.EntryLists.{entries_ahead}
 use Rattle.fts_snapshots.proofs.entries.entry_list.joined.Given as goal

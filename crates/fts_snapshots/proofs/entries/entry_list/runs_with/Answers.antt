@@ -1,4 +1,4 @@
--- What is left of the proof of `entries::entry_list::runs_with`.
+-- The rest of the proof of `entries::entry_list::runs_with`.
 use Rattle.std.proofs.Common.{◌++◌, ap, ◌∙◌}
 use Rattle.fts_snapshots.proofs.EntryListLemmas.{runs_joined}
 use Rattle.fts_snapshots.proofs.entries.entry_list.runs_with.Goals as goal

@@ -1,4 +1,4 @@
--- What stays true in the loop of `entries::entry_list::shared`.
+-- The invariant of the loop of `entries::entry_list::shared`.
 use Rattle.std.proofs.Common.{◌≡◌, take}
 use Rattle.fts_snapshots.specs.EntryLists.{entries_of}
 use Rattle.fts_snapshots.proofs.entries.entry_list.shared.Given as goal

@@ -1,4 +1,4 @@
--- What stays true in the loop of `entries::lookup::numbers`.
+-- The invariant of the loop of `entries::lookup::ids_of_entries`.
 use Rattle.std.proofs.Common.{◌≡◌, take}
 use Rattle.fts_snapshots.specs.MergedSegments.{ids_of}
 use Rattle.fts_snapshots.proofs.entries.lookup.ids_of_entries.Given as goal

@@ -1,4 +1,4 @@
--- What stays true in the loop of `entries::lookup::places`.
+-- The invariant of the loop of `entries::lookup::places`.
 use Rattle.std.proofs.Common.{◌≡◌, map, take}
 use Rattle.fts_snapshots.specs.Lookups.{place_in}
 use Rattle.fts_snapshots.proofs.entries.lookup.places.Given as goal

@@ -1,4 +1,4 @@
--- What stays true in the loop of `merges::plan::all_ids_at`.
+-- The invariant of the loop of `merges::candidates::all_ids_at`.
 use Rattle.std.proofs.Common.{◌≡◌, map, take}
 use Rattle.fts_snapshots.specs.Infos.{id_at}
 use Rattle.fts_snapshots.proofs.merges.candidates.all_ids_at.Given as goal

@@ -1,4 +1,4 @@
--- What is left of the proof of `merges::plan::candidates`.
+-- The rest of the proof of `merges::candidates::candidates`.
 use Rattle.std.proofs.Common.{◌<◌, ℕ, All, List, length, map, sym, ap, subst, ◌∙◌}
 use Rattle.std.specs.List.{flat_map}
 use Rattle.std.proofs.lemmas.List.{length-map}

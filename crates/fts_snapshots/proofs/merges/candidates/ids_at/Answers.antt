@@ -1,4 +1,4 @@
--- What is left of the proof of `merges::plan::ids_at`.
+-- The rest of the proof of `merges::candidates::ids_at`.
 use Rattle.std.proofs.Common.{◌∷◌, [], ◌++◌, get_or, map, take, sym, ap, ◌∙◌}
 use Rattle.std.proofs.lemmas.List.{map-append, take_more}
 use Rattle.fts_snapshots.specs.Infos.{id_at}

@@ -1,4 +1,4 @@
--- What stays true in the loop of `merges::plan::segment_sizes`.
+-- The invariant of the loop of `merges::candidates::segment_sizes`.
 use Rattle.std.proofs.Common.{◌≡◌, map, take}
 use Rattle.fts_snapshots.specs.Infos.{size_of}
 use Rattle.fts_snapshots.proofs.merges.candidates.segment_sizes.Given as goal

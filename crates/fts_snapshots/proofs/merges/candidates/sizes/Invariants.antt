@@ -1,4 +1,4 @@
--- What stays true in the loop of `merges::plan::sizes`.
+-- The invariant of the loop of `merges::candidates::sizes`.
 use Rattle.std.proofs.Common.{◌≡◌, map, take}
 use Rattle.fts_snapshots.specs.Entries.{live_count}
 use Rattle.fts_snapshots.proofs.merges.candidates.sizes.Given as goal

@@ -1,4 +1,4 @@
--- What is left of the proof of `merges::end::end_entries`.
+-- The rest of the proof of `merges::end_entries::end_entries`.
 use Rattle.std.proofs.Common.{◌∙◌, ◌++◌, ◌∷◌, [], filter, Ok, List, inl, inr, ⊎_elim, sym, ap}
 use Rattle.fts_base.specs.Results.{ok_unless}
 use Rattle.fts_snapshots.specs.Entries.{EntryValue, has_live}

@@ -1,4 +1,4 @@
--- What stays true in the loop of `merges::end::first_gone`.
+-- The invariant of the loop of `merges::end_entries::first_gone`.
 use Rattle.std.proofs.Common.{◌≡◌, drop}
 use Rattle.fts_snapshots.specs.LateMerges.{first_gone}
 use Rattle.fts_snapshots.proofs.merges.end_entries.first_gone.Given as goal

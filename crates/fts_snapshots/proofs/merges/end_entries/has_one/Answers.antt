@@ -1,4 +1,4 @@
--- What is left of the proof of `merges::end::has_one`.
+-- The rest of the proof of `merges::end_entries::has_one`.
 use Rattle.std.proofs.Common.{◌≡◌, ◌∙◌, Some, true, false, nat_eq, slice_get, length, refl, sym, ap, Bool, arith}
 use Rattle.std.specs.HashSet.{contains}
 use Rattle.fts_model.specs.declared.operation.Stamped.{Stamped}

@@ -1,4 +1,4 @@
--- What stays true in the loop of `merges::end::has_one`.
+-- The invariant of the loop of `merges::end_entries::has_one`.
 use Rattle.std.proofs.Common.{◌≡◌, nat_eq}
 use Rattle.std.specs.HashSet.{contains}
 use Rattle.fts_snapshots.proofs.LateBitLemmas.{any_from}

@@ -1,4 +1,4 @@
--- What stays true in the loop of `merges::end::is_some_live`.
+-- The invariant of the loop of `merges::end_entries::is_some_live`.
 use Rattle.std.proofs.Common.{◌≡◌, nat_eq, drop}
 use Rattle.std.specs.HashSet.{contains}
 use Rattle.std.specs.List.{list_any, flat_map}

@@ -1,4 +1,4 @@
--- What is left of the proof of `merges::end::live_bits`.
+-- The rest of the proof of `merges::end_entries::live_bits`.
 use Rattle.std.proofs.Common.{◌≡◌, ◌<◌, ◌∙◌, None, Option, ℕ, true, false, get_or, replicate, length, refl, sym, ap, List, arith}
 use Rattle.fts_merge.specs.declared.origin.Origin.{Origin}
 use Rattle.fts_merge.specs.Merges.{MergedValue}

@@ -1,4 +1,4 @@
--- What stays true in the loop of `merges::end::live_bits`.
+-- The invariant of the loop of `merges::end_entries::live_bits`.
 use Rattle.std.proofs.Common.{◌≡◌}
 use Rattle.fts_snapshots.proofs.LateBitLemmas.{marked, bit_of}
 use Rattle.fts_snapshots.proofs.merges.end_entries.live_bits.Given as goal

@@ -1,4 +1,4 @@
--- What is left of the proof of `merges::end::others`.
+-- The rest of the proof of `merges::end_entries::others`.
 use Rattle.std.proofs.Common.{◌≡◌, ◌∙◌, ◌++◌, ◌∷◌, [], Bool, true, false, cond, not, take, ap, sym}
 use Rattle.std.proofs.lemmas.List.{append-nil, take_more}
 use Rattle.std.proofs.lemmas.List.Elements.{filter-append}

@@ -1,4 +1,4 @@
--- What stays true in the loop of `merges::end::others`.
+-- The invariant of the loop of `merges::end_entries::others`.
 use Rattle.std.proofs.Common.{◌≡◌, take}
 use Rattle.fts_snapshots.specs.Merges.{without}
 use Rattle.fts_snapshots.proofs.merges.end_entries.others.Given as goal

@@ -1,4 +1,4 @@
--- What stays true in the loop of `merges::end::set_of`.
+-- The invariant of the loop of `merges::end_entries::set_of`.
 use Rattle.std.proofs.Common.{nat_eq, take}
 use Rattle.std.specs.HashSet.{contains}
 use Rattle.fts_snapshots.specs.Lookups.{TellsOf}

@@ -1,4 +1,4 @@
--- What is left of the proof of `merges::end::stamps_left`.
+-- The rest of the proof of `merges::end_entries::stamps_left`.
 use Rattle.std.proofs.Common.{◌≡◌, ◌<◌, ◌∙◌, None, Option, ℕ, true, false, not, nat_eq, get_or, slice_get, length, refl, sym, ap, arith}
 use Rattle.std.specs.HashSet.{contains}
 use Rattle.std.proofs.lemmas.List.{length-map}

@@ -1,4 +1,4 @@
--- What stays true in the loop of `merges::end::stamps_left`.
+-- The invariant of the loop of `merges::end_entries::stamps_left`.
 use Rattle.std.proofs.Common.{◌≡◌, ℕ, nat_eq}
 use Rattle.std.specs.HashSet.{contains}
 use Rattle.fts_snapshots.specs.Merges.{is_among}

@@ -1,4 +1,4 @@
--- What is left of the proof of `merges::job::merged`.
+-- The rest of the proof of `merges::merge_job::merged`.
 use Rattle.std.proofs.Common.{◌≡◌, ◌≢◌, ◌<◌, ◌≤◌, ◌↔◌, ◌⊎◌, inl, inr, ⊎_elim, ◌∙◌, ℕ, true, cond, nat_lt, Some, None, Result, Ok, Err, map, sum_by, refl, sym}
 use Rattle.std.proofs.Common.{ap, subst, arith}
 use Rattle.std.proofs.lemmas.Bool.{cases_lt}

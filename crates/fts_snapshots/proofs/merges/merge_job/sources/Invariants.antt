@@ -1,4 +1,4 @@
--- What stays true in the loop of `merges::job::sources`.
+-- The invariant of the loop of `merges::merge_job::sources`.
 use Rattle.std.proofs.Common.{◌≡◌, map, take}
 use Rattle.fts_snapshots.specs.Sources.{source_of}
 use Rattle.fts_snapshots.proofs.merges.merge_job.sources.Given as goal

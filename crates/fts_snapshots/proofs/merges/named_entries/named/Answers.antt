@@ -1,4 +1,4 @@
--- What is left of the proof of `merges::sources::named`.
+-- The rest of the proof of `merges::named_entries::named`.
 use Rattle.std.proofs.Common.{true, false, sym, ◌∙◌, inr}
 use Rattle.fts_snapshots.proofs.MergeLemmas.{fault_unknown, fault_twice, fault_later}
 use Rattle.fts_snapshots.proofs.LookupLemmas.{there_none, there_one}

@@ -1,4 +1,4 @@
--- What is left of the proof of `merges::sources::named_entries`.
+-- The rest of the proof of `merges::named_entries::named_entries`.
 use Rattle.std.proofs.Common.{◌∙◌, ◌+◌, ◌++◌, ◌∷◌, [], get_or, take, drop, nat_eq, ap, sym, subst, add-one}
 use Rattle.std.proofs.Math.Seq.{drop-cons}
 use Rattle.std.proofs.lemmas.List.{append-nil, take_more}

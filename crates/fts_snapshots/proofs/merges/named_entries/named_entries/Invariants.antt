@@ -1,4 +1,4 @@
--- What stays true in the loop of `merges::sources::named_entries`.
+-- The invariant of the loop of `merges::named_entries::named_entries`.
 use Rattle.std.proofs.Common.{◌≡◌, [], take, drop, nat_eq}
 use Rattle.std.specs.HashSet.{contains}
 use Rattle.fts_snapshots.specs.Merges.{entries_at, fault_behind}

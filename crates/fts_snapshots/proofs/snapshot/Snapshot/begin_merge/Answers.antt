@@ -1,4 +1,4 @@
--- What is left of the proof of `snapshot::Snapshot::begin_merge`.
+-- The rest of the proof of `snapshot::Snapshot::begin_merge`.
 use Rattle.std.proofs.Common.{◌≡◌, Ok, List, sym, ap, subst, ◌∙◌}
 use Rattle.fts_base.specs.Results.{ok_unless}
 use Rattle.fts_snapshots.specs.Entries.{EntryValue}

@@ -1,4 +1,4 @@
--- What is left of the proof of `snapshot::Snapshot::commit_alone`.
+-- The rest of the proof of `snapshot::Snapshot::commit_alone`.
 use Rattle.std.proofs.Common.{map, filter, ap, ◌∙◌}
 use Rattle.fts_snapshots.specs.Entries.{has_live}
 use Rattle.fts_snapshots.specs.Jobs.{entry_of}

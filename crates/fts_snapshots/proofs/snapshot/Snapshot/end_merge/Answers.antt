@@ -1,4 +1,4 @@
--- What is left of the proof of `snapshot::Snapshot::end_merge`.
+-- The rest of the proof of `snapshot::Snapshot::end_merge`.
 use Rattle.std.proofs.Common.{◌≡◌, ◌+◌, ◌++◌, Ok, Err, List, inl, inr, ⊎_elim, refl, sym, ap, subst, ◌∙◌}
 use Rattle.fts_base.specs.Results.{ok_unless}
 use Rattle.fts_snapshots.specs.Entries.{EntryValue, content}

@@ -1,4 +1,4 @@
--- What is left of the proof of `snapshot::Snapshot::merge`.
+-- The rest of the proof of `snapshot::Snapshot::merge`.
 use Rattle.std.proofs.Common.{List, sum_by, sym, ap, subst, ◌∙◌}
 use Rattle.fts_base.specs.Results.{Gives}
 use Rattle.fts_snapshots.specs.Entries.{EntryValue, live_count}

@@ -1,4 +1,4 @@
--- What is left of the proof of `commits::prepared::PreparedCommit::finish`.
+-- The rest of the proof of `commits::prepared_commit::PreparedCommit::finish`.
 use Rattle.std.proofs.Common.{◌≡◌, ◌<◌, ◌+◌, ◌^◌, ◌++◌, length, List, ap, subst, sym, ◌∙◌, arith}
 use Rattle.fts_model.specs.Operations.{alive, adds}
 use Rattle.fts_snapshots.specs.Commits.{new_segments, spared_by}
@@ -29,7 +29,7 @@ of-requires c =
     c.in_ok-entries.ensures next in
     subst IsSnapshot (sym same) (left_is p c.self.invariant.1)
 
--- the snapshot that is finished
+-- the snapshot that the commit finishes
 made : (c : goal.After-of) → c.of.result ≡ left (prepared c.self.inside.cut c.self.inside.batch.now c.self.inside.snapshot.now)
 made c =
     let inside = c.self.inside in

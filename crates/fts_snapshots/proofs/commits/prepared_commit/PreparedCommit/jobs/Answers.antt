@@ -1,4 +1,4 @@
--- What is left of the proof of `commits::prepared::PreparedCommit::jobs`.
+-- The rest of the proof of `commits::prepared_commit::PreparedCommit::jobs`.
 use Rattle.std.proofs.Common.{All, List, subst, sym, ◌∙◌}
 use Rattle.fts_model.specs.declared.schema.Field.{Field}
 use Rattle.fts_segment.specs.Segments.{AllFit}

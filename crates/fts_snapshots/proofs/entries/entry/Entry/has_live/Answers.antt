@@ -1,4 +1,4 @@
--- What is left of the proof of `entries::entry::Entry::has_live`.
+-- The rest of the proof of `entries::entry::Entry::has_live`.
 use Rattle.std.proofs.Common.{ap, nat_lt, ◌∙◌}
 use Rattle.std.specs.List.{list_any}
 use Rattle.fts_snapshots.proofs.EntryLemmas.{some_counted}

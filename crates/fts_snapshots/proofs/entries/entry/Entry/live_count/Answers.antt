@@ -1,4 +1,4 @@
--- What is left of the proof of `entries::entry::Entry::live_count`.
+-- The rest of the proof of `entries::entry::Entry::live_count`.
 use Rattle.std.proofs.Common.{Bool, length, ap, arith}
 use Rattle.std.proofs.lemmas.List.Sums.{count_by-le-length}
 use Rattle.fts_snapshots.proofs.entries.entry.Entry.live_count.Goals as goal

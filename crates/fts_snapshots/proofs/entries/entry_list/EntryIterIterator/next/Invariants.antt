@@ -1,4 +1,4 @@
--- What stays true in the loop of `entries::entry_list::EntryIter::next`.
+-- The invariant of the loop of `entries::entry_list::EntryIter::next`.
 use Rattle.std.proofs.Common.{◌≡◌, length}
 use Rattle.fts_snapshots.specs.EntryLists.{entries_ahead}
 use Rattle.fts_snapshots.proofs.entries.entry_list.EntryIterIterator.next.Given as goal

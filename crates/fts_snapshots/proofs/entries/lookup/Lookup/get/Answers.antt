@@ -1,4 +1,4 @@
--- What is left of the proof of `entries::lookup::Lookup::get`.
+-- The rest of the proof of `entries::lookup::Lookup::get`.
 use Rattle.std.proofs.Common.{sym, subst, List, ◌∙◌}
 use Rattle.std.specs.Slice.{IsItemAt}
 use Rattle.fts_snapshots.specs.Entries.{EntryValue}

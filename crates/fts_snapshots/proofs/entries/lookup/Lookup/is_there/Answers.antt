@@ -1,4 +1,4 @@
--- What is left of the proof of `entries::lookup::Lookup::is_there`.
+-- The rest of the proof of `entries::lookup::Lookup::is_there`.
 use Rattle.std.proofs.Common.{◌∙◌, ap}
 use Rattle.std.specs.Option.{is_some}
 use Rattle.fts_snapshots.proofs.LookupLemmas.{there_by_place}

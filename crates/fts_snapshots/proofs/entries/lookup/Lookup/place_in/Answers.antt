@@ -1,4 +1,4 @@
--- What is left of the proof of `entries::lookup::Lookup::place_in`.
+-- The rest of the proof of `entries::lookup::Lookup::place_in`.
 use Rattle.std.proofs.Common.{◌∙◌, Ok, Err, ap, List}
 use Rattle.fts_snapshots.specs.Entries.{EntryValue}
 use Rattle.fts_snapshots.specs.Lookups.{place_in}
