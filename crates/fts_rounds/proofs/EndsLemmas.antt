@@ -1,4 +1,4 @@
--- Where no lane is missing there are as many ends as lanes.
+-- If no lane is missing, there are as many ends as lanes.
 use Rattle.std.proofs.Common.{◌≡◌, ℕ, ◌<◌, ◌≤◌, List, [], ◌∷◌, length, All, sym, ◌∙◌}
 use Rattle.std.proofs.lemmas.List.{length-map}
 use Rattle.std.proofs.lemmas.List.Elements.{All-head, All-tail}

@@ -1,4 +1,4 @@
--- What the loop of `merge` has done so far, and how an end goes in.
+-- The progress of the loop of `merge`, and the merge of one end.
 use Rattle.std.proofs.Common.{◌≡◌, ℕ, ◌+◌, List, [], ◌∷◌, ◌++◌, length, IsPermutation, refl, sym, ap, ◌∙◌, subst, arith, append_assoc, append-nil}
 use Rattle.std.proofs.lemmas.List.{map-append, nil_from_length}
 use Rattle.std.proofs.lemmas.List.Sorted.{IsPermutation-append, IsPermutation-append_comm, IsPermutation-refl, IsPermutation-trans}
@@ -17,7 +17,7 @@ abbrev pub AllRise : List Held → Type 0
 AllRise [] = Unit {0}
 AllRise (h ∷ hs) = Rises (stamps_of h.ops) × AllRise hs
 
--- of all the ends these are left. The others are merged, and the round's seat has their lanes and their stamps
+-- the ends that are left; the others are merged, and the round's seat has their lanes and their stamps
 pub record Merging (all left : List Held) (merged : List (Stamped Op)) (limits : RoundLimits) (me : Me (Unit {0}) Drawn) : Type 0 where
   pub gone : List Held
   pub whole : all ≡ left ++ gone
@@ -25,7 +25,7 @@ pub record Merging (all left : List Held) (merged : List (Stamped Op)) (limits :
   pub members : IsPermutation (submissions gone) merged
   pub seat : me ≡ (drawn limits (length gone) (stamps_of merged), [])
 
--- nothing is merged yet
+-- no end is merged yet
 pub starts : (all : List Held) (merged : List (Stamped Op)) (limits : RoundLimits) (me : Me (Unit {0}) Drawn) → merged ≡ [] → me ≡ (drawn limits 0 [], []) →
     Merging all all merged limits me
 starts all merged limits me none seat = record {
@@ -36,7 +36,7 @@ starts all merged limits me none seat = record {
   seat = seat ∙ ap (λ l. (drawn limits 0 (stamps_of l), [])) (sym none);
 }
 
--- the last end goes in: its operations behind the others, its lane and stamps to the round's seat
+-- the last end is merged: its operations are appended, and its lane and stamps are joined to the round's seat
 pub goes_in : (all old left : List Held) (end : Held) (merged new : List (Stamped Op)) (limits : RoundLimits) (me me' mine : Me (Unit {0}) Drawn)
     → Merging all old merged limits me → old ≡ left ++ end ∷ [] → Rises (stamps_of end.ops) → new ≡ merged ++ end.ops
     → mine ≡ (drawn limits 1 (stamps_of end.ops), []) → me' ≡ (joined me.0 mine.0, me.1) → Merging all left new limits me'
@@ -71,7 +71,7 @@ module _ (all left : List Held) (merged : List (Stamped Op)) (limits : RoundLimi
   pub done_seat : me ≡ (drawn limits (length all) (stamps_of merged), [])
   done_seat = m.seat ∙ ap (λ (l : List Held). (drawn limits (length l) (stamps_of merged), [])) all_gone
 
--- the seat of a round of one lane, when its end went in
+-- the seat of a round of one lane, after its end was merged
 pub alone_seat : (end : Held) (ops : List (Stamped Op)) (limits : RoundLimits) (me me' mine : Me (Unit {0}) Drawn)
     → me ≡ (drawn limits 0 [], []) → ops ≡ end.ops → Rises (stamps_of ops) → mine ≡ (drawn limits 1 (stamps_of ops), [])
     → me' ≡ (joined me.0 mine.0, me.1) → me' ≡ (drawn limits (length (end ∷ [])) (stamps_of ops), [])
@@ -82,7 +82,7 @@ alone_seat end ops limits me me' mine fresh is rises of_lane both =
     (of_lane ∙ ap (λ l. (drawn limits 1 l, [])) list) both)
     refl
 
--- what the load tells the seat of all lanes
+-- the load shows that a seat of all lanes has all stamps
 pub told : (limits : RoundLimits) (n : ℕ) (stamps : List ℕ) (me : Me (Unit {0}) Drawn) → me ≡ (drawn limits n stamps, []) → n ≡ limits.lanes
     → (me.0.lanes ≡ me.0.limits.lanes → AreAll me.0.limits me.0.stamps) → AreAll limits stamps
 told limits n stamps me is whole f = subst (λ (v : Me (Unit {0}) Drawn). v.0.lanes ≡ v.0.limits.lanes → AreAll v.0.limits v.0.stamps) is f whole

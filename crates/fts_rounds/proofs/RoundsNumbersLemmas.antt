@@ -1,4 +1,4 @@
--- Lists of numbers, how often each is there, and lists of numbers that rise.
+-- Lists of numbers, how often each occurs, and lists of numbers that rise.
 use Rattle.std.proofs.Common.{◌≡◌, ℕ, ◌+◌, ◌<◌, ◌≤◌, List, [], ◌∷◌, ◌++◌, length, All, refl, ap, ◌∙◌, length-append, arith}
 use Rattle.std.proofs.lemmas.List.Elements.{All-nil, All-cons}
 use Rattle.fts_model.specs.declared.operation.Op.{Op}
@@ -24,7 +24,7 @@ pub Rises-push : (n : ℕ) (xs : List ℕ) → AllBelow n xs → Rises xs → Ri
 Rises-push n [] b r = (tt, tt)
 Rises-push n (x ∷ xs) b r = (AllAbove-push x n xs b.0 r.0, Rises-push n xs b.1 r.1)
 
--- a list with nothing before it
+-- an empty list followed by a rising one rises
 pub Rises-after_none : (xs ys : List ℕ) → length xs ≤ 0 → Rises ys → Rises (xs ++ ys)
 Rises-after_none [] ys none r = r
 Rises-after_none (x ∷ xs) ys none r = absurd (omega arith)
@@ -37,7 +37,7 @@ pub All-from_below : (n : ℕ) (xs : List (Stamped Op)) → AllBelow n (stamps_o
 All-from_below n [] b = All-nil (λ s. s.stamp < n)
 All-from_below n (x ∷ xs) b = All-cons (λ s. s.stamp < n) x xs b.0 (All-from_below n xs b.1)
 
--- one operation more has its stamp after the others', whatever it is
+-- one more operation has its stamp after the others', whatever it is
 pub stamps_of-pushed : (ops mid ops' : List (Stamped Op)) (op : Stamped Op) → mid ≡ ops → ops' ≡ mid ++ op ∷ [] →
     (stamps_of ops' ≡ stamps_of ops ++ op.stamp ∷ []) × (length ops' ≡ length ops + 1)
 stamps_of-pushed ops mid ops' op kept pushed =

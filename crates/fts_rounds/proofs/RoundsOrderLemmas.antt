@@ -1,4 +1,4 @@
--- Lists of numbers in order, which are told by how often each number is there.
+-- Ordered lists of numbers are determined by how often each number occurs.
 use Rattle.std.proofs.Common.{◌≡◌, ℕ, zero, suc, ◌+◌, ◌<◌, ◌≤◌, ◌≢◌, Bool, if◌then◌else◌, nat_lt, ◌==◌, List, [], ◌∷◌, length, sum_by, IsPermutation, sym, refl}
 use Rattle.std.proofs.Common.{ap, ◌∙◌, arith, eq-eqb, ne_eqb}
 use Rattle.std.proofs.lemmas.Bool.Decides.{nat_tests}
@@ -39,7 +39,7 @@ pub times_low : (k a n : ℕ) → k < a → times k (range_with_len a n) ≡ 0
 times_low k a zero lt = refl
 times_low k a (suc n) lt = let ne : k ≢ a = (λ e. omega arith) in let o = one_other k a ne in let r = times_low k (a + 1) n (omega arith) in omega arith
 
--- a list that doesn't fall and has each number as often as a run of numbers is that run
+-- an ordered list that has each number as often as a range is that range
 pub run_from_times : (a n : ℕ) (xs : List ℕ) → Climbs xs → ((k : ℕ) → times k xs ≡ times k (range_with_len a n)) → xs ≡ range_with_len a n
 run_from_times a zero [] climbs same = refl
 run_from_times a zero (x ∷ xs) climbs same = absurd (let s = same x in let o = one_same x in omega arith)
@@ -75,7 +75,7 @@ times-permutation k xs ys moved = times_sum k ys ∙ (sum_by-IsPermutation (one 
 abbrev low : ℕ → ℕ → ℕ
 low n x = if nat_lt x n then 1 else 0
 
--- how many are below n
+-- the number of members below n
 abbrev count_below : ℕ → List ℕ → ℕ
 count_below n [] = 0
 count_below n (x ∷ xs) = low n x + count_below n xs
@@ -108,6 +108,6 @@ count_each xs (suc n) each =
     let h = each n (omega arith) in
     ap (λ (k : ℕ). count_below k xs) (let e : suc n ≡ n + 1 = omega arith in e) ∙ (count_more n xs ∙ omega arith)
 
--- where each number below n stands just once, and no other, there are n
+-- if each number below n occurs exactly once, and no other, there are n
 pub length_each_once : (n : ℕ) (xs : List ℕ) → AllBelow n xs → ((k : ℕ) → times k xs ≤ 1) → ((k : ℕ) → k < n → 0 < times k xs) → length xs ≡ n
 length_each_once n xs below most some = sym (count_all n xs below) ∙ count_each xs n (λ k lt. let a = most k in let b = some k lt in omega arith)

@@ -1,4 +1,4 @@
--- Each step on a round's table keeps its rule.
+-- Each step on a round's table maintains its rule.
 use Rattle.std.proofs.Common.{◌≡◌, ℕ, zero, suc, ◌+◌, ◌*◌, ◌%◌, ◌^◌, ◌<◌, List, [], ◌∷◌, ◌++◌, length, get_or, set, sym, refl, ap, ◌∙◌, subst, ⊎_elim, arith}
 use Rattle.std.proofs.Common.{length-set, get_or-set_same, length-append}
 use mathlib.Core.Option.{none, some, some-injective, some-ne-none}
@@ -31,7 +31,7 @@ fits_later : (t : RoundLimits) (n : ℕ) (v : Drawn) → Fits t n v → Fits t (
 fits_later t n v fit = record { limits = fit.limits; most = fit.most; below = AllBelow-more n (n + 1) v.stamps (omega arith) fit.below; rises = fit.rises }
 
 module _ (t : RoundLimits) (s : State (Unit {0}) Drawn) (r : Kept t s) where
-  -- the next stamp is not far from the first
+  -- the next stamp is below 2 ^ 62
   near : get_or s.words 0 0 < 2 ^ 62
   near = let most = count_le t (get_or s.words 0 0) s.views r.fit in let is = r.next in let small = r.small in
       let lanes : lane_count s.views * t.cap ≡ t.lanes * t.cap = ap (λ (k : ℕ). k * t.cap) r.lanes in omega arith
@@ -93,13 +93,13 @@ module _ (t : RoundLimits) (s : State (Unit {0}) Drawn) (r : Kept t s) where
   empty_from : (u : Drawn) → Fits t (get_or s.words 0 0) u → u.lanes ≡ 0 → length u.stamps ≡ 0
   empty_from u f e = let most = f.most in let none : u.lanes * t.cap ≡ 0 * t.cap = ap (λ (k : ℕ). k * t.cap) e in omega arith
 
-  -- a seat that stands for all lanes has as many stamps as there are
+  -- a seat of all lanes has as many stamps as were drawn
   count_alone : (id : ℕ) (v : Drawn) → get_elem? s.views id ≡ some v → v.limits ≡ t → v.lanes ≡ v.limits.lanes → stamp_count s.views ≡ length v.stamps
   count_alone id v at is all =
       total-alone (Fits t (get_or s.words 0 0)) (λ u. u.lanes) (λ u. length u.stamps) (λ u f e. empty_from u f e) spent blank refl s.views id v r.fit at
       (r.lanes ∙ (sym (ap (λ (u : RoundLimits). u.lanes) is) ∙ sym all))
 
-  -- and it has each of them
+  -- a seat of all lanes has each stamp
   has_all : (id : ℕ) (v : Drawn) → get_elem? s.views id ≡ some v → 0 < v.lanes → v.lanes ≡ v.limits.lanes → (x : ℕ) →
       times x v.stamps ≡ times x (range_with_len v.limits.first (length v.stamps))
   has_all id v at some_lane all x =
@@ -111,7 +111,7 @@ module _ (t : RoundLimits) (s : State (Unit {0}) Drawn) (r : Kept t s) where
       sym sum ∙ (r.each_once x ∙ (ap (λ (k : ℕ). times x (range_with_len t.first k)) (count_alone id v at is all)
       ∙ ap (λ (u : RoundLimits). times x (range_with_len u.first (length v.stamps))) (sym is)))
 
--- the step of `submit`
+-- the step of `submit` maintains the rule
 pub draws : (t : RoundLimits) (slots id : ℕ) (me : Me (Unit {0}) Drawn) → me.0.lanes ≡ 1 → length me.0.stamps < me.0.limits.cap
     → Allows (Kept t) slots id me 0 (λ n. (n + 1) % 2 ^ 64) (Draws (step slots 0 1 0 none) me)
 draws t slots id me one room s r _ at _ =
@@ -129,7 +129,7 @@ draws t slots id me one room s r _ at _ =
       (refl, omega arith, fit.below, near', λ all. (let count = count_alone t s r id me.0 at mine all in omega arith)),
     )
 
--- the load of `gather`
+-- the load of `gather` maintains the rule
 pub looks : (t : RoundLimits) (slots id : ℕ) (me : Me (Unit {0}) Drawn) → 0 < me.0.lanes →
     Allows (Kept t) slots id me 0 (λ n. n) (Looks (step slots 0 0 0 none) me)
 looks t slots id me some_lane s r _ at _ =
@@ -151,7 +151,7 @@ looks t slots id me some_lane s r _ at _ =
       ),
     )
 
--- a seat with no stamp gives a lane to a new seat
+-- a seat without a stamp splits off a lane
 pub deals : (t : RoundLimits) (id : ℕ) (v : Drawn) → 0 < v.lanes → v.stamps ≡ [] → Splits (Kept t) id v (one_less v) (one_lane v)
 deals t id v some_lane empty s r at =
     let n : ℕ = get_or s.words 0 0 in
@@ -185,7 +185,7 @@ deals t id v some_lane empty s r at =
           (at_snoc (set s.views id l) one u j here));
     }
 
--- a seat takes in another
+-- a seat joins another
 pub collects : (t : RoundLimits) (id : ℕ) (v : Drawn) (other : ℕ) (w : Drawn) → 0 < w.lanes → Joins (Kept t) id v other w (joined v w) spent
 collects t id v other w some_lane s r at apart at' =
     let n : ℕ = get_or s.words 0 0 in
@@ -229,7 +229,7 @@ collects t id v other w some_lane s r at apart at' =
           (at_set (set s.views id both) other j spent u here));
     }
 
--- the table at the start
+-- the table satisfies its rule at the start
 pub opens : (t : RoundLimits) → t.first + t.lanes * t.cap < 2 ^ 62 → Kept t (opening (t.first ∷ []) [] (begun t))
 opens t small = record {
   one_word = refl;

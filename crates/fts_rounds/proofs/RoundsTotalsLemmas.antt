@@ -1,4 +1,4 @@
--- How many stamps the views of all seats have at most.
+-- The greatest number of stamps that the views of all seats have.
 use Rattle.std.proofs.Common.{ℕ, suc, ◌*◌, ◌≤◌, List, [], ◌∷◌, refl, arith}
 use Rattle.std.proofs.Math.Nat.{add-mul}
 use Rattle.fts_base.proofs.TotalsLemmas.{Each}
@@ -6,7 +6,7 @@ use Rattle.fts_rounds.specs.declared.stamps.RoundLimits.{RoundLimits}
 use Rattle.fts_rounds.specs.declared.stamps.Drawn.{Drawn}
 use Rattle.fts_rounds.specs.RoundsDrawn.{lane_count, stamp_count, Fits}
 
--- together they have at most cap stamps a lane
+-- the views have at most `cap` stamps per lane together
 pub count_le : (t : RoundLimits) (next : ℕ) (views : List Drawn) → Each (Fits t next) views → stamp_count views ≤ lane_count views * t.cap
 count_le t next [] fit = omega arith
 count_le t next (x ∷ xs) fit =

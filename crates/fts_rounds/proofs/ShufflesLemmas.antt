@@ -1,4 +1,4 @@
--- A list in the order of its stamps that has all submissions is a shuffle of the lanes.
+-- A list sorted by stamps that has all submitted operations is a shuffle of the lanes.
 use Rattle.std.proofs.Common.{◌≡◌, ℕ, zero, suc, ◌<◌, ◌≤◌, ◌⊎◌, inl, inr, ⊎_elim, Bool, true, false, ◌||◌, cond, ◌==◌, eq-eqb, eqb-true, List, [], ◌∷◌, filter}
 use Rattle.std.proofs.Common.{length, get_or, All, Contains, IsPermutation, sym, refl, ap, ◌∙◌, subst, arith}
 use Rattle.std.specs.List.{list_any}
@@ -42,7 +42,7 @@ above_member : (n : ℕ) (xs : Listed) (z : Stamped Op) → AllAbove n (stamps_o
 above_member n [] z a h = absurd (nowhere z h)
 above_member n (x ∷ xs) z a h = ⊎_elim (λ e. subst (λ (u : Stamped Op). n < u.stamp) e a.0) (λ t. above_member n xs z a.1 t) (cases x xs z h)
 
--- of a rising list a stamp tells the member
+-- a stamp determines the member of a rising list
 one_stamp : (xs : Listed) → Rises (stamps_of xs) → (y z : Stamped Op) → Contains xs y → Contains xs z → y.stamp ≡ z.stamp → y ≡ z
 one_stamp [] r y z hy hz e = absurd (nowhere y hy)
 one_stamp (x ∷ xs) r y z hy hz e = ⊎_elim
@@ -56,7 +56,7 @@ one_stamp (x ∷ xs) r y z hy hz e = ⊎_elim
     (cases x xs z hz))
     (cases x xs y hy)
 
--- two rising lists with the same members are one list
+-- two rising lists with the same members are equal
 same_list : (xs ys : Listed) → Rises (stamps_of xs) → Rises (stamps_of ys) → ((z : Stamped Op) → Contains xs z → Contains ys z) →
     ((z : Stamped Op) → Contains ys z → Contains xs z) → xs ≡ ys
 same_list [] [] r s f g = refl
@@ -161,7 +161,7 @@ climbs (x ∷ xs) up = (
       (λ i j d le lt. up (suc i) (suc j) d (omega arith) (omega arith)),
 )
 
--- a list whose stamps climb, with the submissions of the lanes, where each stamp was drawn once
+-- a list sorted by stamps with the operations of the lanes, if each stamp was drawn once
 shuffled_climbing : (first : ℕ) (lanes : List Held) (merged batch : Listed) → AllRise lanes → IsPermutation (submissions lanes) merged
     → ((x : ℕ) → times x (stamps_of merged) ≡ times x (range_with_len first (length (stamps_of merged))))
     → IsPermutation merged batch → Climbs (stamps_of batch) → IsShuffle first batch lanes
@@ -180,7 +180,7 @@ shuffled_climbing first lanes merged batch rise members drawn moved up =
       in_order = all_parts batch rises lanes rise (λ z m. Contains-permutation (submissions lanes) batch z each m);
     }
 
--- what `merge` has after it sorted
+-- the result of `merge` after it sorted
 pub shuffled : (first : ℕ) (lanes : List Held) (merged batch : Listed) → AllRise lanes → IsPermutation (submissions lanes) merged
     → ((x : ℕ) → times x (stamps_of merged) ≡ times x (range_with_len first (length (stamps_of merged))))
     → IsPermutation merged batch → IsNonDecreasingBy (λ (s : Stamped Op). s.stamp) batch → IsShuffle first batch lanes
@@ -194,7 +194,7 @@ climbs_rising : (xs : List ℕ) → Rises xs → Climbs xs
 climbs_rising [] r = tt
 climbs_rising (x ∷ xs) r = (from_above x xs r.0, climbs_rising xs r.1)
 
--- what a round of one lane has: the lane's operations as they are
+-- the batch of a round of one lane: the lane's operations, unchanged
 pub alone_shuffled : (first : ℕ) (h : Held) (batch : Listed) → batch ≡ h.ops → Rises (stamps_of batch)
     → ((x : ℕ) → times x (stamps_of batch) ≡ times x (range_with_len first (length (stamps_of batch)))) → IsShuffle first batch (h ∷ [])
 alone_shuffled first h batch is rises drawn =

@@ -1,4 +1,4 @@
--- What contracts see of a round, its lanes and its batch.
+-- The view that contracts have of a round, its lanes and its batch.
 use Rattle.std.specs.Prelude.{◌≡◌, ℕ, ◌<◌, List, [], ◌∷◌, map}
 use Rattle.atomic_table.specs.Seated.{TableId}
 use Rattle.fts_model.specs.declared.operation.Op.{Op}
@@ -10,24 +10,24 @@ pub record Opened : Type 0 where
   pub table : TableId
   pub limits : RoundLimits
 
--- a lane or its end: its round's table and limits, which lane of the round it is, and what was submitted to it
+-- a lane or its end: its round's table and limits, its number in the round, and its operations
 pub record Held : Type 0 where
   pub table : TableId
   pub limits : RoundLimits
   pub lane : ℕ
   pub ops : List (Stamped Op)
 
--- a batch: its round's number and first stamp, and every operation that was submitted, in the order of the stamps
+-- a batch: its round's number and first stamp, and all operations of the round, in the order of the stamps
 pub record Gathered : Type 0 where
   pub round : ℕ
   pub first : ℕ
   pub ops : List (Stamped Op)
 
--- a lane of a round, before anything was submitted to it
+-- a lane of a round, before any operation was submitted to it
 abbrev pub fresh : Opened → ℕ → Held
 fresh r lane = record { table = r.table; limits = r.limits; lane = lane; ops = [] }
 
--- a lane or its end is the same one, whatever was submitted to it
+-- two are the same lane or its end, with any operations
 abbrev pub SameLane : Held → Held → Type 0
 SameLane old new = (new.table ≡ old.table) × (new.limits ≡ old.limits) × (new.lane ≡ old.lane)
 
@@ -35,7 +35,7 @@ SameLane old new = (new.table ≡ old.table) × (new.limits ≡ old.limits) × (
 abbrev pub IsLaneOf : Opened → Held → Type 0
 IsLaneOf r h = (h.table ≡ r.table) × (h.limits ≡ r.limits) × (h.lane < r.limits.lanes)
 
--- the lanes of ends
+-- the numbers of the lanes with these ends
 abbrev pub lanes_of : List Held → List ℕ
 lanes_of ends = map (λ h. h.lane) ends
 

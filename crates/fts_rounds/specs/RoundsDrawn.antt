@@ -1,4 +1,4 @@
--- The rule of a round's table, and what one step on it tells.
+-- The rule of a round's table, and the outcome of one step on it.
 use Rattle.std.specs.Prelude.{◌≡◌, ℕ, ◌+◌, ◌-◌, ◌*◌, ◌^◌, ◌<◌, ◌≤◌, List, [], ◌∷◌, ◌++◌, length, slice_index}
 use Rattle.std.specs.List.{range_with_len}
 use mathlib.Core.Option.{some}
@@ -12,7 +12,7 @@ use Rattle.fts_rounds.specs.Rounds.{AllBelow, Rises}
 abbrev pub drawn : RoundLimits → ℕ → List ℕ → Drawn
 drawn t lanes stamps = record { limits = t; lanes = lanes; stamps = stamps }
 
--- the first seat stands for all lanes
+-- at the start the first seat represents all lanes
 abbrev pub begun : RoundLimits → Drawn
 begun t = drawn t t.lanes []
 
@@ -28,15 +28,15 @@ joined v w = drawn w.limits (v.lanes + w.lanes) (v.stamps ++ w.stamps)
 abbrev pub spent : Drawn
 spent = drawn record { round = 0; first = 0; lanes = 0; cap = 0 } 0 []
 
--- for how many lanes the views stand together
+-- the number of lanes that the views represent together
 abbrev pub lane_count : List Drawn → ℕ
 lane_count views = total (λ v. v.lanes) views
 
--- how many stamps the views have together
+-- the number of stamps that the views have together
 abbrev pub stamp_count : List Drawn → ℕ
 stamp_count views = total (λ v. length v.stamps) views
 
--- a view has at most cap stamps per lane, all below the next one, and they rise while it stands for one lane
+-- a view has at most `cap` stamps per lane, all below the next one, and they rise while it represents one lane
 pub record Fits (t : RoundLimits) (next : ℕ) (v : Drawn) : Type 0 where
   pub limits : 0 < v.lanes → v.limits ≡ t
   pub most : length v.stamps ≤ v.lanes * t.cap
@@ -56,19 +56,18 @@ pub record Kept (t : RoundLimits) (s : State (Unit {0}) Drawn) : Type 0 where
 abbrev Sat : Type 0
 Sat = Me (Unit {0}) Drawn
 
--- the stamp that was found is this seat's now, above its earlier ones. A seat that stands for all lanes draws one after
--- the other
+-- the stamp that is drawn is now this seat's, above its earlier ones; a seat of all lanes draws consecutive ones
 abbrev pub Draws : Step (Unit {0}) → Sat → ℕ → Sat → Type 0
 Draws step v found w =
     (w ≡ (drawn v.0.limits v.0.lanes (v.0.stamps ++ found ∷ []), v.1))
     × (v.0.limits.first ≤ found) × AllBelow found v.0.stamps × (found < 2 ^ 62)
     × (v.0.lanes ≡ v.0.limits.lanes → found ≡ v.0.limits.first + length v.0.stamps)
 
--- these stamps are the first ones of the round, each once
+-- stamps are the first ones of the round, each once
 pub record AreAll (t : RoundLimits) (stamps : List ℕ) : Type 0 where
   pub small : t.first + length stamps < 2 ^ 62
   pub each_once : (x : ℕ) → times x stamps ≡ times x (range_with_len t.first (length stamps))
 
--- nothing changed. A seat that stands for all lanes has all stamps
+-- nothing changed, and a seat of all lanes has all stamps
 abbrev pub Looks : Step (Unit {0}) → Sat → ℕ → Sat → Type 0
 Looks step v found w = (w ≡ v) × (v.0.lanes ≡ v.0.limits.lanes → AreAll v.0.limits v.0.stamps)

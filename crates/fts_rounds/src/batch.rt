@@ -1,4 +1,4 @@
-// What a round gathered.
+// The batch of operations that a round gathers.
 ghost use Rattle.std.specs.Prelude.{◌≡◌, ◌+◌, ◌^◌, ◌<◌, length};
 ghost use Rattle.std.specs.List.{range_with_len};
 ghost use Rattle.fts_model.specs.Operations.{stamps_of};
@@ -7,8 +7,8 @@ use fts_base::release;
 use fts_model::{Op, Stamp, Stamped};
 use std::marker::Model;
 
-/// Every operation that was submitted to a round, in the order of the stamps. Contracts see it as
-/// the round's number, the first stamp and the list.
+/// All operations that were submitted to a round, in the order of their stamps. Contracts see the round's number, the
+/// first stamp and the list.
 #[derive(Drop)]
 pub struct Batch {
     pub(crate) round: u64,
@@ -31,7 +31,7 @@ impl Model for Batch {
 }
 
 impl Batch {
-    /// Lets the operations go.
+    /// Frees the operations.
     pub fn release(self) {
         let Batch { ops, .. } = self;
         release(ops);
@@ -51,7 +51,7 @@ impl Batch {
         self.first
     }
 
-    /// The operations with their stamps, which are the first one, the next, and so on.
+    /// The operations with their stamps, which are consecutive from the first.
     pub fn ops(&self) -> &[Stamped<Op>]
         ensures ops { result.now ≡ self.now.ops }
         ensures numbered { stamps_of result.now ≡ range_with_len self.now.first (length result.now) }
@@ -59,7 +59,7 @@ impl Batch {
         &self.ops
     }
 
-    /// The stamp that comes after those of the operations.
+    /// The stamp after those of the operations.
     pub fn end(&self) -> Stamp
         ensures end { result ≡ self.now.first + length self.now.ops }
         ensures small { result < 2 ^ 62 }

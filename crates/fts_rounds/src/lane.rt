@@ -1,4 +1,4 @@
-// A lane of a round: it draws a stamp for each operation and keeps them to itself.
+// A lane of a round: it draws a stamp for each operation and stores the operations.
 ghost use Rattle.std.specs.Prelude.{◌≡◌, ◌+◌, ℕ, ◌<◌, ◌≤◌, ◌↔◌, ◌⊎◌, [], ◌∷◌, ◌++◌, length, All, IfOk, IfErr, IsErrAnd};
 
 use crate::stamps::{Draw, Drawn, RoundLimits, Stamps};
@@ -11,8 +11,8 @@ use std::sync::Arc;
 /// The table that a round and its lanes share.
 pub(crate) type StampTable = Table<(), Drawn, RoundLimits, Stamps, Global>;
 
-/// A lane of a round. It may be moved to a thread of its own, and waits for nobody. Contracts see
-/// it as its round, the round's limits, its place among the round's lanes and what was submitted.
+/// A lane of a round. It may be moved to a thread of its own, and waits for nobody. Contracts see its round, the
+/// round's limits, its number among the round's lanes, and the operations that were submitted.
 #[derive(Drop)]
 pub struct Lane {
     pub(crate) table: Arc<StampTable>,
@@ -57,10 +57,10 @@ impl Model for LaneEnd {
 impl Lane {
     ghost use Rattle.fts_rounds.specs.Rounds.{SameLane};
 
-    /// Draws the next stamp of the round for the operation, and keeps it.
+    /// Draws the next stamp of the round for the operation, and stores it.
     ///
-    /// It is refused as `LaneFull` where the lane holds as many operations as it takes, or for
-    /// memory. A refusal draws no stamp and hands the operation back.
+    /// It is refused as `LaneFull` if the lane has as many operations as it can take, or for memory. A refusal draws no
+    /// stamp and hands the operation back.
     pub fn submit(&mut self, op: Op) -> Result<Stamp, (Op, Refusal)>
         ensures same { SameLane self.old self.new }
         ensures ok { IfOk result (λ stamp.
@@ -85,7 +85,7 @@ impl Lane {
         Ok(stamp)
     }
 
-    /// Ends the lane, and keeps what was submitted.
+    /// Ends the lane. Its operations stay in its end.
     pub fn end(self) -> LaneEnd
         ensures { result ≡ self }
     {
@@ -94,14 +94,14 @@ impl Lane {
 }
 
 impl LaneEnd {
-    /// Which lane of its round it is, from 0.
+    /// The number of the lane in its round, from 0.
     pub fn lane(&self) -> usize
         ensures { result ≡ self.now.lane }
     {
         self.ended.lane
     }
 
-    /// How many operations were submitted.
+    /// The number of submitted operations.
     pub(crate) fn len(&self) -> usize
         ensures len { result ≡ length self.now.ops }
         ensures most { result ≤ self.now.limits.cap }

@@ -1,9 +1,9 @@
-//! Operations that several threads submit at once, and the one order in which they count.
+//! Operations that several threads submit at once, and the one order in which they take effect.
 //!
-//! A *round* takes operations. [`open_round`] deals out its lanes: each [`Lane`] draws the next stamp by one atomic
-//! step and keeps its operations to itself, so lanes never wait for each other. Ended lanes are gathered by their
-//! [`Round`] into one [`Batch`], in the order of the stamps: that is the order in which the operations count, whatever
-//! the threads did. What a commit makes of a batch is in `fts_snapshots`.
+//! A *round* takes operations. [`open_round`] creates its lanes: each [`Lane`] draws the next stamp by one atomic step
+//! and stores its own operations, so lanes never wait for each other. The [`Round`] gathers the ended lanes into one
+//! [`Batch`], in the order of the stamps: the operations take effect in this order, whatever the threads did.
+//! `fts_snapshots` commits a batch.
 //!
 //! ```text
 //! let (round, mut lanes) = open_round(alloc, number, first, 2, 1000)?;

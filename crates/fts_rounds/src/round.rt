@@ -1,4 +1,4 @@
-// A round: it deals its lanes out, and gathers their ends into one batch.
+// A round: it creates its lanes, and gathers their ends into one batch.
 ghost use Rattle.std.specs.Prelude.{◌≡◌, ℕ, ◌+◌, ◌*◌, ◌^◌, ◌<◌, ◌≤◌, ◌↔◌, ◌⊎◌, [], ◌∷◌, map, length};
 ghost use Rattle.std.specs.Prelude.{vec_len, All, IsTrue, IfOk, IfErr, IsErrAnd, IsOkUnless, MatchOption, MatchResult};
 ghost use Rattle.std.specs.List.{range_with_len};
@@ -17,8 +17,7 @@ use std::alloc::Global;
 use std::marker::Model;
 use std::sync::Arc;
 
-/// A round whose lanes are dealt out. Contracts see it as its table, which no other round has, and
-/// its limits.
+/// A round whose lanes were created. Contracts see its table, which no other round has, and its limits.
 #[derive(Drop)]
 pub struct Round {
     table: Arc<StampTable>,
@@ -43,8 +42,8 @@ impl Model for Round {
         × (r.limits.lanes * r.limits.cap < 2 ^ 62) };
 }
 
-/// Opens the round of this number, whose first stamp is `first`, with this many lanes, each of which
-/// takes up to `cap` operations.
+/// Opens the round of this number, whose first stamp is `first`, with this many lanes, each of which takes up to `cap`
+/// operations.
 pub fn open_round(
     alloc: Global,
     number: u64,
@@ -114,7 +113,7 @@ fn least_missing(ends: &[LaneEnd], lanes: usize) -> Option<usize>
     None
 }
 
-/// The end that is there alone, or the ends again.
+/// The only end, or the ends if there are several.
 fn only(ends: Vec<LaneEnd>) -> Result<LaneEnd, Vec<LaneEnd>>
     ensures { MatchResult result (λ end. ends.items ≡ end ∷ []) (λ others. others ≡ ends) }
 {
@@ -127,7 +126,7 @@ fn only(ends: Vec<LaneEnd>) -> Result<LaneEnd, Vec<LaneEnd>>
     Err(ends)
 }
 
-/// How many operations were submitted to all of them.
+/// The number of operations that were submitted to all lanes.
 fn submitted(ends: &[LaneEnd], limits: &RoundLimits) -> usize
     requires few { length ends.now * limits.now.cap < 2 ^ 62 }
     requires limits { All (λ e. e.limits ≡ limits.now) ends.now }
@@ -141,11 +140,10 @@ fn submitted(ends: &[LaneEnd], limits: &RoundLimits) -> usize
 }
 
 impl Round {
-    /// Gathers what was submitted to all lanes, from the ends of this round's lanes in any order,
-    /// each once at most.
+    /// Gathers the operations of all lanes, from the ends of this round's lanes in any order, each at most once.
     ///
-    /// It is refused as `LaneMissing` with the least lane whose end isn't there, or for memory; the
-    /// round and the ends are handed back.
+    /// It is refused as `LaneMissing` with the least lane that has no end here, or for memory; the round and the ends
+    /// are handed back.
     pub fn gather(
         self,
         alloc: Global,
@@ -172,7 +170,7 @@ impl Round {
         }
     }
 
-    /// Gathers the ends of all lanes. The one refusal is `Memory`.
+    /// Gathers the ends of all lanes. The only refusal is `Memory`.
     fn gather_all(
         self,
         alloc: Global,
@@ -224,8 +222,8 @@ impl Round {
         }
     }
 
-    /// Merges the ends of all lanes, by a sort in place: the one growth comes after, so that
-    /// nothing can be refused after the first end was taken apart.
+    /// Merges the ends of all lanes, by a sort in place. It allocates only afterwards, so nothing can be refused once
+    /// the first end was taken apart.
     fn merge(self, mut ends: Vec<LaneEnd>, mut ops: Vec<Stamped<Op>>) -> Batch
         requires lanes { All (IsLaneOf self) ends.items }
         requires all { vec_len ends ≡ self.limits.lanes }

@@ -1,31 +1,31 @@
-// The rule of a round's table, whose one word is the next stamp, and what each step on it tells.
+// The rule of a round's table, whose single word is the next stamp, and the outcome of each step on it.
 
 use atomic_table::{Join, Play, Split, TableRule};
 use fts_model::Stamp;
 use std::collections::LinkedList;
 
-/// What a round was opened with.
+/// The limits that a round was opened with.
 #[derive(Clone, Copy, Debug, PartialEq, Eq)]
 pub struct RoundLimits {
     /// The number of the round.
     pub round: u64,
     /// The stamp that is drawn first.
     pub first: Stamp,
-    /// How many lanes there are.
+    /// The number of lanes.
     pub lanes: usize,
-    /// How many operations a lane takes.
+    /// The greatest number of operations of a lane.
     pub cap: usize,
 }
 
-/// What a seat knows: the round's limits, for how many lanes it is, and the stamps that these
-/// drew. No value of it is ever made.
+/// The knowledge of a seat of the table: the round's limits, the number of lanes that it represents, and the stamps
+/// that these drew. No value of it is ever made.
 pub struct Drawn {
     pub limits: RoundLimits,
     pub lanes: usize,
     pub stamps: LinkedList<u64>,
 }
 
-/// The stamps of all seats are those from the first to the last one drawn, each once.
+/// The rule: the stamps of all seats are those from the first to the last one drawn, each once.
 pub struct Stamps;
 
 impl TableRule<(), Drawn, RoundLimits> for Stamps {
@@ -36,7 +36,7 @@ impl TableRule<(), Drawn, RoundLimits> for Stamps {
     ghost first = { begun };
 }
 
-/// The next stamp goes to this seat.
+/// The step that draws the next stamp for a seat.
 pub struct Draw;
 
 impl Play<(), Drawn> for Draw {
@@ -45,7 +45,7 @@ impl Play<(), Drawn> for Draw {
     ghost then = { Draws };
 }
 
-/// A seat that stands for all lanes has all stamps.
+/// The step that shows that a seat of all lanes has all stamps.
 pub struct Look;
 
 impl Play<(), Drawn> for Look {
@@ -54,7 +54,7 @@ impl Play<(), Drawn> for Look {
     ghost then = { Looks };
 }
 
-/// A seat that drew nothing gives one of its lanes away.
+/// The step that splits one lane off a seat that drew nothing.
 pub struct Deal;
 
 impl Split<Drawn> for Deal {
@@ -65,7 +65,7 @@ impl Split<Drawn> for Deal {
     ghost right = { one_lane };
 }
 
-/// A seat takes in the lanes and the stamps of another.
+/// The step that joins the lanes and the stamps of another seat to a seat.
 pub struct Collect;
 
 impl Join<Drawn> for Collect {

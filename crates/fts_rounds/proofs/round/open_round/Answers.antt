@@ -1,4 +1,4 @@
--- Each lane that is dealt keeps the rule, and is the next fresh one.
+-- Each lane that is split off maintains the rule, and is the next new one.
 use Rattle.std.proofs.Common.{rules, ◌≡◌, ℕ, ◌+◌, ◌-◌, List, [], ◌∷◌, ◌++◌, map, ap, sym, ◌∙◌, arith}
 use Rattle.std.proofs.lemmas.List.FromFn.{map-range_with_len_more}
 use Rattle.fts_rounds.specs.RoundsDrawn.{drawn}
@@ -11,7 +11,7 @@ use Rattle.fts_rounds.specs.Rounds.{Held, fresh}
 use Rattle.fts_rounds.proofs.RoundsStepsLemmas.{deals}
 use Rattle.fts_rounds.proofs.round.open_round.Goals as goal
 
--- one lane more, at the end of those that are made
+-- one more lane, after those that were made
 made_more : (table table' mine : TableId) (limits : RoundLimits) (lane : ℕ) (ops : List (Stamped Op)) (made : List Held) →
     made ≡ map (fresh record { table = table; limits = limits }) (range_with_len 0 lane)
     → table' ≡ table → mine ≡ table → ops ≡ []

@@ -1,4 +1,4 @@
--- The first seat has yet to give away the lanes that are not made.
+-- The first seat still represents the lanes that are not made yet.
 use Rattle.std.proofs.Common.{◌≡◌, ◌+◌, ◌≤◌, map, ◌-◌, []}
 use Rattle.std.specs.Arc.{arc_value}
 use Rattle.std.specs.Vec.{vec_len, vec_capacity}

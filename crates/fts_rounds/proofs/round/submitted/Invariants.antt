@@ -1,4 +1,4 @@
--- The count so far, which is at most cap for each end.
+-- The count so far, which is at most `cap` for each end.
 use Rattle.std.proofs.Common.{◌≡◌, ◌≤◌, ◌*◌, length, take}
 use Rattle.fts_rounds.specs.Shuffles.{submissions}
 use Rattle.fts_rounds.proofs.round.submitted.Given as goal

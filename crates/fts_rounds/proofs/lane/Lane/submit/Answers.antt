@@ -1,4 +1,4 @@
--- The step keeps the rule, and the lane's list goes on rising.
+-- The step maintains the rule, and the lane's list still rises.
 use Rattle.std.proofs.Common.{rules, ◌≡◌, ℕ, [], ◌∷◌, ◌++◌, length, ap, sym, subst, ◌∙◌, arith}
 use Rattle.std.proofs.lemmas.List.{length-map}
 use Rattle.fts_rounds.specs.RoundsDrawn.{drawn}

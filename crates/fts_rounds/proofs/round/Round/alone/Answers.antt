@@ -1,4 +1,4 @@
--- The one end goes in by the rule; the load shows that no stamp is missing.
+-- The only end is merged by the rule; the load shows that no stamp is missing.
 use Rattle.std.proofs.Common.{rules, ◌≡◌, ◌+◌, ◌<◌, [], ◌∷◌, length, sym, ap, subst, ◌∙◌, arith}
 use Rattle.std.proofs.lemmas.List.{length-map}
 use Rattle.std.specs.List.{range_with_len}

@@ -1,4 +1,4 @@
--- Where no lane is missing there are as many ends as lanes.
+-- If no lane is missing, there are as many ends as lanes.
 use Rattle.std.proofs.Common.{◌≡◌, ℕ, ◌<◌, List, [], ◌∷◌, length, All, ap, sym, subst, arith}
 use Rattle.std.proofs.lemmas.List.Elements.{All-head}
 use Rattle.fts_base.specs.Totals.{times}

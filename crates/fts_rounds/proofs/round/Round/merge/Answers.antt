@@ -1,4 +1,4 @@
--- Each end goes in by the rule; once all are in, the load shows that no stamp is missing.
+-- Each end is merged by the rule; once all are merged, the load shows that no stamp is missing.
 use Rattle.std.proofs.Common.{rules, ◌≡◌, ◌+◌, List, [], ◌∷◌, ◌++◌, length, vec_len, ap, sym, subst, ◌∙◌, arith, length-append, append-nil}
 use Rattle.std.specs.Prelude.{Some}
 use Rattle.std.proofs.lemmas.List.Elements.{All-pop}

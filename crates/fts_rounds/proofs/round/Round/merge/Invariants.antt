@@ -1,4 +1,4 @@
--- What is merged so far, and that there is room for the rest.
+-- The operations that are merged so far, and that there is capacity for the rest.
 use Rattle.std.proofs.Common.{◌≡◌, ◌+◌, ◌<◌, ◌≤◌, length, vec_len, All}
 use Rattle.std.specs.Vec.{vec_capacity}
 use Rattle.std.specs.Arc.{arc_value}
