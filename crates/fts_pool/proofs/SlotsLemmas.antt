@@ -15,7 +15,7 @@ either_some : (a b : ℕ) → 0 < a + b → (0 < a) ⊎ (0 < b)
 either_some zero b h = inr (omega arith)
 either_some (suc a) b h = inl (omega arith)
 
--- the slot that was put to is filled, and those that were stay so
+-- a slot that was written is filled, and the filled ones stay filled
 pub filled_here : {O : Type 0} (slots : List (Option O)) (n : ℕ) (out : O) → n < length slots → IsFilled (set slots n (Some out)) n
 filled_here slots n out lt = ap is_some (get_or-set_same slots n (Some out) None lt)
 
@@ -25,7 +25,7 @@ filled_still slots n j out lt is = ⊎_elim
     (λ ne. ap is_some (get_or-set_other slots n j (Some out) None ne) ∙ is)
     (cases_eq j n)
 
--- and so is each that was filled or is the one
+-- a slot is filled if it was or if it is the one that was written
 pub filled_more : {O : Type 0} (slots : List (Option O)) (n j : ℕ) (out : O) → n < length slots → (j ≢ n → IsFilled slots j) →
     IsFilled (set slots n (Some out)) j
 filled_more slots n j out lt else' = ⊎_elim
@@ -33,7 +33,7 @@ filled_more slots n j out lt else' = ⊎_elim
     (λ ne. filled_still slots n j out lt (else' ne))
     (cases_eq j n)
 
--- one result more comes after those so far
+-- one more result is appended
 pub one_out : {O : Type 0} (outs : List O) (out : O) (rest : List (Option O)) → map (λ o. Some o) outs ++ Some out ∷ rest ≡ map (λ o. Some o) (outs ++ out ∷ [])
     ++ rest
 one_out [] out rest = refl
@@ -60,7 +60,7 @@ module _ {J O : Type 0} (gives : J → O → Type 0) where
   slots_put (j ∷ js) (s ∷ ss) zero out lt is are = (is j, are.1)
   slots_put (j ∷ js) (s ∷ ss) (suc n) out lt is are = (are.0, slots_put js ss n out (omega arith) (λ d. is d) are.1)
 
-  -- where all slots are filled, their results are those of the jobs
+  -- if all slots are filled, their results are those of the jobs
   pub outs_of : (jobs : List J) (outs : List O) → AreSlots gives jobs (map (λ o. Some o) outs) → AllZip gives jobs outs
   outs_of [] [] are = tt
   outs_of [] (o ∷ os) are = absurd are
@@ -75,7 +75,7 @@ module _ {J O : Type 0} (gives : J → O → Type 0) where
     filled = (λ n some_time. ready.filled n (subst (λ (l : List ℕ). 0 < times n l) taken some_time));
   }
 
-  -- one job more was taken, and its slot filled
+  -- one more job was taken, and its slot filled
   pub ready_put : (jobs : List J) (slots : List (Option O)) (n : ℕ) (out : O) (v w : Known) → IsReady gives jobs slots v → n < v.pushed → IsOf gives jobs n out
       → w ≡ known v.shares v.pushed (v.taken ++ n ∷ []) → IsReady gives jobs (set slots n (Some out)) w
   ready_put jobs slots n out v w ready low mine is =
@@ -91,7 +91,7 @@ module _ {J O : Type 0} (gives : J → O → Type 0) where
             omega arith)));
       }
 
-  -- the jobs that another thread took have their slots filled too
+  -- the slots of the jobs that another thread took are filled too
   pub ready_joined : (jobs : List J) (slots slots' : List (Option O)) (done : List (Done O)) (v w : Known) → IsReady gives jobs slots v →
       AreSlots gives jobs slots'
       → ((n : ℕ) → IsFilled slots n → IsFilled slots' n) → ((n : ℕ) → 0 < times n (numbers_of done) → IsFilled slots' n)
@@ -105,7 +105,7 @@ module _ {J O : Type 0} (gives : J → O → Type 0) where
         ⊎_elim (λ a. kept n (ready.filled n a)) (λ b. filled n b) (either_some (times n v.taken) (times n (numbers_of done)) (omega arith)));
   }
 
--- of the results that are left, the first one goes into its slot
+-- the first of the results that are left is moved to its slot
 pub placed : {O : Type 0} (slots : List (Option O)) (n number : ℕ) (out : O) (all : ℕ) (rest : List ℕ) → number < length slots
     → (0 < all → IsFilled slots n ⊎ (0 < times n (number ∷ rest))) → 0 < all → IsFilled (set slots number (Some out)) n ⊎ (0 < times n rest)
 placed slots n number out all rest lt before some_time = ⊎_elim

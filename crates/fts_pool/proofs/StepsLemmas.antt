@@ -1,4 +1,4 @@
--- Each step on the deque keeps its rule.
+-- Each step on the deque maintains its rule.
 use Rattle.std.proofs.Common.{◌≡◌, ℕ, zero, suc, ◌+◌, ◌<◌, [], ◌∷◌, ◌++◌, set, sym, refl, ap, subst, ◌∙◌, ⊎_elim, arith}
 use Rattle.std.proofs.lemmas.List.Elements.{All-nil, All-cons}
 use mathlib.Core.Option.{some, some-injective, some-ne-none}
@@ -11,7 +11,7 @@ use Rattle.fts_pool.specs.Internals.Deque.{known, one_less, one_share, joined, s
 use Rattle.fts_base.proofs.TotalsLemmas.{times-append, times_here, total-set, total-push, total-alone, each_set, each_push}
 use Rattle.fts_pool.proofs.ViewsLemmas.{once_none, once_more, below_once, no_share, with_share, with_none, took_none}
 
--- at the start nothing is pushed
+-- no job is pushed at the start
 pub begins : Holds [] (known 64 0 [] ∷ [])
 begins = (0, record { shares = refl; each_once = (λ x. sym (once_none x)); fit = alone })
   where
@@ -19,7 +19,7 @@ begins = (0, record { shares = refl; each_once = (λ x. sym (once_none x)); fit 
     alone zero v at = subst (Fits 0) (some-injective (known 64 0 []) v at) (with_share 0 (known 64 0 []) (omega arith) refl)
     alone (suc port) v at = absurd (some-ne-none v (sym at))
 
--- who has all shares pushes the next job
+-- a thread with all shares pushes the next job
 pub pushes : (port : ℕ) (v : Known) (x : ℕ) → v.shares ≡ 64 → x ≡ v.pushed → Pushes Holds port v (x ∷ []) (Pushed v (x ∷ []))
 pushes port v x all is items views h at =
     let n : ℕ = h.0 in
@@ -50,7 +50,7 @@ pushes port v x all is items views h at =
       refl,
     )
 
--- who has a share takes the first job
+-- a thread with a share takes the first job
 pub takes : (port : ℕ) (v : Known) → 0 < v.shares → Takes Holds port v 1 (Took v)
 takes port v share [] items views some_job _ h at = absurd (omega arith)
 takes port v share (x ∷ y ∷ ys) items views _ one h at = absurd (omega arith)
@@ -76,7 +76,7 @@ takes port v share (x ∷ []) items views _ _ h at =
       (refl, All-cons (λ (z : ℕ). z < v.pushed) x [] (omega arith) (All-nil (λ (z : ℕ). z < v.pushed))),
     )
 
--- who has all shares and finds nothing took each job once
+-- a thread with all shares that finds no job took each once
 pub finds : (port : ℕ) (v : Known) → Finds Holds port v (TookAll v)
 finds port v views h at all x =
     let k = h.1 in
@@ -87,7 +87,7 @@ finds port v views h at all x =
     let same : once_below x v.pushed ≡ once_below x h.0 = ap (once_below x) told in
     omega arith
 
--- the calling thread lends a share
+-- the calling thread gives a share away
 pub forks : (port : ℕ) (v : Known) → 1 < v.shares → Forks Holds port v (one_less v) (one_share v)
 forks port v share items views h at =
     let n : ℕ = h.0 in
@@ -109,7 +109,7 @@ forks port v share items views h at =
       },
     )
 
--- and takes it back, with what was taken for it
+-- the calling thread takes a share back, with the jobs that were taken under it
 pub merges : (port : ℕ) (v : Known) (other : ℕ) (w : Known) → 0 < v.shares → Merges Holds port v other w (joined v w) spent
 merges port v other w share items views h at apart at' =
     let n : ℕ = h.0 in

@@ -1,4 +1,4 @@
--- The numbers below another one, and the shares that the views of all passes have.
+-- The numbers below a bound, and the shares that the views of all passes have.
 use Rattle.std.proofs.Common.{◌≡◌, ◌≢◌, ℕ, ◌+◌, ◌<◌, List, [], ◌∷◌, set, ap, ◌∙◌, arith}
 use Rattle.std.proofs.lemmas.Bool.Decides.{nat_tests}
 use mathlib.Core.Option.{some}
@@ -22,7 +22,7 @@ below_once x n h = grind (arith, nat_tests)
 pub once_here : (x n : ℕ) → x < n → 0 < once_below x n
 once_here x n h = grind (arith, nat_tests)
 
--- where one view has all shares, another has none
+-- if one view has all shares, another has none
 pub no_share : (views : List Known) (port : ℕ) (v : Known) → get_elem? views port ≡ some v → total (λ u. u.shares) views ≡ v.shares
     → (other : ℕ) (u : Known) → other ≢ port → get_elem? views other ≡ some u → u.shares ≡ 0
 no_share views port v at all other u apart here =
@@ -36,6 +36,6 @@ with_share n v some_share is = record { told = (λ _. is); idle = (λ none. absu
 pub with_none : (n : ℕ) (v : Known) → v.shares ≡ 0 → v.taken ≡ [] → Fits n v
 with_none n v none idle = record { told = (λ some_share. absurd (omega arith)); idle = (λ _. idle) }
 
--- who has no share took no job
+-- a thread without a share took no job
 pub took_none : (n x : ℕ) (v : Known) → Fits n v → v.shares ≡ 0 → times x v.taken ≡ 0
 took_none n x v fits none = ap (times x) (fits.idle none)

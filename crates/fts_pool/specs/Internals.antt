@@ -1,3 +1,3 @@
--- What only private functions are told by: no reader of a public contract meets these.
+-- Definitions of private functions; public contracts name none of them.
 pub mod Deque
 pub mod Slots

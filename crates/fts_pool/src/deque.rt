@@ -1,19 +1,19 @@
-// The rule of the deque in which the numbers of jobs lie, and what each step on it tells.
+// The rule of the deque of job numbers, and the outcome of each step on it.
 
 use crossbeam_deque::protocol::{Join, Outcome, Protocol, Split};
 use crossbeam_deque::{Pass, Stealer, Worker};
 use std::alloc::Global;
 use std::collections::LinkedList;
 
-/// What a thread knows of the deque: for how many of the 64 shares it is, how many jobs were
-/// pushed, and which of them it took. No value of it is ever made.
+/// The knowledge of a thread about the deque: its number of the 64 shares, the number of jobs that were pushed, and the
+/// jobs that it took. No value of it is ever made.
 pub struct Known {
     pub shares: u64,
     pub pushed: usize,
     pub taken: LinkedList<usize>,
 }
 
-/// Each job that was pushed is in the deque or was taken by one thread, once.
+/// The rule: each job that was pushed is in the deque or was taken by one thread, once.
 pub struct EachOnce;
 
 impl Protocol<usize, Known> for EachOnce {
@@ -27,7 +27,7 @@ impl Protocol<usize, Known> for EachOnce {
     ghost guest = { known 0 0 [] };
 }
 
-/// The next job is pushed, by the thread that has all shares.
+/// The step that pushes the next job, by the thread that has all shares.
 pub struct Push;
 
 impl Outcome<usize, Known> for Push {
@@ -36,7 +36,7 @@ impl Outcome<usize, Known> for Push {
     ghost then = { Pushed };
 }
 
-/// The calling thread takes a job; if it finds none and has all shares, every job was taken.
+/// The step by which the calling thread takes a job; if it finds none and has all shares, every job was taken.
 pub struct Pop;
 
 impl Outcome<usize, Known> for Pop {
@@ -47,7 +47,7 @@ impl Outcome<usize, Known> for Pop {
     ghost empty = { TookAll };
 }
 
-/// Another thread takes a job.
+/// The step by which another thread takes a job.
 pub struct Theft;
 
 impl Outcome<usize, Known> for Theft {
@@ -56,7 +56,7 @@ impl Outcome<usize, Known> for Theft {
     ghost then = { Took };
 }
 
-/// The calling thread lends a share, and takes it back with what was taken for it.
+/// The steps by which the calling thread gives a share away, and takes it back with the jobs that were taken under it.
 pub struct Share;
 
 impl Split<Known> for Share {
@@ -81,5 +81,5 @@ pub(crate) type JobWorker = Worker<usize, Global, Known, EachOnce>;
 /// The deque's end at which other threads steal.
 pub(crate) type JobStealer = Stealer<usize, Global, Known, EachOnce>;
 
-/// With what a thread steals.
+/// The pass with which a thread steals.
 pub(crate) type JobPass = Pass<usize, Known>;

@@ -1,15 +1,15 @@
-// What is called around each job.
+// Calls around each job.
 
-/// What a worker calls around each job that it runs, on its own thread.
+/// A worker calls the gate around each job that it runs, on its own thread.
 pub trait Gate: Sync {
     /// Called just before the job of this number runs.
     fn before(&self, job: usize);
 
-    /// Called just after the job of this number ran.
+    /// Called just after the job of this number was run.
     fn after(&self, job: usize);
 }
 
-/// The gate that does nothing.
+/// A gate that does nothing.
 #[derive(Clone, Copy, Debug, PartialEq, Eq)]
 pub struct Open;
 

@@ -1,4 +1,4 @@
-// What is run, and what its result has to do with it.
+// Jobs, each with a relation to its possible results.
 
 /// A job that any thread may run. It is shared by the workers, and its result is sent to the caller.
 pub trait Job: Sync {
@@ -7,7 +7,7 @@ pub trait Job: Sync {
     /// Whether this may be the result of the job.
     ghost gives: { Self → Self.Out → Type 0 };
 
-    /// Runs the job. Nothing but its result is told of a run.
+    /// Runs the job. A contract says nothing of a run except its result.
     fn run(&self) -> Self::Out
         ensures { gives self.now result };
 }

@@ -1,4 +1,4 @@
-// `run_all`: the jobs of a list are run, and their results are in the order of the jobs.
+// `run_all` runs the jobs of a list and returns their results in the order of the jobs.
 ghost use Rattle.std.specs.Prelude.{◌≡◌, ℕ, ◌<◌, ◌≤◌, IfOk, IsOkUnless};
 ghost use Rattle.std.specs.List.{AllZip};
 ghost use Rattle.fts_pool.specs.Internals.Slots.{AreSlots, IsFilled};
@@ -13,13 +13,12 @@ use std::alloc::{AllocError, Global};
 use std::sync::Wait;
 use std::thread::Threads;
 
-// For how many numbers the deque has room before it first grows.
+// The initial capacity of the deque.
 const FIRST_ROOM: usize = 64;
 
-/// Gives the jobs out to this many threads beside the calling one, by a deque, and answers how many of
-/// them it gave: the first ones, whose slots are filled. With no other thread it gives none. Once
-/// all threads are joined the calling thread has all shares, so that an empty deque shows that every
-/// job was taken.
+/// Runs jobs on this many threads beside the calling one, through a deque, and returns the number of jobs that were
+/// run: the first ones, whose slots are filled. With no other thread it runs none. Once all threads are joined the
+/// calling thread has all shares, so an empty deque shows that every job was taken.
 fn give_out<R: Threads + Wait + Sync, J: Job, G: Gate>(
     rt: &R,
     alloc: Global,
@@ -46,10 +45,10 @@ fn give_out<R: Threads + Wait + Sync, J: Job, G: Gate>(
     Ok((pushed, slots))
 }
 
-/// Runs each job by up to this many threads, the calling one among them, and gives one result per job,
-/// in the order of the jobs.
+/// Runs each job on up to `workers` threads, the calling one among them, and returns one result per job, in the order
+/// of the jobs.
 ///
-/// It is refused for memory alone, and then before any job ran.
+/// It is refused only for memory, and then before any job ran.
 pub fn run_all<R: Threads + Wait + Sync, J: Job, G: Gate>(
     rt: &R,
     alloc: Global,

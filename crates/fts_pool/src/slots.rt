@@ -1,4 +1,4 @@
-// The slots of the results, one per job, filled in whatever order the jobs end.
+// The slots of the results, one per job, filled in the order in which jobs end.
 ghost use Rattle.std.specs.Prelude.{◌≡◌, ℕ, ◌<◌, ◌≤◌, [], length, map, slice_set, vec_len, IfOk, replicate, Some, None};
 ghost use Rattle.std.specs.Vec.{vec_capacity};
 ghost use Rattle.fts_base.specs.Totals.{times};
@@ -8,7 +8,7 @@ use crate::gate::Gate;
 use crate::job::Job;
 use std::alloc::{AllocError, Global};
 
-/// The result of the job of this number.
+/// The result of a job, with the job's number.
 #[derive(Drop)]
 pub struct Done<T> {
     pub number: usize,
@@ -26,7 +26,7 @@ pub(crate) fn run_one<J: Job, G: Gate>(jobs: &[J], number: usize, gate: &G) -> J
     out
 }
 
-/// This many slots, all empty.
+/// Slots that are all empty, this many.
 pub(crate) fn empty_slots<T: Drop>(
     alloc: Global,
     count: usize,
@@ -48,7 +48,7 @@ pub(crate) fn put<T: Drop>(slots: &mut Vec<Option<T>>, number: usize, out: T)
     slots[number] = Some(out);
 }
 
-/// Runs the jobs from this number on, in order.
+/// Runs the jobs from this number, in order.
 pub(crate) fn run_from<J: Job, G: Gate>(
     slots: &mut Vec<Option<J::Out>>,
     from: usize,
@@ -65,7 +65,7 @@ pub(crate) fn run_from<J: Job, G: Gate>(
     }
 }
 
-/// Puts the results of another thread into their slots.
+/// Moves the results of another thread into their slots.
 pub(crate) fn put_all<J: Job>(slots: &mut Vec<Option<J::Out>>, done: Vec<Done<J::Out>>, jobs: &[J])
     requires slots { AreSlots J.gives jobs.now slots.old.items }
     requires done { AreOf J.gives jobs.now done.items }
@@ -80,7 +80,7 @@ pub(crate) fn put_all<J: Job>(slots: &mut Vec<Option<J::Out>>, done: Vec<Done<J:
     }
 }
 
-/// The results out of their slots.
+/// Takes the results out of their slots.
 pub(crate) fn into_results<T: Drop>(slots: Vec<Option<T>>, mut outs: Vec<T>) -> Vec<T>
     requires filled { (n : ℕ) → n < vec_len slots → IsFilled slots.items n }
     requires empty { outs.items ≡ [] }

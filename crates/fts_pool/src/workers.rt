@@ -14,8 +14,7 @@ use std::alloc::Global;
 use std::sync::Wait;
 use std::thread::{Threads, join, yield_now};
 
-/// Pushes the numbers of this many jobs in order, until one is refused, and answers how many it
-/// pushed.
+/// Pushes the numbers of this many jobs in order, until one is refused, and returns the number of pushed jobs.
 pub(crate) fn push_all(worker: &mut JobWorker, count: usize) -> usize
     requires { worker_view worker.old ≡ known 64 0 [] }
     ensures deque { worker_deque worker.new ≡ worker_deque worker.old }
@@ -31,7 +30,7 @@ pub(crate) fn push_all(worker: &mut JobWorker, count: usize) -> usize
     count
 }
 
-/// Runs jobs that it steals, one after the other, until there is none, or no room for a result.
+/// Steals jobs and runs them, one after the other, until there is none left or a result can't be stored.
 fn steal_all<R: Wait, J: Job, G: Gate>(
     rt: &R,
     alloc: Global,
@@ -63,7 +62,7 @@ fn steal_all<R: Wait, J: Job, G: Gate>(
     (pass, done)
 }
 
-/// Runs jobs that it pops, one after the other, until there is none.
+/// Pops jobs and runs them, one after the other, until there is none left.
 pub(crate) fn pop_all<R: Wait, J: Job, G: Gate>(
     rt: &R,
     worker: &mut JobWorker,
@@ -89,9 +88,9 @@ pub(crate) fn pop_all<R: Wait, J: Job, G: Gate>(
     }
 }
 
-/// Runs jobs in the calling thread, beside this many threads that steal. Each of them has a share,
-/// which comes back with what the thread did. A call starts one thread and leaves the others to the
-/// next; a thread that can't be started is run by `join` at the end, and finds nothing.
+/// Runs jobs in the calling thread, beside this many threads that steal. Each of them has a share, which comes back
+/// with the jobs that the thread took. A call starts one thread and leaves the others to the next call; a thread that
+/// can't be started is run by `join` at the end, and finds no job.
 #[cycle(work)]
 pub(crate) fn share_out<R: Threads + Wait + Sync, J: Job, G: Gate>(
     rt: &R,

@@ -1,4 +1,4 @@
--- The rule of the deque in which the numbers of jobs lie, and what one step on it tells.
+-- The rule of the deque of job numbers, and the outcome of one step on it.
 use Rattle.std.specs.Prelude.{◌≡◌, ℕ, ◌+◌, ◌-◌, ◌<◌, List, [], ◌++◌, nat_lt, if◌then◌else◌, All}
 use mathlib.Core.Option.{some}
 use lib.ListN.{get_elem?}
@@ -20,11 +20,11 @@ joined v w = known (v.shares + w.shares) v.pushed (v.taken ++ w.taken)
 abbrev pub spent : Known
 spent = known 0 0 []
 
--- 1 for each number below n, and else 0
+-- 1 for each number below n, and otherwise 0
 abbrev pub once_below : ℕ → ℕ → ℕ
 once_below x n = if nat_lt x n then 1 else 0
 
--- who has a share knows how many jobs were pushed, and who has none took nothing
+-- a thread with a share knows the number of jobs that were pushed, and one without a share took none
 pub record Fits (pushed : ℕ) (v : Known) : Type 0 where
   pub told : 0 < v.shares → v.pushed ≡ pushed
   pub idle : v.shares ≡ 0 → v.taken ≡ []
@@ -38,14 +38,14 @@ pub record Kept (pushed : ℕ) (items : List ℕ) (views : List Known) : Type 0 
 abbrev pub Holds : List ℕ → List Known → Type 0
 Holds items views = (pushed : ℕ) × Kept pushed items views
 
--- one job more was pushed
+-- one more job was pushed
 abbrev pub Pushed : Known → List ℕ → Known → Type 0
 Pushed v xs w = w ≡ known v.shares (v.pushed + 1) v.taken
 
--- these jobs are the thread's now, and were pushed
+-- these jobs are now the thread's, and were pushed
 abbrev pub Took : Known → List ℕ → Known → Type 0
 Took v xs w = (w ≡ known v.shares v.pushed (v.taken ++ xs)) × All (λ x. x < v.pushed) xs
 
--- who has all shares took each job once
+-- a thread with all shares took each job once
 abbrev pub TookAll : Known → Type 0
 TookAll v = v.shares ≡ 64 → (x : ℕ) → times x v.taken ≡ once_below x v.pushed

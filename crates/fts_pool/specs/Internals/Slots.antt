@@ -1,4 +1,4 @@
--- The slots in which results wait for their jobs' turn.
+-- The slots that store results in the order of the jobs.
 use Rattle.std.specs.Prelude.{◌≡◌, ℕ, ◌<◌, ◌≤◌, List, [], length, map, All}
 use Rattle.std.specs.Prelude.{Option, None, IsSome, IfSome, slice_index_or}
 use Rattle.std.specs.List.{AllZip, HoldsAt}
@@ -13,23 +13,24 @@ numbers_of done = map (λ d. d.number) done
 abbrev pub IsFilled : {O : Type 0} → List (Option O) → ℕ → Type 0
 IsFilled slots n = IsSome (slice_index_or slots n None)
 
--- a thread that took nothing yet, with a share of at most this many jobs
+-- a thread that took no job yet, with a share of at most this many jobs
 abbrev pub IsFresh : ℕ → Known → Type 0
 IsFresh count v = (v.shares ≡ 1) × (v.taken ≡ []) × (v.pushed ≤ count)
 
 module _ {J O : Type 0} (gives : J → O → Type 0) where
-  -- it may be the result of the job of this number
+  -- a value may be the result of the job of this number
   abbrev pub IsOf : List J → ℕ → O → Type 0
   IsOf jobs number out = HoldsAt (λ job. gives job out) jobs number
 
   abbrev pub AreOf : List J → List (Done O) → Type 0
   AreOf jobs done = All (λ d. (d.number < length jobs) × IsOf jobs d.number d.out) done
 
-  -- there is a slot per job, and what is in it is a result of the job
+  -- there is one slot per job, and its value is a result of the job
   abbrev pub AreSlots : List J → List (Option O) → Type 0
   AreSlots jobs slots = AllZip (λ job slot. IfSome slot (gives job)) jobs slots
 
-  -- and the slots of the jobs that this thread took are filled
+  -- there is one slot per job, its value is a result of the job, and the slots of the jobs that a thread took are
+  -- filled
   pub record IsReady (jobs : List J) (slots : List (Option O)) (v : Known) : Type 0 where
     pub room : v.pushed ≤ length jobs
     pub right : AreSlots jobs slots

@@ -1,4 +1,4 @@
--- The slots are the results so far, and the slots that are left, which are filled.
+-- The slots are the results so far, followed by the slots that are left, which are filled.
 use Rattle.std.proofs.Common.{◌≡◌, ◌<◌, ◌≤◌, ◌+◌, ◌++◌, ℕ, map, vec_len}
 use Rattle.std.specs.Prelude.{Some}
 use Rattle.std.specs.Vec.{vec_capacity}

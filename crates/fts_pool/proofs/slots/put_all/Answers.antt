@@ -1,4 +1,4 @@
--- One result more is in its slot.
+-- One more result is in its slot.
 use Rattle.std.proofs.Common.{ℕ, ◌<◌, ◌⊎◌, length, sym, subst, arith}
 use Rattle.std.proofs.lemmas.List.Elements.{All-head, All-same, All-rest}
 use Rattle.std.specs.Vec.Iter.{into_iter_items}

@@ -1,4 +1,4 @@
--- The calling thread has shares enough, and takes back what each thread did.
+-- The calling thread has enough shares, and takes back what each thread did.
 use Rattle.std.proofs.Common.{◌++◌, ap, ◌∙◌, arith}
 use Rattle.crossbeam_deque.specs.Handles.{worker_view}
 use Rattle.fts_pool.proofs.StepsLemmas.{forks, merges}

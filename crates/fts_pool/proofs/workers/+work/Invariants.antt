@@ -1,4 +1,4 @@
--- One thread fewer each time.
+-- Each call starts one thread fewer.
 use Rattle.std.proofs.Common.{◌+◌, ◌*◌}
 use Rattle.fts_pool.proofs.workers.+work.Given as goal
 

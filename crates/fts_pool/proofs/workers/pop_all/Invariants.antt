@@ -1,4 +1,4 @@
--- What was popped so far is in its slots.
+-- The jobs that were popped so far have their slots filled.
 use Rattle.std.proofs.Common.{◌≡◌}
 use Rattle.crossbeam_deque.specs.Handles.{worker_deque, worker_flavor, worker_view}
 use Rattle.fts_pool.specs.Internals.Slots.{IsReady}

@@ -1,4 +1,4 @@
--- What was stolen so far was run.
+-- The jobs that were stolen so far were run.
 use Rattle.std.proofs.Common.{◌≡◌}
 use Rattle.crossbeam_deque.specs.Handles.{view, IsPassOf, stealer_deque}
 use Rattle.fts_pool.specs.Internals.Deque.{known}
