@@ -1,4 +1,4 @@
-//! What every crate builds on: refusals, and values visible only to contracts.
+//! The base of every crate: refusals, and values visible only to contracts.
 //!
 //! [`Refusal`] is the one enum of all refusals of the index. `specs/` also relates a call's result to what a definition
 //! says: `Gives` is that result, or `Memory` if the allocator refuses a growth. Crates that need no document depend on

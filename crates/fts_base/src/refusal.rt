@@ -106,7 +106,7 @@ impl Refusal {
         self.row().0
     }
 
-    /// The name of the cause, without what it carries.
+    /// The name of the cause, without its value.
     pub fn name(&self) -> &'static str
         ensures { result.now ≡ name_of self.now }
     {

@@ -31,7 +31,7 @@ pub fn strikes_keep_the_documents()
         length (bits_after schema ops documents live) ≡ length documents }
 {}
 
-/// The content of a segment after deletes are applied is what survives of its content.
+/// After deletes are applied, a segment's content is the part of it that survives.
 pub fn content_after_a_strike()
     ensures { (schema : List Field) (ops : List (Stamped Op))
         (documents : List (Stamped DocumentValue)) (live : List Bool) →

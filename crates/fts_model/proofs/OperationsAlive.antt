@@ -70,7 +70,7 @@ All-if_kept : (b : Bool) (P : Stamped DocumentValue → Type 0) (d : Stamped Doc
 All-if_kept true P d ds p ps = ps
 All-if_kept false P d ds p ps = All-cons P d ds p ps
 
--- the stamps of what is alive are stamps of the operations
+-- the stamps of the documents alive are stamps of the operations
 All-alive : (P : ℕ → Type 0) (schema : List Field) (ops : List (Stamped Op)) → All (λ op. P op.stamp) ops → All (λ d. P d.stamp) (alive schema ops)
 All-alive P schema [] h = All-nil (λ d. P d.stamp)
 All-alive P schema (op ∷ ops) h =
@@ -89,7 +89,7 @@ pairs_if_kept : (R : ℕ → ℕ → Type 0) (b : Bool) (d : Stamped DocumentVal
 pairs_if_kept R true d ds others pairs = pairs
 pairs_if_kept R false d ds others pairs = AllPairs-cons (λ x y. R x.stamp y.stamp) d ds others pairs
 
--- a relation of the stamps of the operations is one of the stamps of what is alive
+-- a relation of the stamps of the operations is one of the stamps of the documents alive
 pub alive-pairs : (R : ℕ → ℕ → Type 0) (schema : List Field) (ops : List (Stamped Op)) → AllPairs (λ x y. R x.stamp y.stamp) ops →
     AllPairs (λ x y. R x.stamp y.stamp) (alive schema ops)
 alive-pairs R schema [] h = pairs_none (λ x y. R x.stamp y.stamp)

@@ -22,7 +22,7 @@ filter_agree_on p q (x ∷ xs) h =
     ap (λ b. cond b (x ∷ filter p xs) (filter p xs)) (All-head (λ x. p x ≡ q x) x xs h)
     ∙ ap (λ ys. cond (q x) (x ∷ ys) ys) (filter_agree_on p q xs (All-tail (λ x. p x ≡ q x) x xs h))
 
--- of operations with later stamps, those delete a document that do so by the test with stamps
+-- an operation of a later stamp deletes a document exactly if it does so by the test with stamps
 struck_by_later : (schema : List Field) (d : Stamped DocumentValue) (ops : List (Stamped Op)) → All (λ op. d.stamp < op.stamp) ops →
     list_any (λ op. strikes_later schema op d) ops ≡ is_struck schema ops d.value
 struck_by_later schema d [] later = refl
@@ -44,7 +44,7 @@ All-added_by P stamp (Add document) ds p ps = All-cons (λ d. P d.stamp) (record
 All-added_by P stamp (Delete term) ds p ps = ps
 All-added_by P stamp DeleteAll ds p ps = ps
 
--- the stamps of what is added are stamps of the operations
+-- the stamps of the added documents are stamps of the operations
 pub All-added : (P : ℕ → Type 0) (ops : List (Stamped Op)) → All (λ op. P op.stamp) ops → All (λ d. P d.stamp) (added ops)
 All-added P [] ps = All-nil (λ d. P d.stamp)
 All-added P (op ∷ ops) ps =
@@ -55,7 +55,7 @@ left_or_not : (b : Bool) (d : Stamped DocumentValue) → cond b [] (d ∷ []) �
 left_or_not true d = refl
 left_or_not false d = refl
 
--- an operation leaves what it adds and what survives
+-- an operation leaves the document that it adds if that survives
 left_by-survives : (schema : List Field) (op : Stamped Op) (value : Op) (ops : List (Stamped Op)) → All (λ later. op.stamp < later.stamp) ops →
     left_by schema op.stamp value ops ≡ filter (survives schema (op ∷ ops)) (added_by op.stamp value)
 left_by-survives schema op (Add document) ops later =

@@ -1,4 +1,4 @@
--- The documents that a query matches, and what may be asked of them.
+-- The documents that a query matches, and the requests about them.
 use Rattle.std.specs.Prelude.{◌≡◌, ℕ, ◌+◌, ◌==◌, ℤ, pos, ◌+ℤ◌, ◌&&◌, ◌||◌, not, nat_lt, nat_le, int_lt, Bool, true}
 use Rattle.std.specs.Prelude.{false, List, [], ◌∷◌, Option, Some, None, Result, Ok, Err, if◌then◌else◌, All, Contains}
 use Rattle.std.specs.Ordering.{nat_cmp, is_lt, is_le}

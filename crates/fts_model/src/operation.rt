@@ -67,8 +67,8 @@ fn term_value(alloc: Global, kind: Kind, json: &Value) -> Result<FieldValue, Ref
     }
 }
 
-/// What a delete or a query looks for in a field: a token of a text field, the whole text of a keyword field, or the
-/// number of a number field. It isn't analysed, so a token must be given folded.
+/// A term of a field, which a delete or a query looks for: a token of a text field, the whole text of a keyword field,
+/// or the number of a number field. It isn't analysed, so a token must be given folded.
 #[derive(Clone, Debug, Drop, PartialEq, Eq)]
 pub struct Term {
     /// The number of the field.

@@ -1,4 +1,4 @@
-// Queries and requests: what a search asks for.
+// Queries and requests.
 ghost use Rattle.std.specs.Prelude.{◌≡◌, option_map, option_copied};
 ghost use Rattle.std.specs.List.{list_all};
 ghost use Rattle.fts_base.specs.Results.{Gives};
@@ -144,7 +144,7 @@ pub struct Top {
     pub order: Order,
 }
 
-/// What a search returns besides the number of hits.
+/// A request for results besides the number of hits: groups, and a top list.
 #[derive(Clone, Copy, Debug, PartialEq, Eq)]
 pub struct Request {
     /// The keyword or number field by whose values the hits are counted in groups.

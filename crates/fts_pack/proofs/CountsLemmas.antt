@@ -19,7 +19,7 @@ use Rattle.fts_pack.specs.column.OffsetArray.{number_at}
 use Rattle.fts_pack.proofs.BitsLemmas.{each_set}
 use Rattle.fts_pack.proofs.ColumnLemmas.{above_least, lane_at, presence-values_at, value_missing, value_there}
 
--- what is added to a remainder is added to the number
+-- a remainder plus a number has the remainder of the sum
 pub mod-add : (a b m : ℕ) → (a % m + b) % m ≡ (a + b) % m
 mod-add a b m =
     let whole : a % m + b + m * (a / m) ≡ a + b = omega (arith, mod-add-div a m) in

@@ -25,7 +25,7 @@ use Rattle.fts_query.proofs.ReadingLemmas.{length-chars, skip_while_more, skip_w
 use Rattle.fts_query.specs.declared.error.QueryError.TheVariants as errors
 
 module _ (schema : List Field) (text : List ℕ) where
-  -- the answer for a fit text is what is read
+  -- the answer for a fit text is its reading
   answer_is_read : IsFit text → (IsBlank (chars text) → ⊥) → answer schema text ≡ answer_from (query_of schema 4096 (chars text))
   unfolding answer
   answer_is_read f b =
@@ -71,7 +71,7 @@ module _ (schema : List Field) (text : List ℕ) where
       rw (a, d, c) (ap (λ (x : QueryValue). Ok x) e)
   reads_answer (Err refusal) h = absurd h
 
-  -- what is read is an outcome
+  -- a reading is an outcome
   reads_from : (o : Option Meaning) → query_of schema 4096 (chars text) ≡ o → IsFit text → (IsBlank (chars text) → ⊥) → Reads schema text (answer_from o)
   reads_from None e f b = (f, b, λ m q. absurd (let k = read_fit m f q in cc))
   reads_from (Some (Ok q)) e f b = (f, inr (read_is_query schema _ _ (Ok q) e))

@@ -1,4 +1,4 @@
--- What is in the grammar is read from the front.
+-- A text in the grammar is read from the front.
 use Rattle.std.proofs.Common.{◌≡◌, ℕ, zero, suc, ◌<◌, ◌≤◌, Bool, true, false, not, ◌||◌, List, [], ◌∷◌, ◌++◌, length, codes, Option, Some, None, Ok, refl, sym}
 use Rattle.std.proofs.Common.{ap, subst, ◌∙◌, append_assoc, length-append, arith, inl, inr}
 use Rattle.std.specs.Prelude.{◌==◌, take_while}
@@ -164,7 +164,7 @@ list_begins : {schema : List Field} {x : List ℕ} {f : List (List (List Factor)
 list_begins (Grammar.single f) r h = disjunction_begins f r h
 list_begins (Grammar.several s w t f o c) r h = rw (three s w t r) (disjunction_begins f (w ++ (t ++ r)) (space_stops w (t ++ r) o))
 
--- white space is skipped up to what opens
+-- white space is skipped up to a text that may follow it
 skip_to : (w b : List ℕ) → IsBlank w → opens b ≡ true → skip_while is_space (w ++ b) ≡ b
 skip_to w b h o = skip_while-append w b h ∙ skip_while_opens b o
 

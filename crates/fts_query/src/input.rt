@@ -1,4 +1,4 @@
-// The rest of a text, and what it begins with: white space, words and operators.
+// The rest of a text, with the white space, words and operators at its front.
 ghost use Rattle.std.specs.Prelude.{◌≡◌, ◌≤◌, ◌∷◌, ◌++◌, [], length, MatchOption, IfOk, string_bytes, false};
 ghost use Rattle.std.specs.Char.{encode_utf8};
 ghost use Rattle.std.specs.Str.{chars};

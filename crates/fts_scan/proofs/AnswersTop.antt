@@ -53,7 +53,7 @@ not_less : (b : Bool) → cond b Equal Greater ≡ Less → false ≡ true
 not_less true h = cc
 not_less false h = cc
 
--- a test that gives less passed
+-- if a test gives less, it passed
 of_test : (b e : Bool) → cond b Less (cond e Equal Greater) ≡ Less → b ≡ true
 of_test true e h = refl
 of_test false e h = not_less e h
@@ -97,13 +97,13 @@ Before-one_way order a b h l =
     let back = (rank_total order).antisymm a b ∙ ap ordering_reverse (ranked order b a l) in
     let contra : Less ≡ Greater = sym here ∙ back in cc
 
--- of two hits with different stamps, one comes before if the other does not, by their order
+-- one of two hits with different stamps comes before the other if that does not, by their order
 by_rank : (order : Order) (a b : Hit) (o : Ordering) → rank order a b ≡ o → Apart a b → comes_before order a b ≡ false → Before order b a
 by_rank order a b Less e apart h = let yes = from_rank order a b e in cc
 by_rank order a b Equal e apart h = absurd (apart (of_equal (cmp_by order a.value b.value) a.stamp b.stamp e))
 by_rank order a b Greater e apart h = from_rank order b a ((rank_total order).antisymm b a ∙ ap ordering_reverse e)
 
--- of two hits with different stamps, one comes before the other
+-- one of two hits with different stamps comes before the other
 pub Before-else : (order : Order) (a b : Hit) → Apart a b → comes_before order a b ≡ false → Before order b a
 Before-else order a b apart h = by_rank order a b (rank order a b) refl apart h
 

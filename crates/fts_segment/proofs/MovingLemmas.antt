@@ -185,7 +185,7 @@ set-suc f [] i x h = absurd (let no : None ≡ Some x = h in cc)
 set-suc f (y ∷ xs) zero x h = let e : y ≡ x = cc in ap (λ z. f z ∷ xs) (sym e)
 set-suc f (y ∷ xs) (suc i) x h = ap (λ zs. f y ∷ zs) (set-suc f xs i x h)
 
--- a list of which one more member was changed
+-- a list with one more member changed
 pub set-front : {X : Type 0} (f : X → X) (items xs : List X) (i : ℕ) (x y : X) → items ≡ map f (take i xs) ++ drop i xs → slice_get items i ≡ Some x → y ≡ f x →
     (slice_set items i y ≡ map f (take (i + 1) xs) ++ drop (i + 1) xs) × (slice_get xs i ≡ Some x)
 set-front f items xs i x y is at new =

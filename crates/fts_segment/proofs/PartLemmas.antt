@@ -17,7 +17,7 @@ use Rattle.fts_segment.specs.Postings.{Posting, postings_of}
 use Rattle.fts_segment.proofs.FindLemmas.{same_from_equal, turned}
 use Rattle.fts_segment.specs.Parts.{PartValue, IsWhole, part_from, postings_by, found, joined, moved, IsBelow, Ascend, IsSound, begins, passed, given}
 
--- names of which one is before the other are different
+-- a name differs from one before it
 less_differs : (a b : List ℕ) → slice_cmp nat_cmp a b ≡ Less → bytes_eq b a ≡ false
 less_differs a b less = elim (bytes_eq b a) as (λ t. bytes_eq b a ≡ t → t ≡ false) [
   | true ↦ λ same.

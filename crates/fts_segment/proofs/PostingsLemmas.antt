@@ -137,7 +137,7 @@ found-map f (n ∷ names) q gone = elim (bytes_eq n q) as (λ b. bytes_eq n q �
       (either n q names c)))
 ] refl
 
--- what is found in a dictionary are the postings of the term
+-- the postings found in a dictionary are those of the term
 pub found-dictionary : (os : List OccurrenceValue) (names lists : List (List ℕ)) (positions : List (List (List ℕ))) → IsDictionaryOf os names lists positions →
     (q : List ℕ) →
     found names (postings_by lists positions) q ≡ postings_with q os

@@ -44,14 +44,14 @@ where_set-map f (x ∷ xs) [] = refl
 where_set-map f (x ∷ xs) (true ∷ bits) = ap (λ ys. f x ∷ ys) (where_set-map f xs bits)
 where_set-map f (x ∷ xs) (false ∷ bits) = where_set-map f xs bits
 
--- what holds of all members holds of the live ones
+-- a property of all members holds of the live ones
 pub All-where_set : {X : Type 0} (P : X → Type 0) (xs : List X) (bits : List Bool) → All P xs → All P (where_set xs bits)
 All-where_set P [] bits h = h
 All-where_set P (x ∷ xs) [] h = All-nil P
 All-where_set P (x ∷ xs) (true ∷ bits) h = All-cons P x (where_set xs bits) (All-head P x xs h) (All-where_set P xs bits (All-tail P x xs h))
 All-where_set P (x ∷ xs) (false ∷ bits) h = All-where_set P xs bits (All-tail P x xs h)
 
--- what holds of the documents of all sources holds of the live ones
+-- a property of the documents of all sources holds of the live ones
 pub All-contents : (P : Stamped DocumentValue → Type 0) (ss : List SourceValue) → All (λ s. All P s.segment.documents) ss → All P (contents ss)
 All-contents P [] h = All-nil P
 All-contents P (s ∷ ss) h =

@@ -27,7 +27,7 @@ pub trait Mergeable<R> {
     /// The snapshot of the last commit.
     ghost left: { Self → SnapshotValue };
 
-    /// What merges leave unchanged, beside the content.
+    /// The relation of two states that merges maintain, beside equal content.
     ghost keeps: { Self → Self → Type 0 };
 
     /// The snapshot of the last commit.

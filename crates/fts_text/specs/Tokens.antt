@@ -1,4 +1,4 @@
--- What the tokens of a text are.
+-- The spans and the tokens of a text.
 use Rattle.std.specs.Prelude.{ℕ, ◌+◌, not, nat_eq, nat_lt, if◌then◌else◌, List, [], ◌∷◌, ◌++◌, length, map, filter}
 use Rattle.std.specs.Prelude.{encode_utf8_all}
 use Rattle.std.specs.List.{slice_split, enumerate_from}
