@@ -134,7 +134,7 @@ impl Order {
     }
 }
 
-/// Which hits a top list holds.
+/// A requested top list: its field, its order and its greatest length.
 #[derive(Clone, Copy, Debug, PartialEq, Eq)]
 pub struct Top {
     /// The number field by whose values it is ordered.

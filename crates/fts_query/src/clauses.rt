@@ -64,7 +64,7 @@ impl Clauses {
     ghost use Rattle.fts_model.specs.QueryValues.{query_value};
     ghost use Rattle.fts_query.specs.Gathering.{gathered_of, gather, gathered_node};
 
-    /// No clauses yet.
+    /// A node without a clause.
     pub(crate) fn new(alloc: Global) -> Clauses
         ensures { gathered_of result ≡ Ok ([], [], []) }
     {

@@ -21,8 +21,8 @@
 //! - The clauses of a node are collected as they are read, and there is no syntax tree beside the query. An error in
 //!   the meaning of a part is held back until the text is known to be in the grammar, since a syntax error comes first.
 //! - The conjunctions, disjunctions and lists of the grammar are one sequence at three levels (`reader.rt`).
-//! - Length and nesting are checked before anything is read, so the depth of the recursion is bounded, and a text that
-//!   is too long, too deep or blank has its outcome even if no memory is left.
+//! - Length and nesting are checked before anything is read, so the depth of the recursion is bounded. A text that is
+//!   too long, too deep or blank has its outcome even if no memory is left.
 #![tactic(auto)]
 
 mod clauses;

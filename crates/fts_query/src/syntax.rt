@@ -6,7 +6,7 @@ use crate::parser::parse;
 use fts_model::{Field, Kind, Refusal, Schema, Text};
 use std::alloc::{AllocError, Global};
 
-/// Some schema; whether a text is in the grammar doesn't depend on the schema.
+/// An arbitrary schema; whether a text is in the grammar doesn't depend on the schema.
 fn some_schema(alloc: Global) -> Result<Schema, AllocError> {
     let name = Text::new(String::from_str(alloc, "a")?);
     let mut fields = Vec::new(alloc);
