@@ -48,7 +48,7 @@ impl<'a> Model for ScanCursor<'a> {
 }
 
 impl<'a> ScanCursor<'a> {
-    /// Of this many documents, and how many of them are kept, if that is known.
+    /// A cursor over this many documents, and how many of them pass, if that is known.
     pub(crate) fn new(kept: Kept<'a>, docs: usize, total: Option<usize>) -> ScanCursor<'a>
         requires few { docs ≤ 2 ^ 32 }
         requires are_for { AreFor kept docs }

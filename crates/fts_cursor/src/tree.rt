@@ -51,9 +51,9 @@ enum Source<'a> {
 #[cycle(tree)]
 #[derive(Drop)]
 enum Node<'a> {
-    /// Beside it how many blocks were opened of the lists that it stands for.
+    /// The count is the number of blocks that were opened of the lists whose documents it has.
     Scan(ScanCursor<'a>, u64),
-    /// The same.
+    /// The count is the number of blocks that were opened to list the documents.
     Listed(ListedCursor, u64),
     Postings(PostingCursor<ListSource<'a>>),
     Terms(Conjunction<ListSource<'a>>),
@@ -83,7 +83,7 @@ impl<'a> Model for Tree<'a> {
 }
 
 impl<'a> Tree<'a> {
-    /// Of no document.
+    /// The tree without documents.
     pub(crate) fn nothing() -> Tree<'a>
         ensures remaining { result.remaining ≡ [] }
         ensures counts { (result.openings ≡ 0) × (result.bound ≡ at_most 0) × (result.whole ≡ true) }
@@ -95,7 +95,7 @@ impl<'a> Tree<'a> {
         }
     }
 
-    /// Of a node that is at the document.
+    /// The tree of a node that is at the document.
     fn of(alloc: Global, doc: Option<u32>, node: Node<'a>) -> Result<Tree<'a>, AllocError>
         requires { StandsAt doc node }
         ensures { IfOk result (λ t. t ≡ tree_value node.entry) }
@@ -104,7 +104,7 @@ impl<'a> Tree<'a> {
         Ok(Tree { doc, source })
     }
 
-    /// Of documents that are kept by their number alone.
+    /// The tree of documents that are tested by their number alone.
     #[inline(never)]
     pub(crate) fn scan(alloc: Global, scan: ScanCursor<'a>) -> Result<Tree<'a>, AllocError>
         ensures remaining { IfOk result (λ t. t.remaining ≡ scan.entry) }
@@ -113,7 +113,7 @@ impl<'a> Tree<'a> {
         Tree::dense(alloc, scan, 0)
     }
 
-    /// Of documents that bits tell of lists of which this many blocks were opened.
+    /// The tree of documents that are given by bits of lists. `opened` blocks of these lists were opened.
     pub(crate) fn dense(
         alloc: Global,
         scan: ScanCursor<'a>,
@@ -125,7 +125,7 @@ impl<'a> Tree<'a> {
         Tree::of(alloc, scan.doc(), Node::Scan(scan, opened))
     }
 
-    /// Of documents that are in memory, and this many blocks that were opened to read them.
+    /// The tree of documents that are in memory. `opened` blocks were opened to read them.
     pub(crate) fn listed(
         alloc: Global,
         listed: ListedCursor,
@@ -137,7 +137,7 @@ impl<'a> Tree<'a> {
         Tree::of(alloc, listed.doc(), Node::Listed(listed, opened))
     }
 
-    /// Of a list.
+    /// The tree of a list.
     #[inline(never)]
     pub(crate) fn postings(alloc: Global, list: &'a List) -> Result<Tree<'a>, AllocError>
         ensures remaining { IfOk result (λ t. t.remaining ≡ list.now) }
@@ -149,7 +149,7 @@ impl<'a> Tree<'a> {
         Tree::of(alloc, postings.doc(), Node::Postings(postings))
     }
 
-    /// Of what lists have in common.
+    /// The tree of the documents that lists have in common.
     pub(crate) fn terms(
         alloc: Global,
         terms: Conjunction<ListSource<'a>>,
@@ -163,7 +163,7 @@ impl<'a> Tree<'a> {
         Tree::of(alloc, terms.doc(), Node::Terms(terms))
     }
 
-    /// Of what lists have in common and bits tell.
+    /// The tree of the documents that lists have in common and whose bits are set.
     pub(crate) fn filter(alloc: Global, filter: FilterCursor<'a>) -> Result<Tree<'a>, AllocError>
         ensures remaining { IfOk result (λ t. t.remaining ≡ filter.entry.remaining) }
         ensures openings { IfOk result (λ t. t.openings ≡ filter.entry.openings) }
@@ -172,7 +172,7 @@ impl<'a> Tree<'a> {
         Tree::of(alloc, filter.doc(), Node::Filter(filter))
     }
 
-    /// Of a phrase.
+    /// The tree of a phrase.
     pub(crate) fn phrase(alloc: Global, phrase: PhraseCursor<'a>) -> Result<Tree<'a>, AllocError>
         ensures remaining { IfOk result (λ t. t.remaining ≡ phrase.entry.remaining) }
         ensures bound { IfOk result (λ t. t.bound ≡ phrase.entry.bound) }
@@ -180,7 +180,8 @@ impl<'a> Tree<'a> {
         Tree::of(alloc, phrase.doc(), Node::Phrase(phrase))
     }
 
-    /// Of what all have in common. The one that leads is best the one with the fewest documents.
+    /// The tree of the documents that all parts have in common. The one that leads is best the one with the fewest
+    /// documents.
     pub(crate) fn and(
         alloc: Global,
         lead: Box<Tree<'a>>,
@@ -196,7 +197,7 @@ impl<'a> Tree<'a> {
         Tree::of(alloc, doc, Node::And(parts))
     }
 
-    /// Of what one of them has.
+    /// The tree of the documents that at least one part has.
     #[inline(never)]
     pub(crate) fn or(alloc: Global, parts: Vec<Tree<'a>>) -> Result<Tree<'a>, AllocError>
         ensures remaining { IfOk result (λ t. t.remaining ≡ union (remains parts.entry.items)) }
@@ -208,7 +209,7 @@ impl<'a> Tree<'a> {
         Tree::of(alloc, doc, Node::Or(buffered))
     }
 
-    /// Of what the first has and the second doesn't.
+    /// The tree of the documents that the first part has and the second doesn't.
     pub(crate) fn without(
         alloc: Global,
         kept: Tree<'a>,
@@ -543,7 +544,7 @@ fn fill(node: &mut Node, doc: Option<u32>, out: &mut [u32; 128]) -> (usize, Opti
     }
 }
 
-/// The same, a document at a time.
+/// As `fill`, a document at a time.
 fn fill_by_steps(node: &mut Node, doc: Option<u32>, out: &mut [u32; 128]) -> (usize, Option<u32>)
     requires { StandsAt doc node.old }
     ensures count { result.0 ≡ min 128 (length (tree_value node.old).remaining) }

@@ -160,7 +160,7 @@ fn mark_part(part: &mut Tree, window: &mut Window)
     }
 }
 
-/// The same, document by document.
+/// Marks the documents of a part that are in the window, one by one, and passes them.
 #[cycle(tree)]
 fn mark_any(part: &mut Tree, window: &mut Window)
     requires { part.old.remaining ≡ at_least window.old.from part.old.remaining }
@@ -177,7 +177,8 @@ fn mark_any(part: &mut Tree, window: &mut Window)
     }
 }
 
-/// The same for a list, a block at a time. Gives the first document after the window.
+/// Marks the documents of a list that are in the window, a block at a time. Returns the first document after the
+/// window.
 fn mark_postings(postings: &mut PostingCursor<ListSource>, window: &mut Window) -> Option<u32>
     requires { remaining_of postings.old ≡ at_least window.old.from (remaining_of postings.old) }
     ensures remaining { remaining_of postings.new
