@@ -99,7 +99,8 @@ impl Tally {
     ghost use Rattle.std.specs.Prelude.{◌≡◌, ◌<◌, ◌++◌, ◌^◌, ℕ, List, [], IfOk, OnOk, length};
     ghost use Rattle.fts_parts.specs.Tallies.{IsTally, IsTallyFor, counts_of, present_at};
 
-    /// Of no hits. There is a place for each number where they lie close together for this many documents.
+    /// The tally of no hits. It has a place for each number, if the column's numbers are close together for this many
+    /// documents.
     pub(crate) fn new(alloc: Global, column: &Column) -> Result<Tally, AllocError>
         ensures none { IfOk result (IsTally []) }
         ensures for_column { IfOk result (IsTallyFor column.now) }
