@@ -33,7 +33,7 @@ fn asked(rt: &(impl Env + AllocGlobal)) -> Result<Asked, ArgFault> {
 
 /// Runs the script over the standard streams, which buffer nothing: the run reads and writes in blocks.
 ///
-/// Returns the exit status and the outcome of which it is the status.
+/// Returns the exit status, and the outcome that it reports.
 fn run_standard<R: AllocGlobal + Sync + Eprint, E: EngineOver<R>>(
     rt: &R,
     streams: &mut Streams<Plain<Stdin>, Plain<Stdout>>,

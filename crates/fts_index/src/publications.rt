@@ -5,8 +5,8 @@
 //! [`Reader`] makes a [`Searcher`] by one look, with no lock, while the publisher goes on, and the searcher keeps its
 //! snapshot for good.
 //!
-//! What a reader knows of the list is a beginning of it, and only grows. It grows when the reader looks, and when the
-//! reader is told of a [`CommitSeen`] ([`Reader::told`]), which the publisher returns and any thread may hand on. So a
+//! What a reader knows of the list is a beginning of it, and only grows. It grows when the reader looks, and when a
+//! [`CommitSeen`] is reported to it ([`Reader::told`]), which the publisher returns and any thread may hand on. So a
 //! reader that knows of a commit finds that commit or a later one, and two searchers of one stamp have the same
 //! documents.
 //!

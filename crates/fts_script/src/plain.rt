@@ -18,7 +18,7 @@ pub struct Plain<T> {
 }
 
 impl<T> Plain<T> {
-    /// A stream of which no call was made yet.
+    /// A stream before its first call.
     pub fn new(inner: T) -> Self
         ensures inner { result.inner ≡ inner }
         ensures moved { result.moved.bytes ≡ [] }

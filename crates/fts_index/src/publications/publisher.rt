@@ -203,8 +203,8 @@ fn desk_of<R: Wait>(rt: &R, alloc: Global, front: &Front) -> Result<FrontWriter,
     Ok(desk)
 }
 
-/// Publishes twice: the first time tells the seat its writer, the second reserves the memory that later publications
-/// need.
+/// Publishes twice: the first time records the writer in the seat, the second reserves the memory that later
+/// publications need.
 fn show_twice<R: Wait>(rt: &R, desk: &mut FrontWriter, front: &Front) -> Result<(), AllocError>
     requires { desk.old.desk.shown.value.seen.of ≡ front.now.seen.of }
     ensures shown { OnOk result (desk.new.desk.shown.value ≡ front.now) }

@@ -33,13 +33,13 @@ abbrev pub is_blank_kept : KeptLine → Bool
 is_blank_kept (Short white bytes) = is_blank bytes
 is_blank_kept (TooLong blank) = blank
 
--- the reply to a line of which this is stored; white space before the rest has no effect on it
+-- the reply to a line that is stored as this; white space before the rest has no effect on it
 abbrev pub reply_to_kept : SessionValue → KeptLine → List ℕ
 reply_to_kept s (Short white bytes) = reply_to s bytes
 reply_to_kept s (TooLong true) = []
 reply_to_kept s (TooLong false) = line_of (refusal_reply LineTooLong (s.number + 1))
 
--- the script after a line of which this is stored
+-- the script after a line that is stored as this
 abbrev pub after_kept : SessionValue → KeptLine → SessionValue
 after_kept s (Short white bytes) = after_line s bytes
 after_kept s (TooLong blank) = record { number = s.number + 1; index = s.index }
