@@ -15,9 +15,9 @@ use std::marker::Model;
 
 /// The live documents of a segment that match a query, from the first on. It borrows the segment and its bits.
 ///
-/// Contracts see what remains, how often its sources opened a block, how many blocks it opens at most by where it
-/// stands, whatever is sought, whether it goes over one list of which it has opened each block up to there, and that
-/// list, if it goes over one alone.
+/// Contracts see what remains, how often its sources opened a block, the bound on its openings by the document at which
+/// it is, whether it goes over one list and has opened each block up to there, and, if it goes over one list alone,
+/// that list.
 #[derive(Drop)]
 pub struct Cursor<'a> {
     tree: Tree<'a>,
@@ -135,8 +135,8 @@ impl<'a> DocSet for Cursor<'a> {
     }
 }
 
-/// Takes the next 128 documents whose bit is set of a tree that is at one of them: those among the next 128, and as
-/// many more by steps as of these aren't live.
+/// Takes the next 128 documents of a tree that have their bit set; the tree is at one of them. It takes those among the
+/// tree's next 128, and steps to replace each of these that isn't live.
 fn fill_live(tree: &mut Tree, live: &Bits, out: &mut [u32; 128]) -> usize
     requires { FirstPasses (is_live live.now) tree.old.remaining }
     ensures count { result ≡ min 128 (length (filter (is_live live.now) tree.old.remaining)) }
@@ -160,8 +160,8 @@ fn fill_live(tree: &mut Tree, live: &Bits, out: &mut [u32; 128]) -> usize
     128
 }
 
-/// Keeps those of the first documents whose bit is set, at the front, and gives how many they are. Each is written and
-/// its bit is added to the place of the next, so no branch depends on it.
+/// Moves the documents whose bit is set, among the first `count`, to the front, and returns how many they are. Each is
+/// written and its bit is added to the place of the next, so no branch depends on it.
 pub fn keep_live(live: &Bits, count: usize, docs: &mut [u32; 128]) -> usize
     requires { count ≤ 128 }
     ensures kept { take result docs.new ≡ filter (is_live live.now) (take count docs.old) }

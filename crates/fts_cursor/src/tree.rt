@@ -1,4 +1,4 @@
-// Cursors of queries within one another, each of which knows the first document that remains of it.
+// Cursors of queries within one another. Each knows the first document that remains of it.
 ghost use Rattle.std.specs.Prelude.{◌≡◌, ℕ, ◌+◌, ◌-◌, ◌^◌, ◌<◌, ◌≤◌, All, IfOk, [], MatchOption, true, false, drop};
 ghost use Rattle.std.specs.Prelude.{Some, filter, length};
 ghost use Rattle.std.specs.Prelude.{min, slice_get, take};
@@ -31,8 +31,8 @@ use intersection::{Intersection, align};
 use std::alloc::{AllocError, Global};
 use std::marker::Model;
 
-/// The documents that match a query. A tree is moved often as it is made, so it is small: what it finds them by lies
-/// after it.
+/// The documents that match a query. A tree is moved often while it is made, so it is small: the node that finds them
+/// is in a box.
 #[cycle(tree)]
 #[derive(Drop)]
 pub(crate) struct Tree<'a> {
@@ -40,7 +40,7 @@ pub(crate) struct Tree<'a> {
     source: Source<'a>,
 }
 
-/// Where no document matches there is nothing, and no memory is taken.
+/// If no document matches there is no node, and no memory is taken.
 #[cycle(tree)]
 #[derive(Drop)]
 enum Source<'a> {
@@ -227,7 +227,7 @@ impl<'a> Tree<'a> {
         Tree::of(alloc, doc, Node::Without(parts))
     }
 
-    /// Keeps of those that remain only those whose bit is set, where words tell of both, and says whether it did.
+    /// Leaves only those of the remaining documents whose bit is set, if words give both, and returns whether it did.
     pub(crate) fn cut(&mut self, alloc: Global, live: &'a Bits) -> Result<bool, AllocError>
         ensures cut { IfOk result (λ did. did ≡ true
             → self.new.remaining ≡ filter (is_live live.now) self.old.remaining) }
@@ -252,8 +252,8 @@ impl<'a> Tree<'a> {
         }
     }
 
-    /// How many blocks were opened since the cursors were made, the making included, or the greatest `u64`: no more
-    /// than the bound where it is.
+    /// How many blocks were opened since the cursors were made, those of the making included, or the greatest `u64`. It
+    /// is never more than the bound at the document where the tree is.
     #[cycle(openings)]
     pub(crate) fn openings(&self) -> u64
         ensures sum { result ≡ min (2 ^ 64 - 1) self.now.openings }
@@ -333,7 +333,7 @@ impl<'a> Tree<'a> {
         }
     }
 
-    /// Passes what lies before the target. Contracts learn here what remained of a list alone.
+    /// Passes the documents below the target. Contracts learn here what remained of a list alone.
     #[cycle(tree)]
     pub(crate) fn seek(&mut self, target: u32)
         ensures remaining { self.new.remaining ≡ at_least target self.old.remaining }
@@ -351,8 +351,8 @@ impl<'a> Tree<'a> {
         }
     }
 
-    /// How many documents remain, or the greatest `usize`, where they needn't be gone through one after the other for
-    /// that, and passes them then.
+    /// The number of documents that remain, or the greatest `usize`, if they needn't be gone through one by one for
+    /// that; it passes them then.
     pub(crate) fn count(&mut self) -> Option<usize>
         ensures counted { MatchOption result (self.new ≡ self.old)
             (λ count. (count ≡ min (2 ^ 64 - 1) (length self.old.remaining)) × (self.new.remaining ≡ [])) }
@@ -371,7 +371,7 @@ impl<'a> Tree<'a> {
         Some(count)
     }
 
-    /// Takes the next 128 documents, or all where fewer remain: writes them to the front of `out`, and gives how many
+    /// Takes the next 128 documents, or all if fewer remain: writes them to the front of `out`, and returns how many
     /// they are.
     pub(crate) fn fill(&mut self, out: &mut [u32; 128]) -> usize
         ensures count { result ≡ min 128 (length self.old.remaining) }
@@ -461,7 +461,7 @@ fn step(node: &mut Node) -> Option<u32>
     }
 }
 
-/// Passes what lies before the target, and gives the first document from there on.
+/// Passes the documents below the target, and returns the first document from there on.
 #[cycle(tree)]
 fn skip(node: &mut Node, target: u32) -> Option<u32>
     requires { (doc : ℕ) × StandsAt (Some doc) node.old × (doc < target) }
@@ -506,7 +506,7 @@ fn skip(node: &mut Node, target: u32) -> Option<u32>
     }
 }
 
-/// Takes the next 128 of a node that is at the document, and gives how many they are, and the next.
+/// Takes the next 128 documents of a node that is at `doc`. Returns how many they are, and the next document.
 fn fill(node: &mut Node, doc: Option<u32>, out: &mut [u32; 128]) -> (usize, Option<u32>)
     requires { StandsAt doc node.old }
     ensures count { result.0 ≡ min 128 (length (tree_value node.old).remaining) }

@@ -6,9 +6,9 @@
 //! However documents were cut into segments, the joined parts are the answer over all of them, as long as no stamp
 //! occurs twice.
 //!
-//! A part is made of [`Seen`]: [`nothing_seen`] has room for what a request asks for, [`see`] takes the numbers of more
-//! hits, in their order, and [`told`] makes the part of them. How hits are found is not known here. A top list may also
-//! be made by a [`Ranking`] apart, if whoever looks for the hits knows that no other is one of the first.
+//! A part is made of [`Seen`]: [`nothing_seen`] makes it for a request, [`see`] takes the numbers of more hits, in
+//! their order, and [`told`] makes the part of them. How hits are found is not known here. A top list may also be made
+//! by a [`Ranking`] apart, if whoever looks for the hits knows that no other is one of the first.
 //!
 //! Documents are handles here. A part holds those of its top list alone, and joining moves them.
 #![tactic(auto)]

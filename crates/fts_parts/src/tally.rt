@@ -32,7 +32,7 @@ fn counts_of_sorted(alloc: Global, numbers: &[u64]) -> Result<Vec<(u64, u64)>, A
         .collect(alloc)
 }
 
-/// The numbers that were counted, of which the first is the least, with their counts.
+/// The numbers that were counted, with their counts. `counts` has one for each number from `least` on.
 fn counts_from(alloc: Global, least: u64, counts: &[u64]) -> Result<Vec<(u64, u64)>, AllocError>
     requires { least + length counts.now ≤ 2 ^ 64 }
     ensures { IfOk result (λ list. list.items ≡ counts_from least counts.now) }

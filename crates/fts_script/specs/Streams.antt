@@ -8,7 +8,7 @@ abbrev pub bytes_moved : {E : Type 0} → Result ℕ E → List ℕ → List ℕ
 bytes_moved (Ok n) buffer = take n buffer
 bytes_moved (Err e) buffer = []
 
--- a read reports the end: it could have given a byte, and gave none
+-- a read reports the end: its buffer wasn't empty, and it gave no byte
 abbrev pub tells_end : {E : Type 0} → Result ℕ E → ℕ → Bool
 tells_end (Ok n) room = n == 0 && nat_lt 0 room
 tells_end (Err e) room = false

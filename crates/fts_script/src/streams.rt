@@ -46,7 +46,7 @@ pub trait ScriptIn {
     /// The bytes that are left to read, if they are known.
     ghost remaining: { Self → Option (List ℕ) };
 
-    /// How many calls reported the end: they could have given a byte, and gave none.
+    /// How many calls reported the end: their buffer wasn't empty, and they gave no byte.
     ghost ends: { Self → ℕ };
 
     /// How many calls failed.
