@@ -1,4 +1,4 @@
--- Segments that fit go on to fit, and so they do if one is taken out or put in.
+-- Segments that fit a snapshot still fit the snapshots that follow it, and so they do if one is taken out or put in.
 use Rattle.std.proofs.Common.{◌≡◌, ℕ, ◌+◌, ◌<◌, List, [], ◌∷◌, ◌++◌, length, take, drop, get_or, sym, subst}
 use Rattle.std.proofs.lemmas.List.Elements.{All-weaker, All-append, All-take, All-drop, All-push, All-get_or}
 use Rattle.dilforec.specs.MergedSegments.{MergedSegmentValue}

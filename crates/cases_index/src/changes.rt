@@ -32,7 +32,7 @@ fn cut_of(trial: &mut Trial, cut: &Value) -> Cut
     Cut::Runs(1)
 }
 
-/// The cut of a step, and segments of one add without one.
+/// The cut of a step, and without one, segments of one add each.
 fn step_cut(trial: &mut Trial, step: &Value) -> Cut
     ensures { IsCut result }
 {
@@ -163,7 +163,7 @@ fn merge<R: Wait>(rt: &R, trial: &mut Trial, writer: &mut Writer, step: &Value)
     }
 }
 
-/// Gives what a word of these gives, and answers whether it is one.
+/// Tries a case of one of these words, and returns whether its word is one of them.
 pub(crate) fn changed<R: Threads + Wait + Sync>(
     rt: &R,
     trial: &mut Trial,

@@ -20,7 +20,7 @@ fn merged(alloc: Global, writer: &Writer, ids: &[u64]) -> Result<MergedSegment, 
     }
 }
 
-/// Begins and runs a merge, to be ended later.
+/// Starts and runs a merge, to be ended later.
 fn merge_later(trial: &mut Trial, writer: &Writer, late: &mut Vec<MergedSegment>, step: &Value)
     requires { AllFit writer.now.front.snapshot late.old.items }
     ensures { AllFit writer.now.front.snapshot late.new.items }
@@ -34,7 +34,7 @@ fn merge_later(trial: &mut Trial, writer: &Writer, late: &mut Vec<MergedSegment>
     }
 }
 
-/// Keeps a merge that fits after others.
+/// Stores a merge that fits after the others.
 fn keep(trial: &mut Trial, writer: &Writer, late: &mut Vec<MergedSegment>, merged: MergedSegment)
     requires all { AllFit writer.now.front.snapshot late.old.items }
     requires fits { Fits merged writer.now.front.snapshot }
@@ -46,7 +46,7 @@ fn keep(trial: &mut Trial, writer: &Writer, late: &mut Vec<MergedSegment>, merge
     }
 }
 
-/// Ends a merge, which is kept after the others where that is refused.
+/// Ends a merge. If that is refused, the merge is stored again after the others.
 fn end<R: Wait>(
     rt: &R,
     trial: &mut Trial,
@@ -72,7 +72,7 @@ fn end<R: Wait>(
     }
 }
 
-/// Gives what a word of these gives, and answers whether it is one.
+/// Tries a case of one of these words, and returns whether its word is one of them.
 pub(crate) fn ended<R: Wait>(
     rt: &R,
     trial: &mut Trial,

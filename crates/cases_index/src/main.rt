@@ -1,5 +1,5 @@
-// Tries cases of an index of many segments: scripts, each over a list of documents and over segments under ten kinds
-// of options, and walks, which are steps over a new writer.
+// Tries cases of an index of many segments: scripts, each over a list of documents and over segments under ten sets of
+// options, and walks, which are steps over a new writer.
 #![tactic(auto)]
 
 mod changes;
@@ -21,8 +21,8 @@ use std::{env, fs, io};
 use testing_cases::{Tally, Trial, Wanted, case_on, judged, text};
 use ways::give_replies;
 
-/// Gives what the steps of a walk give; of a script how many replies it has, or else what some way of running it gave
-/// in place of one.
+/// Gives what the steps of a walk give. For a script, gives how many replies it has, or else the wrong reply of the
+/// first way of running it that has one.
 fn give<
     R: AllocGlobal + Files + Threads + Wait + Sync,
     L: EngineOver<R>,
@@ -38,7 +38,7 @@ fn give<
     }
 }
 
-/// Tries the case of a line, and answers whether it gives what it says.
+/// Tries the case of a line, and returns whether it gives what it says.
 fn holds<
     R: AllocGlobal + Files + Print + Threads + Wait + Sync,
     L: EngineOver<R>,

@@ -7,7 +7,7 @@ use testing_cases::{Trial, Trouble, nonempty, only, text};
 /// A script and its replies, each line of both ended by an LF.
 #[derive(Drop)]
 pub(crate) struct Script {
-    /// Whether it runs over segments too. What it shows may be in its lines alone, which no engine sees.
+    /// Whether it runs over segments too. Some scripts are about their lines only, which no engine sees.
     pub(crate) over_segments: bool,
     pub(crate) input: String,
     pub(crate) wanted: String,
@@ -26,7 +26,7 @@ const MOST: u64 = 10_000_000;
 /// How many times a piece is in a stretch.
 const STRETCH: u64 = 4096;
 
-/// How many times something stands.
+/// How many times a line or a piece is repeated.
 fn times_of(trial: &mut Trial, json: &Value) -> u64 {
     match json.as_u64() {
         Some(times) if times <= MOST => times,
@@ -37,7 +37,7 @@ fn times_of(trial: &mut Trial, json: &Value) -> u64 {
     }
 }
 
-/// Puts a text after others, this many times.
+/// Appends a text, this many times.
 fn push_times(trial: &mut Trial, line: &mut String, text: &str, times: u64) {
     for _ in 0..times {
         let pushed = line.push_str(text);
@@ -45,7 +45,7 @@ fn push_times(trial: &mut Trial, line: &mut String, text: &str, times: u64) {
     }
 }
 
-/// Puts a text after others, this many times: many of them by stretches.
+/// Appends a text this many times: many of them by stretches.
 fn push_repeated(trial: &mut Trial, line: &mut String, text: &str, times: u64) {
     let mut stretch = String::new(trial.alloc());
     push_times(trial, &mut stretch, text, STRETCH);
@@ -53,7 +53,7 @@ fn push_repeated(trial: &mut Trial, line: &mut String, text: &str, times: u64) {
     push_times(trial, line, text, times % STRETCH);
 }
 
-/// Puts a piece of a line after others: a text, or `[times, text]`.
+/// Appends a piece of a line: a text, or `[times, text]`.
 fn push_piece(trial: &mut Trial, line: &mut String, piece: &Value) {
     if let Some(text) = piece.as_str() {
         return push_times(trial, line, text, 1);
@@ -67,14 +67,14 @@ fn push_piece(trial: &mut Trial, line: &mut String, piece: &Value) {
     }
 }
 
-/// Puts the pieces of a line after others.
+/// Appends the pieces of a line.
 fn push_pieces(trial: &mut Trial, line: &mut String, pieces: &[Value]) {
     for piece in pieces {
         push_piece(trial, line, piece);
     }
 }
 
-/// Puts a value in compact form after others.
+/// Appends a value in compact form.
 fn push_compact(trial: &mut Trial, line: &mut String, json: &Value) {
     let text = json.to_string(trial.alloc());
     if let Some(text) = trial.kept(text) {
@@ -97,7 +97,7 @@ fn line_of(trial: &mut Trial, json: &Value) -> String {
     line
 }
 
-/// The reply to a line that stands this many times, where it stands for the i-th time from 0: its stamp rises by one.
+/// The reply to the i-th repetition of a line, counted from 0: its stamp rises by one each time.
 fn reply_of(trial: &mut Trial, json: &Value, i: u64) -> String {
     if json.is_null() {
         return String::new(trial.alloc());
@@ -118,7 +118,7 @@ impl Script {
         self.wanted.as_str().lines().count() as u64
     }
 
-    /// Puts a line after others, this many times, and what it should be answered, if it should be.
+    /// Appends a line this many times, and its reply as often, if it should have one.
     fn push(&mut self, trial: &mut Trial, line: &Value, reply: &Value, times: u64) {
         let line = line_of(trial, line);
         for i in 0..times {
@@ -128,7 +128,7 @@ impl Script {
         }
     }
 
-    /// Puts `[line, reply]` or `[line, reply, times]` after others.
+    /// Appends `[line, reply]` or `[line, reply, times]`.
     fn push_pair(&mut self, trial: &mut Trial, pair: &Value) {
         let times = match pair.get(2usize) {
             Some(times) => times_of(trial, times),
@@ -164,7 +164,7 @@ fn of_files<R: AllocGlobal + Files>(rt: &R, trial: &mut Trial, case: &Value) -> 
     }
 }
 
-/// The script of lines that stand beside their replies, after other lines and their replies.
+/// The script of lines that have their replies beside them, after other lines and their replies.
 fn of_lines(
     trial: &mut Trial,
     case: &Value,

@@ -107,7 +107,7 @@ fn searched<R: Threads + Wait + Sync>(
     }
 }
 
-/// Keeps a searcher of the last commit, and gives its stamp.
+/// Stores a searcher of the last commit, and gives its stamp.
 fn keep(trial: &mut Trial, writer: &Writer, made: &mut Made, step: &Value) {
     only(trial, step, &["do"]);
     let searcher = writer.searcher();
@@ -131,8 +131,8 @@ fn of_last<R: Threads + Wait + Sync>(
     }
 }
 
-/// Gives what a word of these gives, and answers whether it is one. A search is that of the last commit, or of a
-/// searcher that was kept.
+/// Tries a step of one of these words, and returns whether its word is one of them. A search is one of the last commit,
+/// or of a stored searcher.
 pub(crate) fn asked<R: Threads + Wait + Sync>(
     rt: &R,
     trial: &mut Trial,

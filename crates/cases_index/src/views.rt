@@ -55,7 +55,7 @@ fn plan(trial: &mut Trial, writer: &Writer) {
     trial.close();
 }
 
-/// Gives what a word of these gives, and answers whether it is one.
+/// Tries a case of one of these words, and returns whether its word is one of them.
 pub(crate) fn shown(trial: &mut Trial, writer: &Writer, word: &str, step: &Value) -> bool {
     match word {
         "stamp" => trial.give_number(writer.commit_stamp()),

@@ -1,4 +1,4 @@
-// A walk: a new writer, and steps over it, each of which gives something, a refusal too.
+// A walk: a new writer, and steps over it, each of which gives a value or a refusal.
 ghost use Rattle.cases_index.specs.Late.{AllFit};
 
 use crate::changes::changed;
@@ -44,7 +44,7 @@ fn stepped<R: Threads + Wait + Sync>(
     }
 }
 
-/// Gives what each step gives, a refusal too.
+/// Gives what each step gives, which may be a refusal.
 fn walked<R: Threads + Wait + Sync>(
     rt: &R,
     trial: &mut Trial,

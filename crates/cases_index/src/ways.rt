@@ -33,7 +33,7 @@ fn first_other<'a>(given: &'a str, wanted: &str) -> &'a str {
     "too few replies"
 }
 
-/// What was given over an engine, if it isn't what is wanted.
+/// What was given over an engine, if it isn't what was expected.
 fn other(
     alloc: Global,
     over: &str,
@@ -49,7 +49,7 @@ fn other(
     Ok(Some(format!(in alloc; "over {over} gave {other} at {options:?}")?))
 }
 
-/// What a run over an engine gives that it shouldn't, if it does.
+/// The wrong reply of a run over an engine, if it has one.
 fn run<R: AllocGlobal + Threads + Wait + Sync, E: EngineOver<R>>(
     rt: &R,
     over: &str,
@@ -69,7 +69,7 @@ fn run<R: AllocGlobal + Threads + Wait + Sync, E: EngineOver<R>>(
     other(alloc, over, streams.writer.into_inner(), wanted, options)
 }
 
-/// What some way of running a script over segments gives that it shouldn't, if one does: over `S`, and over `O` in one
+/// The wrong reply of the first way of running a script over segments that has one: over `S`, and over `O` in one
 /// thread. Half of the ways run it without its last LF.
 fn difference_over_segments<
     R: AllocGlobal + Threads + Wait + Sync,
@@ -94,7 +94,7 @@ fn difference_over_segments<
     Ok(None)
 }
 
-/// What some way of running a script gives that it shouldn't, if one does.
+/// The wrong reply of the first way of running a script that has one.
 fn difference<
     R: AllocGlobal + Threads + Wait + Sync,
     L: EngineOver<R>,
@@ -110,8 +110,8 @@ fn difference<
     difference_over_segments::<_, S, O>(rt, input, wanted)
 }
 
-/// Gives how many replies a script has, or else what some way of running it gives in place of one: over a list `L`,
-/// over segments `S`, and over segments in one thread `O`.
+/// Gives how many replies a script has, or else the wrong reply of the first way of running it that has one: over a
+/// list `L`, over segments `S`, and over segments in one thread `O`.
 pub(crate) fn give_replies<
     R: AllocGlobal + Threads + Wait + Sync,
     L: EngineOver<R>,

@@ -18,8 +18,8 @@ pub(crate) struct Bench {
     pub(crate) live: Bits,
 }
 
-/// Puts the documents of a list after those that a case has. The stamp of each is that of its place in `stamps`, and
-/// its number and one without these.
+/// Appends the documents of a list to those of a case. The stamp of each is that of its place in `stamps`, and without
+/// these its number plus one.
 fn push_all(
     trial: &mut Trial,
     found: &mut Vec<Stamped<Document>>,
@@ -39,7 +39,7 @@ fn push_all(
     }
 }
 
-/// Puts documents after others, as often as is said beside them.
+/// Appends documents, each as many times as the list says.
 fn push_repeated(
     trial: &mut Trial,
     found: &mut Vec<Stamped<Document>>,
@@ -63,7 +63,8 @@ fn repeated(trial: &mut Trial, schema: &Schema, items: &[Value]) -> Vec<Stamped<
     found
 }
 
-/// What a case has under `repeated`, or else the list under `documents`, at the stamps of its `stamps`.
+/// The documents under `repeated` of a case, or else those of the list under `documents`, at the stamps of its
+/// `stamps`.
 fn documents_of(trial: &mut Trial, schema: &Schema, case: &Value) -> Vec<Stamped<Document>> {
     if let Some(items) = optional_list(trial, case, "repeated") {
         only_in_case(trial, case, &["schema", "merging", "repeated"]);

@@ -1,4 +1,4 @@
-// Cases of what all segments that were made tell together: `answer` and `answer_openings`.
+// Cases of the joined parts of all segments that were made: `answer` and `answer_openings`.
 use crate::bench::Bench;
 use crate::queries::query_of;
 use crate::texts::text_of;
@@ -7,7 +7,7 @@ use fts_model::{Query, Request};
 use serde_json::Value;
 use testing_cases::{Trial, Trouble, give_answer, request_of};
 
-/// Puts what one segment tells of a query after what others told.
+/// Appends the part of one segment for a query.
 fn push_told(
     trial: &mut Trial,
     parts: &mut Vec<Part>,
@@ -25,7 +25,7 @@ fn push_told(
     }
 }
 
-/// Puts what one segment tells of a text after what others told.
+/// Appends the part of one segment for a text.
 fn push_part(
     trial: &mut Trial,
     parts: &mut Vec<Part>,
@@ -38,7 +38,7 @@ fn push_part(
     }
 }
 
-/// What each segment tells.
+/// The part of each segment.
 fn parts_of(trial: &mut Trial, made: &[Bench], text: &str, request: &Request) -> Vec<Part> {
     let mut parts = Vec::new(trial.alloc());
     for bench in made {
@@ -58,7 +58,7 @@ fn asked(trial: &mut Trial, case: &Value, made: &[Bench]) -> Option<Request> {
     }
 }
 
-/// Gives what parts tell together.
+/// Gives the answer of joined parts.
 fn give_joined(trial: &mut Trial, parts: Vec<Part>, request: &Request) {
     match Part::join(trial.alloc(), parts, request) {
         Ok(answer) => give_answer(trial, &answer),
@@ -75,7 +75,7 @@ fn openings_of(parts: &[Part]) -> u64 {
     openings
 }
 
-/// What all segments tell together, or how many blocks are opened for it.
+/// Gives the answer of all segments, or how many blocks are opened for it.
 fn answer(trial: &mut Trial, case: &Value, made: &[Bench], counts: bool) {
     let text = text_of(trial, case, "query");
     let Some(request) = asked(trial, case, made) else {
@@ -89,7 +89,7 @@ fn answer(trial: &mut Trial, case: &Value, made: &[Bench], counts: bool) {
     }
 }
 
-/// Gives what a word of these gives, and answers whether it is one.
+/// Tries a case of one of these words, and returns whether its word is one of them.
 pub(crate) fn given(trial: &mut Trial, word: &str, case: &Value, made: &[Bench]) -> bool {
     match word {
         "answer" => answer(trial, case, made, false),

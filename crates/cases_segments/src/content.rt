@@ -194,7 +194,7 @@ fn alive_stamps(trial: &mut Trial, case: &Value) {
     give_alive(trial, &schema, &ops);
 }
 
-/// Gives what a word of these gives, and answers whether it is one.
+/// Tries a case of one of these words, and returns whether its word is one of them.
 pub(crate) fn given(trial: &mut Trial, word: &str, case: &Value) -> bool {
     match word {
         "document" => document(trial, case),

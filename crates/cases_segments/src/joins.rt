@@ -10,7 +10,7 @@ use fts_pack::bits::Bits;
 use fts_segment::Segment;
 use testing_cases::{Trial, Trouble};
 
-/// Puts a document of a segment after others.
+/// Appends a document of a segment.
 fn push_document(
     trial: &mut Trial,
     found: &mut Vec<Stamped<Document>>,
@@ -38,7 +38,7 @@ fn made_again(trial: &mut Trial, schema: &Schema, segment: &Segment) -> Option<S
     segment_with(trial, false, schema, &documents)
 }
 
-/// Puts a segment of the same documents under a schema after others.
+/// Appends a segment of the same documents under a schema.
 fn push_again(trial: &mut Trial, again: &mut Vec<Segment>, schema: &Schema, segment: &Segment)
     requires { All (λ made. made.schema ≡ schema.now) again.old.items }
     ensures { All (λ made. made.schema ≡ schema.now) again.new.items }
@@ -79,7 +79,7 @@ fn push_source<'a>(
     trial.kept(pushed);
 }
 
-/// The merge of segments of one schema, each with the live bits of the one that was made in its place.
+/// The merge of segments of one schema, each with the live bits of the one from which it was made.
 fn merged(trial: &mut Trial, schema: &Schema, again: &[Segment], made: &[Bench]) -> Option<Merged>
     requires { All (λ made. made.schema ≡ schema.now) again.now }
 {
@@ -112,8 +112,8 @@ fn bench_of(trial: &mut Trial, merged: &Merged) -> Option<Bench> {
     Some(Bench { segment, live })
 }
 
-/// Merges all segments that were made, each with its live bits, and puts the merged one in their place. Gives each of
-/// its documents as its stamp, its source and its number there.
+/// Merges all segments that were made, each with its live bits, and leaves only the merged one. Gives each of its
+/// documents as its stamp, its source and its number there.
 pub(crate) fn join(trial: &mut Trial, made: &mut Vec<Bench>) {
     let Some(merged) = merged_of(trial, made) else {
         return;

@@ -67,7 +67,7 @@ pub(crate) fn postings(trial: &mut Trial, case: &Value, segment: &Segment) {
     }
 }
 
-/// Gives where the term of a list is in the document of a posting.
+/// Gives the positions of the term of a list in the document of a posting.
 fn give_places(trial: &mut Trial, segment: &Segment, list: ListId, posting: usize) {
     trial.open();
     for position in segment.positions(list).get(posting) {
@@ -76,7 +76,7 @@ fn give_places(trial: &mut Trial, segment: &Segment, list: ListId, posting: usiz
     trial.close();
 }
 
-/// Where a term is in the document of each posting, or `null` if there is no list.
+/// The positions of a term in the document of each posting, or `null` if there is no list.
 fn all_positions(trial: &mut Trial, case: &Value, segment: &Segment) {
     let Some(list) = list_of(trial, case, segment) else {
         return trial.give_null();
@@ -88,7 +88,7 @@ fn all_positions(trial: &mut Trial, case: &Value, segment: &Segment) {
     trial.close();
 }
 
-/// Where a term is in the document of a posting, or `null` if there is no list.
+/// The positions of a term in the document of a posting, or `null` if there is no list.
 fn positions(trial: &mut Trial, case: &Value, segment: &Segment) {
     let posting = size(trial, case, "posting");
     match list_of(trial, case, segment) {
@@ -104,7 +104,7 @@ fn kind_of(segment: &Segment, field: usize) -> Option<Kind>
     Some(segment.schema().fields().get(field)?.kind)
 }
 
-/// The numbers of a field, as they are kept, or the ordinals of its keywords, or `null` if it is neither a number
+/// The numbers of a field, as they are stored, or the ordinals of its keywords, or `null` if it is neither a number
 /// field nor a keyword field.
 pub(crate) fn column(trial: &mut Trial, case: &Value, segment: &Segment) {
     let field = size(trial, case, "field");
@@ -143,8 +143,8 @@ fn keyword(trial: &mut Trial, case: &Value, segment: &Segment) {
     }
 }
 
-/// How many different keywords of a field are before a text, and how many aren't after it, or `null` where the field
-/// has no keywords.
+/// How many different keywords of a field are before a text, and how many aren't after it, or `null` if the field has
+/// no keywords.
 fn equal_range(trial: &mut Trial, case: &Value, segment: &Segment) {
     let field = size(trial, case, "field");
     let text = text(trial, case, "text");
@@ -189,7 +189,7 @@ fn copied(trial: &mut Trial, segment: &Segment) {
     }
 }
 
-/// Gives what a word of these gives, and answers whether it is one.
+/// Tries a case of one of these words, and returns whether its word is one of them.
 pub(crate) fn given(trial: &mut Trial, word: &str, case: &Value, segment: &Segment) -> bool {
     match word {
         "postings" => postings(trial, case, segment),

@@ -121,7 +121,7 @@ impl Segments {
     }
 }
 
-/// Gives what a word gives that looks at no segment, and answers whether it is one.
+/// Tries a case that looks at no segment, and returns whether its word is that of one.
 fn without_segments(trial: &mut Trial, word: &str, case: &Value) -> bool {
     texts::given(trial, word, case)
         || schemas::given(trial, word, case)
@@ -130,7 +130,7 @@ fn without_segments(trial: &mut Trial, word: &str, case: &Value) -> bool {
         || numbers::given(trial, word, case)
 }
 
-/// Gives what a word gives of the first segment, and answers whether it is one.
+/// Tries a case of the first segment, and returns whether its word is that of one.
 fn in_segment(trial: &mut Trial, word: &str, case: &Value, bench: &Bench) -> bool {
     lookups::given(trial, word, case, &bench.segment)
         || matches::given(trial, word, case, bench)
@@ -138,7 +138,7 @@ fn in_segment(trial: &mut Trial, word: &str, case: &Value, bench: &Bench) -> boo
         || merges::given(trial, word, case, bench)
 }
 
-/// Gives what a word gives over the segments that were made.
+/// Tries a case over the segments that were made.
 fn in_segments(trial: &mut Trial, word: &str, case: &Value, made: &[Bench]) {
     if collectors::given(trial, word, case, made) {
         return;

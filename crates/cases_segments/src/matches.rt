@@ -45,7 +45,7 @@ fn is_found(trial: &mut Trial, bench: &Bench, query: &Query, doc: usize) -> bool
     trial.kept(matches) == Some(true)
 }
 
-/// The live documents that match, each looked at.
+/// The live documents that match, each of them tested.
 fn scanned(trial: &mut Trial, bench: &Bench, query: &Query) -> Vec<u32> {
     let mut found = Vec::new(trial.alloc());
     for doc in 0..bench.segment.docs() {
@@ -109,8 +109,8 @@ fn give_three(trial: &mut Trial, scan: &[u32], steps: &[u32], stretches: &[u32])
     trial.close_object();
 }
 
-/// Gives the documents that a query finds, or, if `counts` says so, how many they are. Where a scan, a cursor's
-/// steps and its stretches find others, those of all three.
+/// Gives the documents that a query finds, or, if `counts` says so, how many they are. If a scan, a cursor's steps and
+/// its stretches find different ones, gives all three lists.
 fn give_found(trial: &mut Trial, bench: &Bench, query: &Query, counts: bool) {
     let scan = scanned(trial, bench, query);
     let steps = stepped(trial, bench, query);
@@ -132,7 +132,7 @@ fn found(trial: &mut Trial, case: &Value, bench: &Bench, counts: bool) {
     }
 }
 
-/// Gives what a word of these gives, and answers whether it is one.
+/// Tries a case of one of these words, and returns whether its word is one of them.
 pub(crate) fn given(trial: &mut Trial, word: &str, case: &Value, bench: &Bench) -> bool {
     match word {
         "found" => found(trial, case, bench, false),

@@ -13,7 +13,7 @@ use fts_segment::Segment;
 use serde_json::Value;
 use testing_cases::{Trial, Trouble, list, member, number, numbers, only, op_of, size};
 
-/// Puts the operation of an object `{"stamp":STAMP,"op":OPERATION}` after others.
+/// Appends the operation of an object `{"stamp":STAMP,"op":OPERATION}`.
 fn push_op(trial: &mut Trial, ops: &mut Vec<Stamped<Op>>, schema: &Schema, item: &Value) {
     only(trial, item, &["stamp", "op"]);
     let stamp = number(trial, item, "stamp");
@@ -45,7 +45,7 @@ fn give_live(trial: &mut Trial, live: &Bits) {
     trial.close();
 }
 
-/// The documents that are live after operations. The segment's own bits stay.
+/// The documents that are live after operations. The segment's own bits don't change.
 fn struck(trial: &mut Trial, case: &Value, bench: &Bench) {
     if bench.live.len() != bench.segment.docs() {
         return trial.fail(Trouble::Impossible("not one bit a document"));
@@ -118,7 +118,7 @@ fn few(trial: &mut Trial, case: &Value, name: &'static str) -> u32
     number as u32
 }
 
-/// The sizes of segments of this many documents, of which this many are live.
+/// The sizes of segments: how many documents each has, and how many of these are live.
 fn segment_sizes(trial: &mut Trial, case: &Value) -> Vec<SegmentSize> {
     let docs = numbers(trial, case, "docs");
     let live = numbers(trial, case, "live");
@@ -166,7 +166,7 @@ fn give_candidate(trial: &mut Trial, candidate: &[usize]) {
     trial.close();
 }
 
-/// Gives what a word of these gives, and answers whether it is one.
+/// Tries a case of one of these words, and returns whether its word is one of them.
 pub(crate) fn given(trial: &mut Trial, word: &str, case: &Value, bench: &Bench) -> bool {
     if word == "strike" {
         struck(trial, case, bench);

@@ -26,7 +26,7 @@ fn block(trial: &mut Trial, case: &Value) {
     }
 }
 
-/// Opens what is told of packed numbers: their width, and then the words in which they lie.
+/// Begins the object that shows packed numbers: their width, and then the words that hold them.
 fn open_words(trial: &mut Trial, width: u32) {
     trial.open_object();
     trial.name("width");
@@ -34,7 +34,7 @@ fn open_words(trial: &mut Trial, width: u32) {
     trial.name("words");
 }
 
-/// The width of a block, and the words in which its numbers lie.
+/// The width of a block, and the words that hold its numbers.
 fn block_words(trial: &mut Trial, case: &Value) {
     if let Some(block) = packed(trial, case) {
         open_words(trial, block.width());
@@ -85,7 +85,7 @@ fn built(trial: &mut Trial, case: &Value) -> Option<Column> {
     trial.kept(column)
 }
 
-/// The width of a column, and the words in which its values lie.
+/// The width of a column, and the words that hold its values.
 fn column_words(trial: &mut Trial, case: &Value) {
     if let Some(column) = built(trial, case) {
         open_words(trial, column.width());
@@ -135,7 +135,7 @@ pub(crate) fn all_bits(trial: &mut Trial, len: usize, all: bool) -> Option<Bits>
     trial.kept(bits)
 }
 
-/// Sets or clears bits. One that isn't there is told by `lack`.
+/// Sets or clears bits. `lack` is the message for one that isn't there.
 pub(crate) fn turn(
     trial: &mut Trial,
     bits: &mut Bits,
@@ -182,7 +182,7 @@ fn give_bits(trial: &mut Trial, bits: &Bits) {
     trial.close_object();
 }
 
-/// The place of a signed number among the numbers from 0 on, and what is at that place.
+/// The place of a signed number in the order of 64-bit numbers, and the number at that place.
 fn signed(trial: &mut Trial, case: &Value) {
     match member(trial, case, "number").and_then(Value::as_i64) {
         Some(number) => {
@@ -196,7 +196,7 @@ fn signed(trial: &mut Trial, case: &Value) {
     }
 }
 
-/// Gives what a word of these gives, and answers whether it is one.
+/// Tries a case of one of these words, and returns whether its word is one of them.
 pub(crate) fn given(trial: &mut Trial, word: &str, case: &Value) -> bool {
     match word {
         "block" => block(trial, case),

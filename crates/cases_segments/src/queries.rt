@@ -78,7 +78,7 @@ fn parsed(trial: &mut Trial, word: &str, case: &Value) {
     }
 }
 
-/// Puts the offset and the token of a pair after others.
+/// Appends the offset and the token of a pair.
 fn push_member(trial: &mut Trial, pattern: &mut Vec<(u32, Text)>, pair: &Value) {
     let offset = pair.get(0usize).and_then(Value::as_u64);
     let token = pair.get(1usize).and_then(Value::as_str);
@@ -119,14 +119,14 @@ fn give_count(trial: &mut Trial, schema: &Schema, case: &Value, query: &Query) {
     }
 }
 
-/// Gives how many documents of a case have tokens at offsets from some one place of their first field.
+/// Gives how many documents of a case have tokens at offsets from some position of their first field.
 fn give_pattern(trial: &mut Trial, schema: &Schema, case: &Value) {
     let items = nonempty(trial, case, "pattern");
     let query = phrase_of(trial, items);
     give_count(trial, schema, case, &query);
 }
 
-/// How many documents have tokens at offsets from some one place of their first field.
+/// How many documents have tokens at offsets from some position of their first field.
 fn with_pattern(trial: &mut Trial, case: &Value) {
     if let Some(schema) = schema_of(trial, case) {
         give_pattern(trial, &schema, case);
@@ -143,7 +143,7 @@ fn request(trial: &mut Trial, case: &Value) {
     }
 }
 
-/// Gives what a word of these gives, and answers whether it is one.
+/// Tries a case of one of these words, and returns whether its word is one of them.
 pub(crate) fn given(trial: &mut Trial, word: &str, case: &Value) -> bool {
     match word {
         "parse" | "scan" => parsed(trial, word, case),

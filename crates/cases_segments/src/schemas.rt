@@ -72,7 +72,7 @@ fn field(trial: &mut Trial, case: &Value) {
     }
 }
 
-/// Gives what a word of these gives, and answers whether it is one.
+/// Tries a case of one of these words, and returns whether its word is one of them.
 pub(crate) fn given(trial: &mut Trial, word: &str, case: &Value) -> bool {
     match word {
         "schema" => schema(trial, case),

@@ -3,7 +3,7 @@ use fts_text::{Tokens, fold_into};
 use serde_json::Value;
 use testing_cases::{Trial, nonempty, number, only, text};
 
-/// Puts a text after others, this many times.
+/// Appends a text, this many times.
 pub(crate) fn push_times(trial: &mut Trial, out: &mut String, text: &str, times: u64) {
     for _ in 0..times {
         let pushed = out.push_str(text);
@@ -11,7 +11,7 @@ pub(crate) fn push_times(trial: &mut Trial, out: &mut String, text: &str, times:
     }
 }
 
-/// Puts a piece of a text after others: a text, or one that stands this many times.
+/// Appends a piece of a text: a text, or one that is repeated this many times.
 fn push_piece(trial: &mut Trial, out: &mut String, piece: &Value) {
     if let Some(piece) = piece.as_str() {
         return push_times(trial, out, piece, 1);
@@ -61,7 +61,7 @@ fn tokens(trial: &mut Trial, case: &Value) {
     listed(trial, text.as_str());
 }
 
-/// Each token of a text as its position and the bytes where its span begins and ends.
+/// Each token of a text as its position and the bytes at which its span begins and ends.
 fn placed(trial: &mut Trial, text: &str) {
     trial.open();
     for token in Tokens::new(text) {
@@ -85,7 +85,7 @@ fn folded(trial: &mut Trial, case: &Value) {
     trial.give_text(out.as_str());
 }
 
-/// Gives what a word of these gives, and answers whether it is one.
+/// Tries a case of one of these words, and returns whether its word is one of them.
 pub(crate) fn given(trial: &mut Trial, word: &str, case: &Value) -> bool {
     match word {
         "tokens" => tokens(trial, case),

@@ -6,7 +6,7 @@ use fts_cursor::{Cursor, DocSet};
 use serde_json::Value;
 use testing_cases::{Trial, Trouble, has, nonempty, number, only};
 
-/// How many documents remain, up to this many, one after the other.
+/// Counts the documents that remain one after the other, up to this many.
 fn counted(cursor: &mut Cursor, most: u64) -> u64 {
     let mut count = 0u64;
     for _ in 0..most {
@@ -52,7 +52,7 @@ fn count(trial: &mut Trial, cursor: &mut Cursor, step: &Value) {
     trial.give_number(counted(cursor, most));
 }
 
-/// Gives what the steps of a walk give, each that gives something.
+/// Gives what the steps of a walk give, except for steps that give nothing.
 fn walk(trial: &mut Trial, cursor: &mut Cursor, steps: &[Value]) {
     trial.open();
     for json in steps {
@@ -76,7 +76,7 @@ fn walked(trial: &mut Trial, case: &Value, bench: &Bench) {
     }
 }
 
-/// Gives what a word of these gives, and answers whether it is one.
+/// Tries a case of one of these words, and returns whether its word is one of them.
 pub(crate) fn given(trial: &mut Trial, word: &str, case: &Value, bench: &Bench) -> bool {
     match word {
         "walk" => walked(trial, case, bench),

@@ -1,3 +1,3 @@
-//! What a search answers from one segment, and how such parts are joined.
+//! The part of one segment in a search's answer, and how parts are joined.
 
 pub use fts_collect::{Part, collect};

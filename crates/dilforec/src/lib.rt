@@ -29,8 +29,8 @@
 //! - [`text`], [`pack`], [`segment`], [`cursor`], [`collect`], [`merge`] and [`pool`]: the parts, for those who build
 //!   on them.
 //!
-//! `CALLING.md` beside this crate has a whole program. Nothing is defined here: each item, with its contract, is that
-//! of the crate which it is handed on from, and `specs/` hands on the definitions that the contracts cite.
+//! `CALLING.md` beside this crate has a whole program. Nothing is defined here: each item, with its contract, is handed
+//! on from another crate, and `specs/` hands on the definitions that the contracts cite.
 #![tactic(auto)]
 
 pub mod collect;

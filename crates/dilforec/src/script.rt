@@ -1,5 +1,4 @@
-//! Scripts: lines of JSON in, lines of replies out, over any engine that keeps an index, and the program's command
-//! line.
+//! Scripts: lines of JSON in, lines of replies out, over any engine, and the program's command line.
 
 pub use fts_base::{GhostBytes, GhostCount};
 pub use fts_cli::args::{ArgFault, Asked, args};

@@ -55,7 +55,7 @@ fn with_one(mut lane: Lane, op: Op) -> Result<LaneEnd, Refusal>
     }
 }
 
-/// A round of two lanes, each of which takes one operation, in a thread of its own.
+/// A round of two lanes, each of which takes one operation in a thread of its own.
 fn two_lanes<R: Threads + Sync>(
     rt: &R,
     alloc: Global,
@@ -95,7 +95,7 @@ fn commit_two<R: Threads + Wait + Sync>(
     Ok(committed.stamp)
 }
 
-/// How many of the documents alive a text finds.
+/// How many of the documents that are alive a text finds.
 fn count<R: Threads + Wait + Sync>(
     rt: &R,
     alloc: Global,
@@ -111,7 +111,7 @@ fn count<R: Threads + Wait + Sync>(
     Ok(found.answer.count)
 }
 
-/// Merges two segments in a thread of its own, while this one counts. The merge may end in this writer, also later.
+/// Merges two segments in another thread, while this one counts. The merge may still end later in this writer.
 fn merge_beside<R: Threads + Wait + Sync>(
     rt: &R,
     alloc: Global,
@@ -149,7 +149,7 @@ fn books<R: Threads + Wait + Sync>(
     Ok((all, pearls, writer.segments(alloc)?.len()))
 }
 
-/// The same in a writer of its own, which is closed however it went.
+/// Counts the books in a writer of its own, which is closed whatever happens.
 fn counted<R: Threads + Wait + Sync>(rt: &R, alloc: Global) -> Result<(u64, u64, usize), Refusal> {
     let schema = titles(alloc)?;
     let mut writer = Writer::new(rt, alloc, &schema)?;

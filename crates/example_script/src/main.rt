@@ -10,7 +10,7 @@ use dilforec::script::{EngineOver, Fault, ListEngine, Options, Streams, run_scri
 use memory::{Lines, Replies};
 use std::process::ExitCode;
 
-/// Runs a script that is a text, and gives its replies.
+/// Runs a script that is a text, and returns its replies.
 fn replies_to<R: AllocGlobal + Sync, E: EngineOver<R>>(rt: &R, text: &str) -> Result<Vec<u8>, Fault>
     ensures { IfOk result (λ replies. replies.items ≡ output text.now) }
 {

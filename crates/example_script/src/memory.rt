@@ -1,4 +1,4 @@
-// Streams in memory: what is read is a text, and what is written is kept.
+// Streams in memory: a text is read, and what is written is collected.
 ghost use Rattle.std.specs.Prelude.{◌≡◌, [], Some};
 
 use dilforec::script::{GhostBytes, GhostCount, ScriptIn, ScriptOut, StreamError};
@@ -14,7 +14,7 @@ pub struct Lines<'a> {
 }
 
 impl<'a> Lines<'a> {
-    /// Nothing was read yet.
+    /// A reader of a text, before its first byte.
     pub fn over(text: &'a [u8]) -> Lines<'a>
         ensures rest { result.rest.now ≡ text.now }
         ensures given { result.given.bytes ≡ [] }
@@ -64,7 +64,7 @@ pub struct Replies {
 }
 
 impl Replies {
-    /// Nothing was written yet.
+    /// A writer that has taken no byte yet.
     pub fn new(alloc: Global) -> Replies
         ensures bytes { result.bytes.items ≡ [] }
         ensures failed { result.failed ≡ 0 }

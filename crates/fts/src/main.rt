@@ -15,7 +15,7 @@ use std::io::{Eprint, IsTerminal, Stdin, Stdout};
 use std::process::ExitCode;
 use std::{env, io};
 
-/// What a run says on a terminal before it reads.
+/// The message on a terminal before the program reads.
 const WAITS: &str =
     "fts: waiting for the lines of a script; Ctrl-D ends it, and 'fts run --help' shows one";
 
@@ -33,13 +33,13 @@ fn asked(rt: &(impl Env + AllocGlobal)) -> Result<Asked, ArgFault> {
 
 /// Runs the script over the standard streams, which buffer nothing: the run reads and writes in blocks.
 ///
-/// The exit status, and the outcome that it stands for.
+/// Returns the exit status, and the outcome that it reports.
 fn run_standard<R: AllocGlobal + Sync + Eprint, E: EngineOver<R>>(
     rt: &R,
     streams: &mut Streams<Plain<Stdin>, Plain<Stdout>>,
     options: Options,
 ) -> (u8, Result<(), Fault>)
-    // 0 where the run came to its end, 3 if memory runs out, 4 for a stream that failed, 5 for stamps that are used up
+    // 0 if the run came to its end, 3 if memory ran out, 4 if a stream failed, 5 if the stamps are used up
     ensures status { result.0 ≡ run_status_of result.1 }
 
     ensures ok { result.0 ≡ 0 → WritesOutput streams.old streams.new }

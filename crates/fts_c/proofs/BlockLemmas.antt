@@ -1,4 +1,4 @@
--- One line more of a block, the first that isn't done, and the end.
+-- The next line of a block, the first that isn't done, and the end.
 use Rattle.std.proofs.Common.{◌≡◌, ◌≢◌, ◌+◌, ◌<◌, ◌≤◌, ℕ, ℤ, List, [], ◌∷◌, ◌++◌, length, take, drop, get_or, refl, sym, ap, subst, ◌∙◌, append_assoc}
 use Rattle.std.proofs.Common.{append-nil, arith, string_bytes}
 use Rattle.std.proofs.lemmas.List.{length-drop, take_more, drop_more}
@@ -33,7 +33,7 @@ next_of xs n y ys e =
     let at : get_or xs n [] ≡ y = cc in
     record { within = within; at = at; left = cc; taken = take_more xs n [] within ∙ ap (λ v. take n xs ++ v ∷ []) at }
 
--- that many lines of a block were done, and this is left of it
+-- `done` lines of a block were done, and this is left of it
 pub record Reached (old : State) (block rest : List ℕ) (now : State) (done : ℕ) : Type 0 where
   pub left : drop done (lines_of block) ≡ lines_of rest
   pub room : done + length rest ≤ length block

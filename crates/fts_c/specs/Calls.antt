@@ -1,4 +1,4 @@
--- What a call leaves of a session that is open, and the code that it answers.
+-- What a call leaves of an open session, and the code that it returns.
 use Rattle.std.specs.Prelude.{◌≡◌, ◌≢◌, ℕ, ℤ, false, nat_le, if◌then◌else◌, Option, MatchOption}
 use Rattle.std.specs.Prelude.{List, [], ◌++◌, length, drop, string_bytes}
 use Rattle.fts_script.specs.session.Finds.{reply_to_search}
@@ -10,8 +10,7 @@ use Rattle.fts_c.specs.declared.state.Call.TheVariants as calls
 use Rattle.fts_c.specs.declared.state.State.{State}
 use Rattle.fts_c.specs.Codes.{IsCodeOf, IsOfTried}
 
--- A session was put into a place, without a reply: that is the state which the place holds now. If memory was
--- refused, the place is as it was.
+-- A session without a reply was put into a place, which holds it now. If memory was refused, the place is as it was.
 pub record Opens {P : Type 0} (session : SessionValue) (held : Option State) (old new : P) (code : ℤ) : Type 0 where
   pub code_is : IsOfTried code
   pub ok : code ≡ OK → MatchOption held ⊥ (λ s. (s.session ≡ session) × (string_bytes s.reply ≡ []))
@@ -27,7 +26,7 @@ pub record Executes (old : State) (line : List ℕ) (new : State) (code : ℤ) :
   pub none : code ≢ OK → string_bytes new.reply ≡ []
   pub not_blank : code ≡ MEMORY → is_blank line ≡ false
 
--- a reply, which a blank line has none of
+-- a reply, and none for a blank line
 abbrev pub unless_blank : List ℕ → List ℕ → List ℕ
 unless_blank line reply = if is_blank line then [] else reply
 
@@ -45,11 +44,11 @@ abbrev pub Answers : Call → State → List ℕ → State → ℤ → Type 0
 Answers calls.Execute old line new code = Executes old line new code
 Answers calls.Search old line new code = Searches old line new code
 
--- a buffer after a copy: the bytes are at its beginning if there is room for them, and else it is as it was
+-- a buffer after a copy: the bytes are at its beginning if they fit, otherwise it is as it was
 abbrev pub copied : List ℕ → List ℕ → List ℕ
 copied bytes out = if nat_le (length bytes) (length out) then bytes ++ drop (length bytes) out else out
 
--- The size of the last reply was told, and its bytes were copied if there was room for them. Nothing changed.
+-- The size of the last reply was returned, and its bytes were copied if they fit. Nothing changed.
 pub record TellsReply (old new : State) (out after : List ℕ) (told : ℕ) : Type 0 where
   pub same : new ≡ old
   pub size : told ≡ length (string_bytes old.reply)

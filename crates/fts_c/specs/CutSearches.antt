@@ -1,4 +1,4 @@
--- What a call of a search leaves whose reply shows some fields alone.
+-- What a call of a search leaves if its reply shows only some fields.
 use Rattle.std.specs.Prelude.{◌≡◌, ◌≢◌, ℤ, ℕ, false, List, [], string_bytes}
 use Rattle.fts_script.specs.session.CutSearches.{reply_to_cut_search}
 use Rattle.fts_script.specs.session.Text.{is_blank}

@@ -10,17 +10,17 @@ pub record LimitsMerges (old new : State) (code : ℤ) : Type 0 where
   pub code_is : (code ≡ OK) ⊎ (code ≡ NOTHING)
   pub nothing : (code ≡ NOTHING) ↔ (old.session.index ≡ None)
 
--- the codes of a merge that wasn't begun
+-- the codes of a merge that wasn't started
 abbrev pub NotBegun : ℤ → Type 0
 NotBegun code = (code ≡ NOTHING) ⊎ (code ≡ MEMORY)
 
--- A merge of an index was begun in a place, which holds it now. At another code the place is as it was.
+-- A merge of an index was started in a place, which holds it now. At another code the place is as it was.
 pub record Begins {P : Type 0} (index : Option Index) (held : Option State) (old new : P) (code : ℤ) : Type 0 where
   pub ok : code ≡ OK → (index ≢ None) × MatchOption held ⊥ (λ s. s.merge ≢ None)
   pub code_is : code ≢ OK → NotBegun code
   pub same : code ≢ OK → new ≡ old
 
--- A merge of an open place was begun in another, and the first is as it was. If it is closed, so it stays.
+-- A merge of an open place was started in another, and the first is as it was. If the first is closed, it stays closed.
 abbrev pub BeginsMerge : {P : Type 0} → Option State → Option State → Option State → P → P → ℤ → Type 0
 BeginsMerge None new held slot after code = (new ≡ None) × (after ≡ slot) × (code ≡ CLOSED)
 BeginsMerge (Some old) new held slot after code = (new ≡ Some old) × Begins old.session.index held slot after code
@@ -32,8 +32,8 @@ pub record RunsMerge (old new : State) (code : ℤ) : Type 0 where
   pub nothing : (code ≡ NOTHING) ↔ (old.merge ≡ None)
   pub session : new.session ≡ old.session
 
--- the merge that was begun last was ended, or not: then there was none that was run, or memory was refused, or what it
--- joined is gone
+-- the merge that was started last was ended, or not: then there was none that was run, or memory was refused, or what
+-- it joined is gone
 pub record EndsMerge (old new : State) (code : ℤ) : Type 0 where
   pub same : new ≡ old
   pub code_is : (code ≡ OK) ⊎ (code ≡ NOTHING) ⊎ (code ≡ MEMORY) ⊎ (code ≡ GONE)

@@ -10,13 +10,13 @@ abbrev pub IfOpen : Option State → Option State → ℤ → (State → State �
 IfOpen None new code Did = (new ≡ None) × (code ≡ CLOSED)
 IfOpen (Some old) new code Did = MatchOption new ⊥ (λ s. Did old s)
 
--- The last reply of an open place was told. A closed one has none, and nothing was copied.
+-- The last reply of an open place was returned. A closed place has none, and nothing was copied.
 abbrev pub TellsIfOpen : Option State → Option State → List ℕ → List ℕ → ℕ → Type 0
 TellsIfOpen None new out after told = (new ≡ None) × (after ≡ out) × (told ≡ NO_REPLY)
 TellsIfOpen (Some old) new out after told = MatchOption new ⊥ (λ s. TellsReply old s out after told)
 
 -- A searcher of the last commit of an open place was opened in another, and the first is as it was. If the first is
--- closed, so it stays, and the other is as it was.
+-- closed, it stays closed, and the other is as it was.
 abbrev pub OpensSearcher : {P : Type 0} → Option State → Option State → Option State → P → P → ℤ → Type 0
 OpensSearcher None new held slot after code = (new ≡ None) × (after ≡ slot) × (code ≡ CLOSED)
 OpensSearcher (Some old) new held slot after code =

@@ -1,6 +1,6 @@
-// What a call answers to C, as `dilforec.h` names it.
+// The codes that calls return to C, as `dilforec.h` names them.
 
-/// It was done.
+/// The call did what it is for.
 pub const OK: i32 = 0;
 
 /// Memory was refused.
@@ -9,22 +9,22 @@ pub const MEMORY: i32 = 1;
 /// The line has more than 4,194,304 bytes.
 pub const LINE_TOO_LONG: i32 = 2;
 
-/// There were 2^61 lines.
+/// There were 2^61 lines, and no further one is taken.
 pub const USED_UP: i32 = 3;
 
 /// The handle is closed.
 pub const CLOSED: i32 = 4;
 
-/// There is nothing to do it to.
+/// There is nothing that the call could work on.
 pub const NOTHING: i32 = 5;
 
-/// What a merge made can't be taken in any more.
+/// What a merge made can't replace its sources any more.
 pub const GONE: i32 = 6;
 
-/// The limit of merges that is none.
+/// The limit of merges that means none.
 pub const NO_LIMIT: u32 = u32::MAX;
 
-/// The length of a reply, of a closed handle.
+/// The length of a reply of a closed handle.
 pub const NO_REPLY: usize = usize::MAX;
 
 /// The byte of a query that isn't refused as `Syntax`.

@@ -2,12 +2,12 @@
 //!
 //! A handle is a place for a pointer, which one call at a time may use; it is closed while it is null. A line of a
 //! script goes in, and its reply comes out, to the byte that the script's definition says. A searcher is a handle too:
-//! a session of its own over the last commit of another, which another thread may have, and which takes searches alone.
+//! a session of its own over the last commit of another, which another thread may have, and which takes only searches.
 //! So is a merge, which another thread runs while its index goes on.
-//! What a caller owes is a handle that was opened or is null, and true lengths. What each call leaves, and which code
-//! it answers, is a definition of `specs/Calls.antt`, `Blocks`, `Pairs`, `CutSearches` or `Merges`, for a place that is
-//! open, and of `specs/Open.antt` or `StatsOf` for one that may be closed. A call that needs no handle tells where a query can't
-//! be read any further (`specs/Syntaxes.antt`).
+//! A caller owes a handle that was opened or is null, and true lengths. What each call leaves, and which code it
+//! returns, is a definition of `specs/Calls.antt`, `Blocks`, `Pairs`, `CutSearches` or `Merges`, for a place that is
+//! open, and of `specs/Open.antt` or `StatsOf` for one that may be closed. One call needs no handle: it returns the
+//! byte at which a query can't be read any further (`specs/Syntaxes.antt`).
 #![tactic(auto)]
 
 ghost use Rattle.std.specs.Prelude.{◌≡◌, Option, Some, None, IfOk, MatchOption, MatchResult};
@@ -86,7 +86,7 @@ impl Slot {
         }
     }
 
-    /// The handle that is there, or the place again if it is null.
+    /// The handle that is there, or the place itself if it is null.
     fn handle(self) -> Result<Handle, Slot>
         ensures { MatchResult result
             (λ handle. self.state ≡ Some handle.state)
@@ -135,7 +135,8 @@ fn unwrap(handle: Handle) -> Box<State, Global>
     handle.into_raw().into_box()
 }
 
-/// Segments of up to 65,536 documents, and merges after commits, so that many small commits leave few segments.
+/// The options of a session: segments of up to 65,536 documents, and merges after commits, so that many small commits
+/// leave few segments.
 fn options() -> Options {
     Options {
         workers: 1,
@@ -144,7 +145,7 @@ fn options() -> Options {
     }
 }
 
-/// Puts a session into a place, or answers that memory was refused.
+/// Puts a session into a place, or returns that memory was refused.
 fn open(slot: &mut Slot, alloc: Global, session: Session<LocalEngine>) -> i32
     ensures { Opens session slot.new.state slot.old slot.new result }
 {
@@ -192,7 +193,7 @@ pub extern "C" fn dilforec_open(slot: &mut Slot, alloc: Global) -> i32
     open(slot, alloc, Session::new(options()))
 }
 
-/// Answers a line as its call does.
+/// Answers a line, as the call `call` does.
 fn answer(slot: &mut Slot, call: Call, alloc: Global, line: &[u8]) -> i32
     ensures { IfOpen slot.old.state slot.new.state result (λ old new. Answers call old line.now new result) }
 {
@@ -218,8 +219,8 @@ pub extern "C" fn dilforec_execute(slot: &mut Slot, alloc: Global, line: &[u8]) 
 }
 
 /// Executes the lines of a block, each ended by its LF or by the block's end, up to the first for which
-/// `dilforec_execute` has another code than 0, and answers that code. The reply is theirs, one after the other, and
-/// `done` tells how many lines were done.
+/// `dilforec_execute` has another code than 0, and returns that code. The reply is their replies, one after the other,
+/// and `done` is set to the number of lines that were done.
 #[unsafe(no_mangle)]
 pub extern "C" fn dilforec_execute_lines(
     slot: &mut Slot,
@@ -264,7 +265,7 @@ pub extern "C" fn dilforec_replace(slot: &mut Slot, alloc: Global, delete: &[u8]
     }
 }
 
-/// Answers a search whose reply has some fields of its documents alone.
+/// Answers a search whose reply shows only some fields of its documents.
 fn search_fields(slot: &mut Slot, alloc: Global, line: &[u8], names: &[u8]) -> i32
     ensures { IfOpen slot.old.state slot.new.state result
         (λ old new. SearchesFields old line.now names.now new result) }
@@ -296,7 +297,7 @@ pub extern "C" fn dilforec_execute_fields(
     search_fields(slot, alloc, line, names)
 }
 
-/// Copies bytes if there is room for them.
+/// Copies bytes if they fit.
 fn copy(bytes: &[u8], out: &mut [u8])
     ensures { out.new ≡ copied bytes.now out.old }
 {
@@ -306,7 +307,7 @@ fn copy(bytes: &[u8], out: &mut [u8])
     }
 }
 
-/// Tells the size of the last reply, and copies it if there is room.
+/// Returns the size of the last reply, and copies it if it fits.
 fn reply(slot: &mut Slot, alloc: Global, out: &mut [u8]) -> usize
     ensures { TellsIfOpen slot.old.state slot.new.state out.old out.new result }
 {
@@ -322,7 +323,7 @@ fn reply(slot: &mut Slot, alloc: Global, out: &mut [u8]) -> usize
     }
 }
 
-/// How long the last reply is, or the greatest `usize` if the place is closed. It is copied if there is room.
+/// The size of the last reply, or the greatest `usize` if the place is closed. The reply is copied if it fits.
 #[unsafe(no_mangle)]
 pub extern "C" fn dilforec_reply(slot: &mut Slot, alloc: Global, out: &mut [u8]) -> usize
     ensures { TellsIfOpen slot.old.state slot.new.state out.old out.new result }
@@ -330,7 +331,7 @@ pub extern "C" fn dilforec_reply(slot: &mut Slot, alloc: Global, out: &mut [u8])
     reply(slot, alloc, out)
 }
 
-/// Tells how large the index is.
+/// Returns the size of the index.
 fn tell_stats(slot: &mut Slot, alloc: Global, out: &mut Stats) -> i32
     ensures { TellsStats slot.old.state slot.new.state out.old out.new result }
 {
@@ -345,7 +346,7 @@ fn tell_stats(slot: &mut Slot, alloc: Global, out: &mut Stats) -> i32
     }
 }
 
-/// Tells how large the index is at its last commit: 0, or 4 if the place is closed.
+/// Returns the size of the index at its last commit: 0, or 4 if the place is closed.
 #[unsafe(no_mangle)]
 pub extern "C" fn dilforec_stats(slot: &mut Slot, alloc: Global, out: &mut Stats) -> i32
     ensures { TellsStats slot.old.state slot.new.state out.old out.new result }
@@ -366,8 +367,8 @@ fn syntax_of(alloc: Global, query: &[u8]) -> Result<usize, AllocError>
     }
 }
 
-/// Tells the byte at which a query can't be read any further, if it is refused as `Syntax`, and else the greatest
-/// `usize`: 0, or 1 if memory was refused. The schema doesn't matter.
+/// Returns the byte at which a query can't be read any further, if it is refused as `Syntax`, and otherwise the
+/// greatest `usize`: 0, or 1 if memory was refused. The schema doesn't matter.
 #[unsafe(no_mangle)]
 pub extern "C" fn dilforec_syntax_at(alloc: Global, query: &[u8], at: &mut usize) -> i32
     ensures { TellsSyntaxAt query.now at.old at.new result }
@@ -382,8 +383,8 @@ pub extern "C" fn dilforec_syntax_at(alloc: Global, query: &[u8], at: &mut usize
 }
 
 /// From now on, commits merge no segment of more live documents than a limit, and none by itself; without one, they
-/// merge whatever is due. What is left waits for merges that are begun. 0, 4 if the place is closed, or 5 if there is no
-/// schema yet.
+/// merge whatever is due. The rest waits for merges that are started beside commits. 0, 4 if the place is closed, or 5
+/// if there is no schema yet.
 #[unsafe(no_mangle)]
 pub extern "C" fn dilforec_limit_merges(slot: &mut Slot, alloc: Global, limit: u32) -> i32
     ensures { IfOpen slot.old.state slot.new.state result
@@ -401,8 +402,8 @@ pub extern "C" fn dilforec_limit_merges(slot: &mut Slot, alloc: Global, limit: u
     }
 }
 
-/// Begins a merge of what is due next, in a place of its own, and forgets the one that was begun before: 0, 1 if memory
-/// was refused, 4 if the index is closed, or 5 if nothing is due.
+/// Starts a merge of what is due next, in a place of its own, and forgets the one that was started before: 0, 1 if
+/// memory was refused, 4 if the index is closed, or 5 if nothing is due.
 #[unsafe(no_mangle)]
 pub extern "C" fn dilforec_merge_begin(index: &mut Slot, slot: &mut Slot, alloc: Global) -> i32
     ensures { BeginsMerge index.old.state index.new.state slot.new.state slot.old slot.new result }
@@ -424,8 +425,8 @@ pub extern "C" fn dilforec_merge_begin(index: &mut Slot, slot: &mut Slot, alloc:
     }
 }
 
-/// Runs a merge, in any thread, while its index goes on: 0, 1 if memory was refused, or 4 if the place is closed. Again,
-/// it does nothing.
+/// Runs a merge, in any thread, while its index goes on: 0, 1 if memory was refused, or 4 if the place is closed. If it
+/// was run before, it does nothing.
 #[unsafe(no_mangle)]
 pub extern "C" fn dilforec_merge_run(merge: &mut Slot, alloc: Global) -> i32
     ensures { IfOpen merge.old.state merge.new.state result
@@ -442,9 +443,9 @@ pub extern "C" fn dilforec_merge_run(merge: &mut Slot, alloc: Global) -> i32
     }
 }
 
-/// Ends the merge of an index that was begun last: what it made takes the place of what it joined, with what was deleted
-/// meanwhile. 0, 1 if memory was refused, so that it may be ended again, 4 if the index is closed, 5 if there is none or
-/// it wasn't run, or 6 if what it joined was merged meanwhile: then it is given up.
+/// Ends the merge of an index that was started last: what it made takes the place of what it joined, without the
+/// documents deleted meanwhile. 0, 1 if memory was refused, so that it may be ended again, 4 if the index is closed, 5
+/// if there is none or it wasn't run, or 6 if what it joined was merged meanwhile: then it is given up.
 #[unsafe(no_mangle)]
 pub extern "C" fn dilforec_merge_end(index: &mut Slot, alloc: Global) -> i32
     ensures { IfOpen index.old.state index.new.state result
@@ -461,7 +462,7 @@ pub extern "C" fn dilforec_merge_end(index: &mut Slot, alloc: Global) -> i32
     }
 }
 
-/// Lets a merge go, and leaves its place closed: 0, or 4 if it was closed before. What it made stays to be ended.
+/// Drops a merge, and leaves its place closed: 0, or 4 if it was closed before. What it made can still be ended.
 #[unsafe(no_mangle)]
 pub extern "C" fn dilforec_merge_close(merge: &mut Slot, alloc: Global) -> i32
     ensures { Closes merge.old.state merge.new.state result }
@@ -490,7 +491,7 @@ pub extern "C" fn dilforec_close(slot: &mut Slot, alloc: Global) -> i32
     close(slot, alloc)
 }
 
-/// Opens a searcher of the last commit of what a place holds in another.
+/// Opens, in a place, a searcher of the last commit of what another holds.
 fn open_searcher(of: &mut Slot, slot: &mut Slot, alloc: Global) -> i32
     ensures { OpensSearcher of.old.state of.new.state slot.new.state slot.old slot.new result }
 {
@@ -564,7 +565,7 @@ pub extern "C" fn dilforec_searcher_reply(
     reply(searcher, alloc, out)
 }
 
-/// Tells how large the searcher's commit is, as `dilforec_stats` does.
+/// Returns the size of the searcher's commit, as `dilforec_stats` does.
 #[unsafe(no_mangle)]
 pub extern "C" fn dilforec_searcher_stats(
     searcher: &mut Slot,

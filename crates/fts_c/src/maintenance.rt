@@ -1,4 +1,4 @@
-// How an index is merged, as work that a session hands on to its engine.
+// Limits, beginnings and ends of merges, as maintenance that a session hands on to its engine.
 ghost use Rattle.std.specs.Prelude.{◌≡◌, ◌+◌, ◌^◌, ◌≤◌};
 ghost use Rattle.fts_engine_local.specs.EndedMerges.{Begins, EndsMerge};
 
@@ -6,7 +6,7 @@ use fts_engine_local::{BegunMerge, LocalEngine};
 use fts_model::Refusal;
 use fts_script::session::Maintenance;
 
-/// Limits what commits merge.
+/// Sets the limit of what commits merge.
 #[derive(Drop)]
 pub(crate) struct LimitMerges {
     pub(crate) limit: Option<u32>,
@@ -25,7 +25,7 @@ impl Maintenance<LocalEngine> for LimitMerges {
     }
 }
 
-/// Begins a merge.
+/// Starts a merge.
 #[derive(Drop)]
 pub(crate) struct BeginMerge;
 
@@ -42,7 +42,7 @@ impl Maintenance<LocalEngine> for BeginMerge {
     }
 }
 
-/// Ends the merge that was begun last.
+/// Ends the merge that was started last.
 #[derive(Drop)]
 pub(crate) struct EndMerge;
 

@@ -1,6 +1,6 @@
-//! A box as its pointer, for what C holds.
+//! A box as a pointer, for what C holds.
 //!
-//! A [`RawBox`] owns what its box owned. It has no drop: it is made a box again.
+//! A [`RawBox`] owns what its box owned. It has no drop: it must be made a box again.
 
 ghost use Rattle.std.specs.Prelude.{◌≡◌};
 ghost use Rattle.std_alloc.specs.Box.Ownership.{box_owns};
@@ -20,7 +20,7 @@ impl<T, A: Allocator> Model for RawBox<T, A> {
 }
 
 impl<T: Drop, A: Allocator> RawBox<T, A> {
-    /// The pointer of a box.
+    /// Takes a box apart.
     pub fn of(value: Box<T, A>) -> RawBox<T, A>
         ensures { result.value ≡ value.value }
     {
@@ -28,7 +28,7 @@ impl<T: Drop, A: Allocator> RawBox<T, A> {
         RawBox { at, alloc }
     }
 
-    /// The box again.
+    /// Makes the box again.
     pub fn into_box(self) -> Box<T, A>
         ensures { result.value ≡ self.value }
     {

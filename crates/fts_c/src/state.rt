@@ -16,14 +16,14 @@ use fts_script::LONGEST;
 use fts_script::session::{MOST_LINES, Session, Maintenance, first_line, is_blank};
 use std::alloc::{AllocError, Global};
 
-/// How large an index is that has no schema.
+/// The size of an index that has no schema.
 const EMPTY: Stats = Stats {
     segments: 0,
     documents: 0,
     live: 0,
 };
 
-/// A session over segments, and its last reply; or a merge, beside a session that takes no line.
+/// A session over segments, and its last reply; or a merge, next to a session that takes no line.
 #[derive(Drop)]
 pub struct State {
     pub session: Session<LocalEngine>,
@@ -31,7 +31,7 @@ pub struct State {
     pub merge: Option<BegunMerge>,
 }
 
-/// What is done with a line.
+/// The two ways to answer a line.
 #[derive(Clone, Copy)]
 pub(crate) enum Call {
     Execute,
@@ -49,7 +49,7 @@ fn code_of(tried: Result<(), AllocError>) -> i32
 }
 
 impl State {
-    /// Tells whether a line is tried, or the code of why not.
+    /// Whether a line is tried; if it isn't, the code that says why.
     fn check(&self, line: &[u8]) -> Result<(), i32>
         ensures { MatchResult result
             (λ _. IsTried self.now.session line.now)
@@ -64,7 +64,7 @@ impl State {
         Ok(())
     }
 
-    /// Forgets the last reply.
+    /// Clears the last reply.
     fn forget(&mut self)
         ensures same { self.new.session ≡ self.old.session }
         ensures none { string_bytes self.new.reply ≡ [] }
@@ -72,7 +72,7 @@ impl State {
         self.reply.clear();
     }
 
-    /// Executes a line, and puts its reply after the last.
+    /// Executes a line, and appends its reply to the last.
     fn execute_next(&mut self, alloc: Global, line: &[u8]) -> i32
         ensures { ExecutesNext self.old line.now self.new result }
     {
@@ -91,7 +91,8 @@ impl State {
         self.execute_next(alloc, line)
     }
 
-    /// Executes the lines of a block up to the first that isn't done, and tells its code and how many were done.
+    /// Executes the lines of a block up to the first that isn't done. Returns that line's code, or 0, and how many were
+    /// done.
     pub(crate) fn execute_lines(&mut self, alloc: Global, block: &[u8]) -> (i32, usize)
         ensures { ExecutesLines self.old block.now self.new result.0 result.1 }
     {
@@ -110,7 +111,7 @@ impl State {
         (OK, done)
     }
 
-    /// Tells whether two lines are tried, or the code of why not.
+    /// Whether two lines are tried; if they aren't, the code that says why.
     fn check_two(&self, delete: &[u8], add: &[u8]) -> Result<(), i32>
         ensures { MatchResult result
             (λ _. AreTried self.now.session delete.now add.now)
@@ -171,7 +172,7 @@ impl State {
         code_of(found)
     }
 
-    /// How large the index is.
+    /// The size of the index.
     pub(crate) fn stats(&self) -> Stats
         ensures { AreStatsOf self.now.session.index result }
     {
@@ -181,7 +182,7 @@ impl State {
         }
     }
 
-    /// Has work done on how the index is kept, if there is one.
+    /// Runs maintenance work on the index, if there is one.
     fn maintain<W: Maintenance<LocalEngine> + Drop>(&mut self, work: W) -> Result<W::Done, i32>
         ensures same { self.new ≡ self.old }
         ensures done { MatchResult result (λ _. self.old.session.index ≢ None)
@@ -190,7 +191,7 @@ impl State {
         self.session.maintain(work).ok_or(NOTHING)
     }
 
-    /// Limits what commits merge.
+    /// Sets the limit of what commits merge.
     pub(crate) fn limit_merges(&mut self, limit: Option<u32>) -> i32
         ensures { LimitsMerges self.old self.new result }
     {
@@ -200,8 +201,8 @@ impl State {
         }
     }
 
-    /// Begins a merge, in a state of its own with this session, or tells the code of why not. The state's memory comes
-    /// first, so that the index doesn't forget another merge for want of it.
+    /// Starts a merge, in a state of its own with this session, or returns the code that says why not. The memory of
+    /// the state is taken first, so that the index doesn't forget another merge if memory is refused.
     pub(crate) fn begin_merge(
         &mut self,
         alloc: Global,
@@ -230,7 +231,7 @@ impl State {
         }
     }
 
-    /// Runs the merge that is here.
+    /// Runs the merge that the state holds.
     pub(crate) fn run_merge(&mut self, alloc: Global) -> i32
         ensures { RunsMerge self.old self.new result }
     {
@@ -243,7 +244,7 @@ impl State {
         }
     }
 
-    /// Ends the merge that was begun last.
+    /// Ends the merge that was started last.
     pub(crate) fn end_merge(&mut self) -> i32
         ensures { EndsMerge self.old self.new result }
     {
@@ -256,7 +257,7 @@ impl State {
         }
     }
 
-    /// Answers a line as its call does.
+    /// Answers a line, as the call `call` does.
     pub(crate) fn answer(&mut self, call: Call, alloc: Global, line: &[u8]) -> i32
         ensures { Answers call self.old line.now self.new result }
     {

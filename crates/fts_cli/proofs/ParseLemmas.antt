@@ -1,4 +1,4 @@
--- Where clap's definitions find no fault, the values that they read pass the parsers of their arguments.
+-- If clap's definitions find no fault, the values that they read pass the parsers of their arguments.
 use Rattle.std.proofs.Common.{◌≡◌, ◌∷◌, ◌++◌, ℕ, Bool, List, [], Option, Some, None, true, false, zero, suc, refl, sym, subst, cond, is_some, length, drop, not}
 use Rattle.std.specs.Prelude.{IfSome, option_and_then, option_map, slice_get, unwrap_or, encode_utf8, fold, ◌&&◌}
 use Rattle.std.specs.List.{find}
@@ -308,7 +308,7 @@ module _ (Fit : Text → Text → Type 0) where
       go None k e = tt
       go (Some s) k e = level_fits s k [] p.1 false [] e
 
-  -- the text behind an option fits
+  -- the text after an option fits
   pub one_fits : (id : Text) (P : Text → Type 0) → ((i t : Text) → bytes_eq i id ≡ true → Fit i t → P t)
       → (rows : List Row) → RowsFit rows → IfSome (one_of id rows) P
   one_fits id P from [] fit = tt

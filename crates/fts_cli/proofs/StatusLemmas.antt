@@ -1,4 +1,4 @@
--- The outcome that an exit status stands for.
+-- The outcome that an exit status means.
 use Rattle.std.proofs.Common.{◌≡◌, ◌≢◌, refl, arith, Result, Ok, Err, OnOk, OnErr, IsErrOf, ◌⊎◌, inl, inr}
 use Rattle.fts_script.specs.declared.fault.Fault.{Fault}
 use Rattle.fts_script.specs.declared.fault.Fault.TheVariants.{Memory, Read, Write, StampsUsedUp}

@@ -1,4 +1,4 @@
--- What the words of a command line ask for, and what a fault makes the exit status.
+-- What the words of a command line ask for, and which exit status a fault gives.
 use Rattle.std.specs.Prelude.{ℕ, ◌≡◌, ◌≢◌, ◌⊎◌, IfOk, Result, Ok, Err, None, List, []}
 use Rattle.clap.specs.Kinds.{FailsBy, IsAmong, Kinds}
 use Rattle.clap.specs.Faults.{fault_of}
@@ -15,7 +15,7 @@ use Rattle.fts_cli.specs.declared.args.ArgFault.TheVariants as refused
 use Rattle.fts_cli.specs.declared.args.Asked.{Asked}
 use Rattle.fts_cli.specs.declared.args.Asked.TheVariants.{Run, Help}
 
--- by clap's definitions: what is wrong with the words, or asked for in place of a run
+-- what is wrong with the words, or asked for in place of a run, by clap's definitions
 unfoldable pub faults_of : Places → List Text → Kinds
 faults_of places words = fault_of (command places) words
 

@@ -19,7 +19,7 @@ use Rattle.fts_engine.specs.declared.options.Options.{Options}
 use Rattle.fts_engine.specs.declared.options.Merge.{Merge}
 use Rattle.fts_engine.specs.declared.options.Merge.TheVariants.{Off, Policy}
 
--- Where the values of `--merge` are in memory: clap keeps a reference to them, and compares their texts alone.
+-- The addresses of the values of `--merge`: clap holds a reference to them, and compares only their texts.
 pub record Places : Type 0 where
   pub values : ℕ × ℕ
   pub off : ℕ × ℕ
@@ -51,7 +51,7 @@ run_command places =
 abbrev pub required : App → App
 required = on_top (λ shape. record shape { subcommand_required = true })
 
--- an application that tells its version
+-- an application that prints its version
 abbrev pub versioned : App → App
 versioned = on_top (λ shape. record shape { has_version = true })
 
@@ -64,11 +64,11 @@ command places =
 abbrev pub rows_given : Option (Text × List Row) → List Row
 rows_given subcommand = option_map_or (λ p. p.1) subcommand []
 
--- the same of the matches of a parse
+-- the rows that the subcommand is given, by the matches of a parse
 abbrev pub given_in : ArgMatches → List Row
 given_in matches = rows_given (subcommand_rows_of matches)
 
--- by clap's definitions: what the words give to the options of `run`
+-- what the words give to the options of `run`, by clap's definitions
 unfoldable pub given_to_run : Places → List Text → List Row
 given_to_run places words = rows_given (subcommand_of (command places) words)
 

@@ -10,7 +10,7 @@ use fts_engine::Options;
 use std::alloc::{AllocError, Global};
 use thiserror::Error;
 
-/// What is said to both `--runs` and `--deal`, in clap's words for options that exclude each other.
+/// The message for `--runs` and `--deal` together, in clap's words for options that exclude each other.
 const TWO_CUTS: &str = "error: the argument '--runs <N>' cannot be used with '--deal <M>'\n\n\
     Usage: fts run [OPTIONS]\n\nFor more information, try '--help'.\n";
 
@@ -19,7 +19,7 @@ const TWO_CUTS: &str = "error: the argument '--runs <N>' cannot be used with '--
 pub enum Asked {
     /// A run of the script on standard input.
     Run(Options),
-    /// This text: help, or the version.
+    /// This text is printed: help, or the version.
     Help(String),
 }
 
@@ -51,7 +51,7 @@ fn complaint(alloc: Global, error: &clap::Error) -> Result<String, AllocError> {
     Ok(text)
 }
 
-/// Reads the words of a command line, of which the first is the program's name.
+/// Reads the words of a command line. The first is the program's name.
 pub fn args(alloc: Global, words: Vec<String>) -> Result<Asked, ArgFault>
     ensures ok { IfOk result (Asks (map string_bytes words.items)) }
     ensures err { IfErr result (Refuses (map string_bytes words.items)) }

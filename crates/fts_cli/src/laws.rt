@@ -7,7 +7,7 @@ ghost use Rattle.fts_cli.specs.Arguments.{faults_of};
 ghost use Rattle.fts_cli.specs.RunOptions.{Places, given_to_run, number_given};
 
 /// After the program's name, `run` alone asks for a run, `--help` for help, `--version` for the version, and no word
-/// for nothing. A number of workers is read, and refused beyond 64; so is a time of merges that there isn't.
+/// for nothing. A number of workers is read, and refused if it is over 64; so is a value of `--merge` that there isn't.
 pub fn command_line()
     ensures run { (places : Places) (name : List ℕ) →
         faults_of places (name ∷ codes "run" ∷ []) ≡ [] }

@@ -39,7 +39,7 @@ fn merge(asked: Option<&str>) -> Merge
     }
 }
 
-/// The options that `run` is given, and the default of each that isn't: none where both `--runs` and `--deal` are.
+/// The options that `run` is given, and the default of each that isn't: none if both `--runs` and `--deal` are given.
 fn options_of(run: &ArgMatches) -> Option<Options>
     requires { AreInRange (rows_of (found_of run.now)) }
     ensures some { IfSome result (AreGiven (rows_of (found_of run.now))) }
@@ -52,7 +52,7 @@ fn options_of(run: &ArgMatches) -> Option<Options>
     Options::new(workers.unwrap_or(1), cut, merge(run.get_str("merge")))
 }
 
-/// The options that the words give, as the matches have them.
+/// The options that the words give, by clap's matches.
 pub fn options(matches: &ArgMatches) -> Option<Options>
     requires { AreInRange (given_in matches.now) }
     ensures some { IfSome result (AreGiven (given_in matches.now)) }

@@ -11,7 +11,7 @@ use clap::{Arg, ArgMatches, Command, Error};
 use fts_model::MOST_BUILT;
 use std::alloc::{AllocError, Global};
 
-/// The version, which the file VERSION says too: a test compares them.
+/// The version. The file VERSION has it too: a test compares them.
 const VERSION: &str = "0.1.0";
 
 /// The values of `--merge`.
@@ -30,7 +30,7 @@ const EXAMPLE: &str = r#"A script of four lines, and a reply for each:
 docs/SCRIPT.md has every command, reply and limit, docs/QUERIES.md the query language;
 after 'make install' they are in share/doc/dilforec, and 'man fts' names them."#;
 
-/// An option that takes one value, with what help calls the value and says of the option.
+/// An option that takes one value. `help` says what its value is called and what it does.
 fn option<'a>(
     alloc: Global,
     name: &'a str,

@@ -28,7 +28,7 @@ none_picked test n (x ∷ xs) passes none =
     let some : 0 ≡ length (x ∷ rest) = none ∙ ap (λ b. length (cond b (x ∷ rest) rest)) passes in
     absurd (omega (arith, some))
 
--- of bits that are all set each is
+-- if all bits are set, each one is
 all_set : (n : ℕ) → list_all (λ bit. bit) (replicate n true) ≡ true
 all_set zero = refl
 all_set (suc n) = all_set n

@@ -54,7 +54,7 @@ pub ranks-rising : (least high : ℕ) (v : Option ℕ) → IfSome v (λ x. least
 ranks-rising least high None above = refl
 ranks-rising least high (Some x) above = grind arith
 
--- the same from the greatest down
+-- a number up to the greatest of all ranks within the lower bound, from the greatest down, if it is between the two
 pub ranks-falling : (low greatest : ℕ) (v : Option ℕ) → low < 2 ^ 64 → greatest < 2 ^ 64 → IfSome v (λ x. x ≤ greatest) →
     option_map_or (λ x. nat_le (2 ^ 64 - 1 - x) (2 ^ 64 - 1 - low)) v false ≡ is_within low greatest v
 ranks-falling low greatest None small fits below = refl

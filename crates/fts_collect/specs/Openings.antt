@@ -1,4 +1,4 @@
--- How many blocks a segment opens to tell of its hits.
+-- How many blocks a segment opens to answer from its hits.
 use Rattle.std.specs.Prelude.{◌≡◌, ℕ, ◌-◌, ◌^◌, ◌≤◌, List, [], None, if◌then◌else◌, length, min, nat_lt}
 use Rattle.fts_model.specs.declared.operation.Term.{Term}
 use Rattle.fts_model.specs.QueryValues.{QueryValue}
@@ -9,8 +9,8 @@ use Rattle.fts_cursor.specs.Openings.{HasMusts, IsOfOneTerm, blocks_with, most_f
 use Rattle.fts_cursor.specs.Standing.{Standing, Walked}
 use Rattle.fts_postings.specs.Bounds.{most_at}
 
--- how many blocks a search opens: whatever the query is, so many at least and at most; this many for one term; and for
--- a conjunction of terms this many at least and at most
+-- the bounds on how many blocks a search opens: at least and at most for any query, exactly for one term, and at least
+-- and at most for a conjunction of terms
 pub record AreOpenings (query : QueryValue) (fewest greatest : ℕ)
     (blocks : Term → ℕ) (least most : List Term → ℕ) (openings : ℕ) : Type 0 where
   pub from : fewest ≤ openings
@@ -19,8 +19,8 @@ pub record AreOpenings (query : QueryValue) (fewest greatest : ℕ)
   pub opened : (terms : List Term) → HasMusts query terms → least terms ≤ openings
   pub musts : (terms : List Term) → HasMusts query terms → openings ≤ most terms
 
--- those of a segment: what is said of the query's cursor, all of a term's list, and where a conjunction has a hit, one
--- at least of each term's
+-- how many blocks one segment opens: what holds of the query's cursor, all of a term's list, and, if a conjunction has
+-- a hit, at least one of each term's
 abbrev pub OpensIn : SegmentValue → QueryValue → PartValue → Type 0
 OpensIn segment query part =
     AreOpenings query (least_for segment query) (most_for segment query)

@@ -1,4 +1,4 @@
--- What a search of a snapshot tells, and how many blocks it opens.
+-- What a search of a snapshot returns, and how many blocks it opens.
 use Rattle.std.specs.Prelude.{◌≡◌, ℕ, ◌-◌, ◌*◌, ◌^◌, Bool, List, length, min, sum_by, count_by}
 use Rattle.std.specs.List.{AllZip, list_any}
 use Rattle.fts_model.specs.declared.schema.Field.{Field}
@@ -14,7 +14,7 @@ use Rattle.fts_collect.specs.Openings.{AreOpenings, AreWalked, OpensIn}
 use Rattle.fts_snapshots.specs.Entries.{EntryValue, live_in}
 use Rattle.fts_snapshots.specs.Snapshots.{SnapshotValue}
 
--- a part is what a segment tells of its live hits
+-- a part is the answer over the live hits of one segment
 pub record IsPartOf (query : QueryValue) (request : Request) (entry : EntryValue) (part : PartValue) : Type 0 where
   pub answer : part.answer ≡ answer entry.segment.schema query request (live_in entry)
   pub openings : OpensIn entry.segment query part

@@ -1,4 +1,4 @@
-// What a segment tells of its live hits.
+// The answer over the live hits of one segment.
 ghost use Rattle.std.specs.Prelude.{◌≡◌, ◌<◌, ◌≤◌, ◌^◌, List, [], true, All, IfOk, IfSome, OnOk, IsOkUnless};
 ghost use Rattle.std.specs.Prelude.{MatchOption, Some, count_by, length, min, ◌-◌};
 ghost use Rattle.fts_cursor.specs.Hits.{live_hits};
@@ -25,8 +25,8 @@ use fts_parts::{Part, Seen, TopK, nothing_seen, see, told};
 use fts_segment::Segment;
 use std::alloc::{AllocError, Global};
 
-/// How many hits remain of a cursor, or the greatest `usize`, where nothing else is asked for and the cursor can tell;
-/// it passes them then.
+/// The number of hits that remain of a cursor, or the greatest `usize`, if nothing else is asked for and the cursor can
+/// count them; it passes them then.
 fn count_alone(request: &Request, cursor: &mut LiveCursor<'_>) -> Option<usize>
     ensures alone { IfSome result (λ _. (request.now.groups ≡ None) × (request.now.top ≡ None)) }
     ensures counted { MatchOption result (cursor.new ≡ cursor.old)
@@ -40,7 +40,8 @@ fn count_alone(request: &Request, cursor: &mut LiveCursor<'_>) -> Option<usize>
     }
 }
 
-/// Takes all hits that remain of a cursor: counts them alone, where that is enough, and else takes up to 128 at a time.
+/// Takes all hits that remain of a cursor: only counts them, if that is enough, and otherwise takes up to 128 at a
+/// time.
 fn see_all(
     segment: &Segment,
     request: &Request,
@@ -67,7 +68,7 @@ fn see_all(
     Ok(())
 }
 
-/// The same where the first keys of the hits are known: takes the hits for what else is asked for.
+/// Takes all hits that remain of a cursor for what the request asks for beside a top list, whose first keys are known.
 fn see_beside(
     segment: &Segment,
     request: &Request,
@@ -94,8 +95,8 @@ fn see_beside(
     Ok(())
 }
 
-/// The same where a document's number tells whether it is a hit, and a top list is asked for: the first hits are looked
-/// for among the documents with the best numbers. There are about `count` hits.
+/// Takes all hits if a document's number suffices to test it and a top list is asked for: the first hits are looked for
+/// among the documents with the best numbers. There are about `count` hits.
 fn see_told(
     alloc: Global,
     segment: &Segment,
@@ -156,7 +157,7 @@ fn only_should(query: &Query) -> Option<&Query>
     }
 }
 
-/// How many live hits a query has, where that is known without looking for them: each document matches it.
+/// How many live hits a query has, if that is known without looking for them, because each document matches it.
 fn count_known(live: &Bits, query: &Query) -> Option<usize>
     ensures { IfSome result (λ count. MatchesAll (query_value query.now)
         × (count ≡ count_by (λ bit. bit) live.now)) }
@@ -201,7 +202,7 @@ fn see_hits(
     see_told(alloc, segment, &hits, count, request, top, cursor, seen)
 }
 
-/// What the live hits of a segment tell, and how many blocks were opened to find them.
+/// The answer over the live hits of a segment, and how many blocks were opened to find them.
 fn part_of(
     alloc: Global,
     segment: &Segment,
@@ -244,7 +245,7 @@ fn musts_of(query: &Query) -> usize
     }
 }
 
-/// What a segment tells of its live hits, which remain of a cursor of the query.
+/// The answer over the live hits of a segment, which remain of a cursor of the query.
 fn collected(
     alloc: Global,
     segment: &Segment,
@@ -271,7 +272,7 @@ fn collected(
     Ok(part)
 }
 
-/// Of how many documents one has a term at least, if the term is frequent.
+/// A term is frequent if at least one document in this many has it.
 const DOCS_PER_HIT: usize = 64;
 
 /// Whether a query is one term, which many documents have. A word in the field that is searched by default is the only
@@ -287,8 +288,8 @@ fn is_frequent_term(segment: &Segment, query: &Query) -> bool {
     }
 }
 
-/// Whether live hits are picked as they are taken, from a cursor of all hits. A cursor of the live ones would give 128
-/// at a time, and step to those that the dead left room for.
+/// Whether live hits are picked as they are taken, from a cursor of all hits. A cursor of the live ones alone would
+/// step on until it has 128, once for each dead document that it leaves out.
 fn picks(segment: &Segment, live: &Bits, query: &Query, request: &Request) -> bool {
     if live.is_all_set() {
         return false;
@@ -299,13 +300,13 @@ fn picks(segment: &Segment, live: &Bits, query: &Query, request: &Request) -> bo
     }
 }
 
-/// What a segment tells of its live hits, if `live` has one bit per document: the answer to the query and the request
-/// over its live documents in their order, and the openings of a cursor that ran to its end.
+/// The answer to the query and the request over a segment's live documents, in their order, and the openings of a
+/// cursor that ran to its end. `live` has one bit per document.
 ///
-/// The hits come from a cursor, up to 128 at a time, and nothing is kept of them but what the request wants: counts by
-/// number, the first keys, and in the end a handle for each document of the top list. Where bits and columns tell the
-/// hits, the first keys are looked for among the documents with the best numbers, if these are few enough; the openings
-/// don't count the lists of these.
+/// The hits come from a cursor, up to 128 at a time, and only what the request wants of them is collected: counts by
+/// number, the first keys, and in the end a handle for each document of the top list. If bits and columns suffice to
+/// test hits, the first keys are looked for among the documents with the best numbers, if these are few enough; the
+/// openings don't count the lists of these.
 /// The only refusal is `Memory`.
 pub fn collect(
     alloc: Global,

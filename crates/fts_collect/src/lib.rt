@@ -1,7 +1,7 @@
-//! The hits of a query among the live documents of a segment, and what a search tells of them.
+//! The hits of a query among the live documents of a segment, and what a search returns of them.
 //!
-//! [`collect`] makes a query's cursor and takes its hits, up to 128 at a time, for the [`Part`] that the segment tells;
-//! where it takes fewer steps it looks for the first hits of a top list among the documents with the best numbers.
+//! [`collect`] makes a query's cursor and takes its hits, up to 128 at a time, for the [`Part`] of the segment; if it
+//! takes fewer steps, it looks for the first hits of a top list among the documents with the best numbers.
 //! [`search_alone`] asks the segments of a snapshot one after the other and joins their parts; [`search_segment`] is
 //! what jobs ask of each.
 #![tactic(auto)]

@@ -14,7 +14,7 @@ use std::marker::Model;
 pub(crate) struct LiveCursor<'a> {
     cursor: Cursor<'a>,
     live: Option<&'a Bits>,
-    // How many remain, where that is known of documents that are still to be picked.
+    // How many documents remain, if that is known although they are still to be picked.
     known: Option<usize>,
 }
 
@@ -38,7 +38,7 @@ impl<'a> LiveCursor<'a> {
     ghost use Rattle.fts_cursor.specs.Standing.{Walked};
     ghost use Rattle.fts_postings.specs.Bounds.{most_at};
 
-    /// Of all documents of a cursor.
+    /// The hits of a cursor, all of them.
     pub(crate) fn all(cursor: Cursor<'a>) -> LiveCursor<'a>
         ensures { result ≡ cursor.entry }
     {
@@ -49,7 +49,7 @@ impl<'a> LiveCursor<'a> {
         }
     }
 
-    /// Of those whose bit is set, of which it may be known how many they are.
+    /// The hits of a cursor whose bit is set. `known` is their number, if it is known.
     pub(crate) fn picked(cursor: Cursor<'a>, live: &'a Bits, known: Option<usize>) -> LiveCursor<'a>
         requires { IfSome known (λ n. n ≡ length (filter (is_live live.now) cursor.remaining)) }
         ensures remaining { result.remaining ≡ filter (is_live live.now) cursor.entry.remaining }
@@ -64,7 +64,7 @@ impl<'a> LiveCursor<'a> {
         }
     }
 
-    /// How many blocks were opened, as a cursor tells it.
+    /// How many blocks were opened, as the cursor counts them.
     pub(crate) fn openings(&self) -> u64
         ensures sum { result ≡ min (2 ^ 64 - 1) self.now.openings }
         ensures bound { self.now.openings
@@ -75,8 +75,8 @@ impl<'a> LiveCursor<'a> {
         self.cursor.openings()
     }
 
-    /// How many documents remain, as a cursor tells it, and passes them then. If they are still to be picked, it does
-    /// where it is known.
+    /// The number of documents that remain, if the cursor can count them or, if they are still to be picked, it is
+    /// known. They are passed then.
     pub(crate) fn count(&mut self) -> Option<usize>
         ensures counted { MatchOption result (self.new ≡ self.old)
             (λ count. (count ≡ min (2 ^ 64 - 1) (length self.old.remaining)) × (self.new.remaining ≡ [])) }

@@ -1,9 +1,8 @@
 // What a query finds in a snapshot.
 //
-// Each segment tells what it has of the hits, and the hits of all segments are those of the content in another order:
-// so what the parts tell together is the answer over the content, whatever the segments. [`search_alone`] asks one
-// segment after the other in the calling thread; a crate above asks them by jobs, of which each is a
-// [`search_segment`].
+// Each segment makes a part from its hits, and the hits of all segments are those of the content in another order: so
+// the joined parts are the answer over the content, whatever the segments. [`search_alone`] asks one segment after the
+// other in the calling thread; a crate above asks them by jobs, each of which is a [`search_segment`].
 
 ghost use Rattle.std.specs.Prelude.{◌≡◌, ◌<◌, ◌^◌, true, IfOk, IsOkUnless, All, length};
 ghost use Rattle.std.specs.List.{AllZip};
@@ -18,7 +17,7 @@ use fts_model::{Answer, Query, Refusal, Request};
 use fts_snapshots::{Entry, EntryList, Snapshot};
 use std::alloc::Global;
 
-/// What a segment tells of its live hits. The only refusal is `Memory`.
+/// The answer over the live hits of a segment. The only refusal is `Memory`.
 pub fn search_segment(
     alloc: Global,
     entry: &Entry,
@@ -33,7 +32,7 @@ pub fn search_segment(
     collect(alloc, entry.segment(), entry.live(), query, request)
 }
 
-/// What each segment tells of its live hits, in the order of the segments.
+/// The part of each segment, in the order of the segments.
 fn parts_in_turn(
     alloc: Global,
     entries: &EntryList,

@@ -80,7 +80,7 @@ fn listed_between(
     Ok(found)
 }
 
-/// The same in the order of their documents.
+/// The hits whose numbers in a field are between two, these included, in the order of their documents.
 fn hits_between(
     alloc: Global,
     segment: &Segment,
@@ -100,7 +100,7 @@ fn hits_between(
     Ok(found)
 }
 
-/// Where this many documents are in the lists up to this place, from the first on.
+/// The shortest front of the lists that has this many documents: the index of its last list.
 fn place_from_first(lists: &[List], docs: usize) -> Option<usize>
     ensures { IfSome result (λ place. place < length lists.now) }
 {
@@ -114,7 +114,7 @@ fn place_from_first(lists: &[List], docs: usize) -> Option<usize>
     None
 }
 
-/// Where this many documents are in the lists from this place on.
+/// The shortest end of the lists that has this many documents: the index of its first list.
 fn place_from_last(lists: &[List], docs: usize) -> Option<usize>
     ensures { IfSome result (λ place. place < length lists.now) }
 {
@@ -130,7 +130,7 @@ fn place_from_last(lists: &[List], docs: usize) -> Option<usize>
     None
 }
 
-/// A number in a field that this many documents have, or a better one; none where fewer documents have a number. No
+/// A number in a field such that this many documents have it or a better one; none if fewer documents have a number. No
 /// block is opened.
 fn number_at_place(segment: &Segment, field: usize, order: Order, docs: usize) -> Option<u64>
     requires { is_number_field segment.now.schema field ≡ true }

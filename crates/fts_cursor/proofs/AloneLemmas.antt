@@ -142,7 +142,7 @@ once_live target bits old sought new settled left once is same still documents l
     ∙ ap (λ xs. slice_get (at_least target xs) 0) (sym (left documents list)) ∙ ap (λ xs. slice_get xs 0) (sym is) in
     subst (λ (s : TreeValue). s.openings ≤ suc old.openings) (sym (still (first_passes test sought.remaining stands))) (once documents list)
 
--- the same list later on
+-- a cursor over one list alone still goes over that list later on
 pub alone-follows : (p q : Posting) → Follows p q → IsAlone p → IsAlone q
 alone-follows p q h tied = (omega (arith, h.counted, tied.0), subst AreBlocks (sym h.blocks) tied.1)
 

@@ -20,7 +20,7 @@ abbrev mutual
   depth_all no_queries = 0
   depth_all (queries q qs) = max (depth q) (depth_all qs)
 
--- of queries of the code
+-- how deep a list of queries nests, as the code holds it
 abbrev pub depth_of : List Query → ℕ
 depth_of qs = depth_all (query_list (map query_value qs))
 

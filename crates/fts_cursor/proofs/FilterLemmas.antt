@@ -43,7 +43,7 @@ take-add : (n m : ℕ) (xs : List ℕ) → take (n + m) xs ≡ take n xs ++ take
 take-add n m xs =
     sym (take-append-drop n (take (n + m) xs)) ∙ ap₂ (λ ys zs. ys ++ zs) (take-take n (n + m) xs (omega arith)) (drop-take n m xs)
 
--- of a stretch those that pass were taken
+-- the members of a stretch that pass were taken
 module _ (p : ℕ → Bool) (whole left out : List ℕ) (filled : ℕ) (h : Taken (filter p whole) (filter p left) out filled) where
   pub Taken-passed : filter p (take filled out) ≡ take filled out
   Taken-passed = ap (filter p) h.front ∙ filter-again p whole filled ∙ sym h.front
@@ -109,7 +109,7 @@ filter-weaker p q (x ∷ xs) all weaker = elim (cases_Bool (p x)) [
       )
 ]
 
--- of what a test left the front is what it was
+-- a test left the front of an array as it was
 pub front_left : (p : ℕ → Bool) (before now : List ℕ) (from end n : ℕ) → take end now ≡ filter p (take n before) →
     filter p (take from before) ≡ take from before → from ≤ n → from ≤ end → from ≤ length before → take from now ≡ take from before
 front_left p before now from end n left passed few within inside =

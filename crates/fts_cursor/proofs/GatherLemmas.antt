@@ -435,7 +435,7 @@ gathered_count doc next w lists later count is h counted left =
     let behind : length later ≡ length (union lists) = ap length (left ∙ at_least_all 0 0 (union lists) (Rises-union lists) (omega arith)) in
     (omega (arith, some, counted), omega (arith, all, behind, counted))
 
--- of these those that pass are as many as of the window and of the parts
+-- among these, as many pass as in the window and in the parts together
 pub gathered_passing : (p : ℕ → Bool) (doc : ℕ) (next : Option ℕ) (w : Window) (lists : List (List ℕ)) (later : List ℕ) (count : ℕ) → next ≡ Some doc →
     IsBuffered next w lists → count ≡ length (filter p (found w)) → later ≡ at_least 0 (union lists)
     → (length later < length (union (found w ∷ lists))) × (count + length (filter p later) ≡ length (filter p (union (found w ∷ lists))))

@@ -48,7 +48,7 @@ module _ (p : ℕ → Bool) (xs ys : List ℕ) (k i count : ℕ) (h : FiltersInP
   pub kept_size : k ≡ length (filter p (take count xs))
   kept_size = sym (length-take-le k ys (omega (arith, h.behind, h.within, h.long))) ∙ ap length kept_all
 
--- of the next documents those that are live were taken
+-- the live ones among the next documents were taken
 pub Taken-live : (p : ℕ → Bool) (whole next front out : List ℕ) (n kept : ℕ) → front ≡ take n whole → filter p next ≡ filter p (drop n whole) →
     take kept out ≡ filter p front → kept ≡ length (filter p front) → Taken (filter p whole) (filter p next) out kept
 Taken-live p whole next front out n kept front_is next_is written size =

@@ -172,7 +172,7 @@ first_in : (xs : List ℕ) → xs ≢ [] → (d : ℕ) × (has xs d ≡ true)
 first_in [] some = absurd (some refl)
 first_in (x ∷ xs) some = (x, ap (λ b. b || has xs x) (is_itself x))
 
--- of the lists of terms
+-- a cursor finds what the lists of some queries have in common
 pub record FindsHits (segment : SegmentValue) (queries : List Query) (t : Standing) : Type 0 where
   pub hits : t.remaining ≡ all_hits segment queries
   pub bound : (doc : Option ℕ) → most_at t.bound doc ≤ most_at (bound_of_all (map (hits_of segment) queries)) doc

@@ -15,7 +15,7 @@ use Rattle.fts_cursor.specs.Builds.{only_term_in, term_in}
 use Rattle.fts_cursor.specs.Hits.{segment_hits}
 use Rattle.fts_cursor.proofs.HitsLemmas.{Rises-numbers, has-all, numbers_are}
 
--- of a term as the only should
+-- a Boolean query whose only member is this term as a should
 abbrev alone : Term → QueryValue
 alone t = boolean no_queries no_queries (queries (term t) no_queries)
 

@@ -1,4 +1,4 @@
--- Rising lists of documents of which the shortest leads.
+-- Rising lists of documents, led by the shortest.
 use Rattle.std.specs.Prelude.{◌≡◌, ℕ, suc, ◌<◌, ◌≤◌, List, ◌∷◌, length}
 use Rattle.fts_pack.specs.Documents.{Rises, blocks_of}
 use Rattle.fts_postings.specs.Sets.{in_all}

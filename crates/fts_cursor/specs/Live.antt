@@ -1,4 +1,4 @@
--- A cursor of which the documents remain whose bits are set.
+-- A cursor that keeps the documents whose bit is set.
 use Rattle.std.specs.Prelude.{Bool, List, Option, Some, None, filter}
 use Rattle.std.specs.Borrow.{Bor}
 use Rattle.fts_cursor.specs.Hits.{is_live}

@@ -1,4 +1,4 @@
--- Where a phrase stands, by the positions of its terms.
+-- The positions of a phrase, by the positions of its terms.
 use Rattle.std.specs.Prelude.{◌≡◌, ℕ, ◌+◌, ◌^◌, ◌≤◌, ◌==◌, nat_lt, Bool, true, List, [], ◌∷◌}
 use Rattle.std.specs.Prelude.{All, filter, length, slice_index_or}
 use Rattle.std.specs.List.{AllZip, list_all, list_any}
@@ -18,7 +18,7 @@ rank documents doc = length (filter (λ d. nat_lt d doc) documents)
 abbrev pub positions_at : Member → ℕ → List ℕ
 positions_at member doc = slice_index_or member.positions (rank (documents_in member.list) doc) []
 
--- a member stands as far after a position as its offset is after another one
+-- a member has a position whose distance from another member's is that of their offsets
 abbrev pub is_behind : ℕ → ℕ → ℕ → Member → Bool
 is_behind offset position doc member = list_any (λ q. q + offset == position + member.offset) (positions_at member doc)
 
@@ -33,7 +33,7 @@ pub record AreMembersOf (terms : Conjoined) (members : List Member) : Type 0 whe
   pub rise : All (λ m. IsStrictlyIncreasing (documents_in m.list)) members
   pub few : All (λ m. length (documents_in m.list) ≤ 2 ^ 32) members
 
--- a cursor that stands where the phrase does, or at its end
+-- a cursor that is at a document with the phrase, or at its end
 pub record IsPhrase (terms : Conjoined) (members : List Member) : Type 0 where
   pub members_are : AreMembersOf terms members
   pub settled : FirstPasses (phrase_at members) (common_of terms)

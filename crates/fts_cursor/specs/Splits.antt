@@ -26,7 +26,7 @@ pub record FindsAll (shortest : List ℕ) (others : List (List ℕ)) (cursor : S
   pub bound : (doc : Option ℕ) → most_at cursor.bound doc ≤ most_at (bound_over shortest (length others)) doc
   pub opened : (d : ℕ) → has shortest d ≡ true → in_all others d ≡ true → suc (length others) ≤ cursor.openings
 
--- the same, for lists that were split so
+-- as `FindsAll`, for lists that were split into bits and the others
 abbrev pub FindsSplit : List ℕ → List (Bor (List Bool)) → List (List ℕ) → ℕ → Standing → Type 0
 FindsSplit shortest bits rest opened cursor =
     (lists : List (List ℕ)) → IsSplit lists bits rest opened → FindsAll shortest lists cursor

@@ -13,13 +13,13 @@ pub record Standing : Type 0 where
   pub whole : Bool
   pub list : Option (List ℕ)
 
--- the same cursor later on
+-- a later state of a cursor
 pub record Continues (old new : Standing) : Type 0 where
   pub bound : new.bound ≡ old.bound
   pub list : new.list ≡ old.list
   pub more : old.openings ≤ new.openings
 
--- the same, if nothing was sought
+-- a later state of a cursor by which nothing was sought
 pub record Walked (old new : Standing) : Type 0 where
   pub continues : Continues old new
   pub whole : old.whole ≡ true → new.whole ≡ true

@@ -12,7 +12,7 @@ pub record TreeValue : Type 0 where
   pub open standing use *
   pub height : ℕ
 
--- the same tree later on
+-- a later state of a tree
 pub record TreeContinues (old new : TreeValue) : Type 0 where
   pub continues : Continues old.standing new.standing
   pub open continues use *
@@ -70,13 +70,13 @@ pub most-heights : (parts : List TreeValue) → most (λ t. t.height + 1) parts 
 most-heights [] = omega arith
 most-heights (t ∷ parts) = omega (arith, most-heights parts)
 
--- of one list alone there remains what is left of it
+-- if a tree goes over one list alone, what remains is what is left of that list
 abbrev pub LeavesList : TreeValue → Type 0
 LeavesList tree =
     (documents : List ℕ) → tree.list ≡ Some documents →
     tree.remaining ≡ left_at documents (slice_get tree.remaining 0)
 
--- of one list alone at most one block more was opened
+-- if a tree goes over one list alone, at most one block more was opened
 abbrev pub OpensOne : TreeValue → TreeValue → Type 0
 OpensOne old new = (documents : List ℕ) → old.list ≡ Some documents → new.openings ≤ suc old.openings
 

@@ -1,4 +1,4 @@
-// The cursor of queries of which one must match, by words where the lists of terms have bits.
+// The cursor of queries one of which must match. It works by words if the lists of terms have bits.
 ghost use Rattle.std.specs.Prelude.{◌≡◌, ℕ, ◌^◌, ◌<◌, ◌≤◌, ◌||◌, All, IfOk, IfSome, None, length, map, true};
 ghost use Rattle.std.specs.List.{list_all};
 ghost use Rattle.fts_cursor.specs.Builds.{is_term};
@@ -24,7 +24,7 @@ use fts_pack::bits::Bits;
 use fts_segment::Segment;
 use std::alloc::{AllocError, Global};
 
-/// Queries of which one must match: the bits of the lists of those that are terms and have some, and cursors of the
+/// Queries one of which must match: the bits of the lists of those that are terms and have some, and cursors of the
 /// others.
 #[derive(Drop)]
 pub(crate) struct Shoulds<'a> {
@@ -44,7 +44,7 @@ pub(crate) fn told_by<'a>(segment: &'a Segment, query: &Query) -> Option<&'a Bit
     list_of(segment, query)?.bits()
 }
 
-/// The documents that bits tell or that one of some cursors has. Those that bits tell are gone over together, by words.
+/// The documents that are set in some bits or that one of some cursors has. The bits are gone over together, by words.
 pub(crate) fn union_of<'a>(alloc: Global, shoulds: Shoulds<'a>) -> Result<Tree<'a>, AllocError>
     requires { All (λ b. length b.now ≤ 2 ^ 32) shoulds.bits.items }
     ensures has { IfOk result (λ t. (d : ℕ) → has t.remaining d
@@ -64,7 +64,7 @@ pub(crate) fn union_of<'a>(alloc: Global, shoulds: Shoulds<'a>) -> Result<Tree<'
     Tree::or(alloc, parts)
 }
 
-/// The documents that one of some bits tells.
+/// The documents that are set in at least one of some bits.
 fn told<'a>(alloc: Global, bits: Vec<&'a Bits>) -> Result<Tree<'a>, AllocError>
     requires { All (λ b. length b.now ≤ 2 ^ 32) bits.items }
     ensures has { IfOk result (λ t. (d : ℕ) → has t.remaining d ≡ in_one bits.entry.items d) }
@@ -80,8 +80,8 @@ fn told<'a>(alloc: Global, bits: Vec<&'a Bits>) -> Result<Tree<'a>, AllocError>
     Tree::scan(alloc, ScanCursor::new(Kept::Told(dense), docs, None))
 }
 
-/// The documents that have each of some terms and none of others, where these are terms whose lists all have bits, and
-/// there are some of both. No block is opened for it.
+/// The documents that have each of some terms and none of others. The lists of all these terms have bits, and there are
+/// some of both. No block is opened.
 pub(crate) fn apart_by_words<'a>(
     alloc: Global,
     segment: &'a Segment,

@@ -15,9 +15,9 @@ use std::marker::Model;
 
 /// The live documents of a segment that match a query, from the first on. It borrows the segment and its bits.
 ///
-/// Contracts see what remains, how often its sources opened a block, how many blocks it opens at most by where it
-/// stands, whatever is sought, whether it goes over one list of which it has opened each block up to there, and that
-/// list, if it goes over one alone.
+/// Contracts see what remains, how often its sources opened a block, the bound on its openings by the document at which
+/// it is, whether it goes over one list and has opened each block up to there, and, if it goes over one list alone,
+/// that list.
 #[derive(Drop)]
 pub struct Cursor<'a> {
     tree: Tree<'a>,
@@ -36,14 +36,14 @@ impl<'a> Model for Cursor<'a> {
 }
 
 impl<'a> Cursor<'a> {
-    /// Of all documents of the tree.
+    /// The cursor of all documents of the tree.
     pub(crate) fn all(tree: Tree<'a>) -> Cursor<'a>
         ensures { result ≡ tree.entry.standing }
     {
         Cursor { tree, live: None }
     }
 
-    /// Of those whose bit is set.
+    /// The cursor of the documents of the tree whose bit is set.
     pub(crate) fn live(
         alloc: Global,
         tree: Tree<'a>,
@@ -63,8 +63,8 @@ impl<'a> Cursor<'a> {
         })
     }
 
-    /// How many blocks were opened since the cursor was made, the making included, or the greatest `u64`: at every
-    /// moment no more than the bound at the document where it is.
+    /// The number of blocks that were opened since the cursor was made, those of the making included, or the greatest
+    /// `u64`. It is never more than the bound at the document where the cursor is.
     pub fn openings(&self) -> u64
         ensures sum { result ≡ min (2 ^ 64 - 1) self.now.openings }
         ensures bound { self.now.openings
@@ -76,9 +76,9 @@ impl<'a> Cursor<'a> {
         self.tree.openings()
     }
 
-    /// How many documents remain, or the greatest `usize`, where they needn't be listed for that, and passes them
-    /// then: for what words tell, for a list and for a union, and for every query in a segment some of whose documents
-    /// aren't live.
+    /// The number of documents that remain, or the greatest `usize`, if it can be found without listing them; it passes
+    /// them then. It can for documents that words of bits give, for a list and for a union, and for every query in a
+    /// segment some of whose documents aren't live.
     pub fn count(&mut self) -> Option<usize>
         ensures counted { MatchOption result (self.new ≡ self.old)
             (λ count. (count ≡ min (2 ^ 64 - 1) (length self.old.remaining)) × (self.new.remaining ≡ [])) }
@@ -109,8 +109,8 @@ impl<'a> DocSet for Cursor<'a> {
         }
     }
 
-    /// Over one list at most one block is opened, and where documents aren't live those blocks too that are stepped
-    /// through from the target's place to the next that is.
+    /// If the cursor goes over one list, it opens at most one block, and if documents aren't live, also the blocks that
+    /// it steps through from the target's place to the next live document.
     fn seek(&mut self, target: u32)
         ensures remaining { self.new.remaining ≡ at_least target self.old.remaining }
         ensures continues { Continues self.old self.new }
@@ -135,8 +135,8 @@ impl<'a> DocSet for Cursor<'a> {
     }
 }
 
-/// Takes the next 128 documents whose bit is set of a tree that is at one of them: those among the next 128, and as
-/// many more by steps as of these aren't live.
+/// Takes the next 128 documents of a tree that have their bit set; the tree is at one of them. It takes those among the
+/// tree's next 128, and steps to replace each of these that isn't live.
 fn fill_live(tree: &mut Tree, live: &Bits, out: &mut [u32; 128]) -> usize
     requires { FirstPasses (is_live live.now) tree.old.remaining }
     ensures count { result ≡ min 128 (length (filter (is_live live.now) tree.old.remaining)) }
@@ -160,8 +160,8 @@ fn fill_live(tree: &mut Tree, live: &Bits, out: &mut [u32; 128]) -> usize
     128
 }
 
-/// Keeps those of the first documents whose bit is set, at the front, and gives how many they are. Each is written and
-/// its bit is added to the place of the next, so no branch depends on it.
+/// Moves the documents whose bit is set, among the first `count`, to the front, and returns how many they are. Each is
+/// written and its bit is added to the place of the next, so no branch depends on it.
 pub fn keep_live(live: &Bits, count: usize, docs: &mut [u32; 128]) -> usize
     requires { count ≤ 128 }
     ensures kept { take result docs.new ≡ filter (is_live live.now) (take count docs.old) }

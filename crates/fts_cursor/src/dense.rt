@@ -1,4 +1,4 @@
-// Documents that are told by bits: 64 at once, by words.
+// Documents that are given by bits: 64 at once, by words.
 ghost use Rattle.std.specs.Prelude.{◌≡◌, ℕ, true, false, ◌+◌, ◌-◌, ◌%◌, ◌*◌, ◌^◌, ◌<◌, ◌≤◌, bit_and, bit_or, length};
 ghost use Rattle.std.specs.Prelude.{min};
 ghost use Rattle.std.specs.Prelude.{slice_index_or};
@@ -94,8 +94,8 @@ impl Row {
         self.read = false;
     }
 
-    /// Which of the 64 documents from `from` on are some, and which of the next 64. Where they weren't read yet, the
-    /// words after them are read too.
+    /// Which of the 64 documents from `from` on pass, and which of the next 64. If they weren't read yet, the words
+    /// after them are read too.
     #[inline]
     pub(crate) fn words(&mut self, dense: &Dense, from: usize) -> (u64, u64)
         requires aligned { from % 64 ≡ 0 }
@@ -155,7 +155,7 @@ fn row_of_some(list: &[&Bits], index: usize) -> [u64; 16]
     row
 }
 
-/// The same, joined by "and".
+/// 16 words of several bits, joined by "and".
 fn row_of_all(list: &[&Bits], index: usize) -> [u64; 16]
     requires { index < 2 ^ 60 }
     ensures { IsRow (in_each list.now) (64 * index) result }

@@ -1,4 +1,4 @@
-// A cursor over the documents of lists that bits tell too.
+// A cursor over the documents that lists have in common and whose bits are set.
 ghost use Rattle.std.specs.Prelude.{◌≡◌, ℕ, ◌+◌, ◌-◌, ◌^◌, ◌≤◌, IfErr, IfOk, Option, drop, filter, length, min};
 ghost use Rattle.std.specs.Prelude.{slice_get, take};
 ghost use Rattle.fts_postings.specs.Bounds.{most_at};
@@ -17,14 +17,14 @@ use fts_postings::{Conjunction, DocSet};
 use std::alloc::{AllocError, Global};
 use std::marker::Model;
 
-/// A cursor over the documents that lists have in common and bits tell. What the lists have is taken a stretch at a
-/// time, and cut by the bits.
+/// A cursor over the documents that lists have in common and whose bits are set. The lists' documents are taken a
+/// stretch at a time, and filtered by the bits.
 #[derive(Drop)]
 pub(crate) struct FilterCursor<'a> {
     terms: Conjunction<ListSource<'a>>,
-    // In each of these the document's bit is set.
+    // The bit of a document is set in each of these.
     bits: Vec<&'a Bits>,
-    // How many blocks were opened of the lists for which the bits stand.
+    // How many blocks were opened of the lists whose bits these are.
     opened: u64,
 }
 
@@ -44,7 +44,8 @@ impl<'a> Model for FilterCursor<'a> {
 }
 
 impl<'a> FilterCursor<'a> {
-    /// Takes the terms as they were made, and how many blocks were opened of the lists for which the bits stand.
+    /// Takes the conjunction before its first step, the bits, and how many blocks were opened of the lists whose bits
+    /// these are.
     pub(crate) fn new(
         terms: Conjunction<ListSource<'a>>,
         bits: Vec<&'a Bits>,
@@ -64,7 +65,7 @@ impl<'a> FilterCursor<'a> {
         }
     }
 
-    /// Keeps of those that remain only those whose bit is set.
+    /// Leaves only those of the remaining documents whose bit is set.
     pub(crate) fn cut(&mut self, alloc: Global, live: &'a Bits) -> Result<(), AllocError>
         ensures cut { IfOk result (λ _. self.new.remaining ≡ filter (is_live live.now) self.old.remaining) }
         ensures failed { IfErr result (λ _. self.new ≡ self.old) }
@@ -127,7 +128,7 @@ impl<'a> DocSet for FilterCursor<'a> {
     }
 }
 
-/// Takes the next 128 documents that bits tell.
+/// Takes the next 128 documents whose bits are set.
 fn fill_kept(terms: &mut Conjunction<ListSource>, bits: &[&Bits], out: &mut [u32; 128]) -> usize
     ensures count { result ≡ min 128 (length (filter (in_each bits.now) (common_of terms.old))) }
     ensures taken { take result out.new ≡ take 128 (filter (in_each bits.now) (common_of terms.old)) }
@@ -146,8 +147,8 @@ fn fill_kept(terms: &mut Conjunction<ListSource>, bits: &[&Bits], out: &mut [u32
     128
 }
 
-/// Keeps those of `count` documents that bits tell, after the first `from`, which they tell too, and gives how many all
-/// are. One list of bits is looked at after the other, each without a branch.
+/// Moves those of the documents `from..count` whose bits are set to the front, after the first `from`, whose bits are
+/// set too. Returns how many pass in all. One list of bits is looked at after the other, each without a branch.
 fn keep(bits: &[&Bits], from: usize, count: usize, docs: &mut [u32; 128]) -> usize
     requires room { from + count ≤ 128 }
     requires passed { filter (in_each bits.now) (take from docs.old) ≡ take from docs.old }
@@ -183,7 +184,7 @@ fn keep_set(bits: &Bits, from: usize, end: usize, docs: &mut [u32; 128]) -> usiz
     kept
 }
 
-/// Passes over documents that bits don't tell.
+/// Passes over documents whose bits aren't set.
 fn settle(terms: &mut Conjunction<ListSource>, bits: &[&Bits])
     ensures same { filter (in_each bits.now) (common_of terms.new)
         ≡ filter (in_each bits.now) (common_of terms.old) }

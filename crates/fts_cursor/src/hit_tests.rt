@@ -1,4 +1,4 @@
-// Whether a document is a hit of a query, told by its number alone: by bits and columns, without a cursor.
+// Decides whether a document is a hit of a query by its number alone: by bits and columns, without a cursor.
 ghost use Rattle.std.specs.Prelude.{◌≡◌, ℕ, false, true, IfOk, IfSome, length};
 ghost use Rattle.std.specs.List.{list_all};
 ghost use Rattle.std.specs.Option.{option_map_or};
@@ -22,8 +22,8 @@ use std::ops::Bound;
 /// How many documents are looked at to guess how many hits there are.
 const SAMPLE: usize = 256;
 
-/// The live hits of a query, each of which is told by its number. It borrows the segment and its bits. Contracts see
-/// the documents.
+/// The live hits of a query, each of which can be tested by its number. It borrows the segment and its bits. Contracts
+/// see the documents.
 #[derive(Drop)]
 pub struct HitTest<'a> {
     live: &'a Bits,
@@ -78,8 +78,8 @@ fn passes_each(lists: &[Vec<DocTest>], doc: usize) -> bool
     true
 }
 
-/// The test of the live hits of a query, if bits and columns tell them: if each of its terms is in many documents, each
-/// range has a bound, and it has no phrase and no Boolean query with musts or must-nots within another.
+/// The test of the live hits of a query, if bits and columns suffice for it: if each of its terms is in many documents,
+/// each range has a bound, and it has no phrase and no Boolean query with musts or must-nots within another.
 ///
 /// No block of a list is opened. The only refusal is that of memory.
 pub fn hit_test<'a>(
@@ -121,7 +121,8 @@ pub fn hit_test<'a>(
     }))
 }
 
-/// Tests of each of which a document passes one if it matches all musts, or one of the shoulds where there is no must.
+/// Tests, in groups: a document that matches all musts, or one of the shoulds if there is no must, passes one test of
+/// each.
 fn kept_of<'a>(
     alloc: Global,
     segment: &'a Segment,
@@ -142,7 +143,7 @@ fn kept_of<'a>(
     }
 }
 
-/// Tests for each query, of which a document passes one if it matches the query.
+/// For each query, tests one of which a document passes if and only if it matches the query.
 fn each_of<'a>(
     alloc: Global,
     segment: &'a Segment,
@@ -162,7 +163,7 @@ fn each_of<'a>(
     Ok(Some(lists))
 }
 
-/// Tests of which a document passes one if it matches the query.
+/// Tests one of which a document passes if and only if it matches the query.
 fn one_of<'a>(
     alloc: Global,
     segment: &'a Segment,
@@ -180,7 +181,7 @@ fn one_of<'a>(
     }
 }
 
-/// Tests of which a document passes one if it matches one of the queries.
+/// Tests one of which a document passes if and only if it matches one of the queries.
 fn some_of<'a>(
     alloc: Global,
     segment: &'a Segment,
@@ -198,7 +199,8 @@ fn some_of<'a>(
     }
 }
 
-/// Adds tests of which a document passes one if it matches the query, or says that there are none such.
+/// Adds tests one of which a document passes if and only if it matches the query, or returns false if there are no such
+/// tests.
 #[cycle(tests)]
 fn push_query<'a>(
     segment: &'a Segment,
@@ -235,7 +237,7 @@ fn push_query<'a>(
     }
 }
 
-/// The same for several queries, one of which it matches.
+/// Adds tests one of which a document passes if and only if it matches one of the queries, or returns false.
 #[cycle(tests)]
 fn push_queries<'a>(
     segment: &'a Segment,
@@ -254,7 +256,7 @@ fn push_queries<'a>(
     Ok(true)
 }
 
-/// The same for every document.
+/// Adds the test that every document passes.
 fn push_all<'a>(segment: &'a Segment, tests: &mut Vec<DocTest<'a>>) -> Result<bool, AllocError>
     ensures { IfOk result (λ told. told ≡ true →
         HasMore (has (segment_hits segment.now every)) tests.old.items tests.new.items) }
@@ -263,7 +265,7 @@ fn push_all<'a>(segment: &'a Segment, tests: &mut Vec<DocTest<'a>>) -> Result<bo
     Ok(true)
 }
 
-/// The same for a term: only where its list has bits, or where it has none.
+/// Adds the test of a term, or none if no document has it. Returns false if its list has no bits.
 fn push_term<'a>(
     segment: &'a Segment,
     term: &Term,
@@ -282,7 +284,7 @@ fn push_term<'a>(
     Ok(true)
 }
 
-/// The same for a range, if it isn't open at both ends.
+/// Adds the test of a range. Returns false if the range is open at both ends.
 fn push_range<'a>(
     segment: &'a Segment,
     field: usize,

@@ -6,9 +6,9 @@
 //!
 //! It is a tree of cursors, one for each query within the query. A term is a [`PostingCursor`] over its list, and terms
 //! that must all match are a [`Conjunction`] of these. Ranges are read from columns, 128 documents at a time, or from
-//! the lists of their numbers where these have few documents. Phrases read positions where all of their terms stand,
-//! and what must not match is asked for the documents that are left. Blocks that are opened are counted, and contracts
-//! bound the count.
+//! the lists of their numbers if these have few documents. Phrases read positions only in documents that have all of
+//! their terms, and what must not match is asked for the documents that are left. Blocks that are opened are counted,
+//! and contracts bound the count.
 //!
 //! ```text
 //! let mut cursor = cursor_of(alloc, &segment, &live, &query)?;

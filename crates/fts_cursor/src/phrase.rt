@@ -1,4 +1,4 @@
-// A cursor over the documents in which a phrase stands: positions are read only if all of its terms do.
+// A cursor over the documents that have a phrase. Positions are read only in documents that have all of its terms.
 ghost use Rattle.std.specs.Prelude.{◌≡◌, ℕ, ◌+◌, ◌-◌, ◌^◌, ◌<◌, ◌≤◌, ◌==◌, Some, true, IfOk};
 ghost use Rattle.std.specs.Prelude.{◌∷◌, [], drop, filter, length, min, slice_get, slice_index_or, take};
 ghost use Rattle.std.specs.List.{list_all, list_any};
@@ -169,7 +169,8 @@ fn stands(terms: &Conjunction<ListSource>, first: &mut Member, others: &mut [Mem
     false
 }
 
-/// Whether each of the other members stands as far after a position as its offset is after the first one's.
+/// Whether each of the other members has a position that is as far after this one as its offset is after the first
+/// one's.
 fn all_follow(
     terms: &Conjunction<ListSource>,
     others: &mut [Member],
@@ -190,7 +191,8 @@ fn all_follow(
     true
 }
 
-/// Whether a member stands as far after a position as its offset is after another one, in the document of a posting.
+/// Whether a member has, in the document of a posting, a position as far after this one as its offset is after the
+/// other.
 fn follows(member: &mut Member, posting: usize, offset: u32, position: u32) -> bool
     ensures follows { result
         ≡ list_any (λ q. q + offset == position + member.old.offset)

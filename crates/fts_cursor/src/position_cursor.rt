@@ -1,4 +1,4 @@
-// The positions of a term, of which one after the other is asked for.
+// The positions of a term, which are asked for one after the other.
 ghost use Rattle.std.specs.Prelude.{◌≡◌, [], slice_index_or};
 ghost use Rattle.fts_postings.specs.Sets.{has};
 ghost use Rattle.fts_segment.specs.PositionsLeft.{positions_left};
@@ -9,8 +9,8 @@ use std::marker::Model;
 
 /// The positions of a term, a list for each of its postings. Contracts see the list of these.
 ///
-/// What lies before the position that was asked for last is passed, so that those of a posting are gone through
-/// once where rising ones are asked for.
+/// Positions below the last one asked for are passed, so that the positions of a posting are gone through once if
+/// rising ones are asked for.
 #[derive(Drop)]
 pub(crate) struct PositionCursor<'a> {
     reader: PositionReader<'a>,
@@ -36,7 +36,7 @@ impl<'a> Model for PositionCursor<'a> {
 }
 
 impl<'a> PositionCursor<'a> {
-    /// Of the positions that are read.
+    /// A cursor over the positions that are read.
     pub(crate) fn new(reader: PositionReader<'a>) -> PositionCursor<'a>
         ensures { result ≡ reader.entry }
     {

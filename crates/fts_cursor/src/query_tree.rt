@@ -291,7 +291,7 @@ fn lengths_of<'a>(
     Ok(lengths)
 }
 
-/// The lists of a phrase's terms, and none where one of them has no documents.
+/// The lists of a phrase's terms, and none if one of them has no documents.
 fn members_of<'a>(
     alloc: Global,
     segment: &'a Segment,

@@ -55,8 +55,8 @@ pub(crate) fn of_range<'a>(
     }
 }
 
-/// Between which numbers of the column of a keyword or number field a range lies that isn't open at both ends, these
-/// included; none where it admits no value.
+/// The least and the greatest number of a keyword or number field's column that a range admits, if the range isn't open
+/// at both ends. `None` if it admits no value.
 pub(crate) fn bounds_of(
     segment: &Segment,
     field: usize,
@@ -75,7 +75,7 @@ pub(crate) fn bounds_of(
     }
 }
 
-/// The same of a number field.
+/// As `bounds_of`, for a number field.
 fn number_bounds(
     segment: &Segment,
     field: usize,
@@ -96,7 +96,7 @@ fn number_bounds(
     Some((low?, high?))
 }
 
-/// The same of a keyword field: the ordinals of the texts within the range.
+/// As `bounds_of`, for a keyword field: the ordinals of the texts within the range.
 fn keyword_bounds(
     segment: &Segment,
     field: usize,
@@ -135,8 +135,8 @@ fn of_bounds(
     between(alloc, column, segment.docs(), lists, documents, low, high)
 }
 
-/// The documents with a number of a column between two, which are in these lists, and how many they are: where they are
-/// few, the lists are opened, and else the column is read.
+/// The documents with a number of a column between two, which are in these lists, and how many they are. If they are
+/// few, the lists are opened, otherwise the column is read.
 fn between<'a>(
     alloc: Global,
     column: &'a Column,

@@ -1,4 +1,4 @@
-// Which documents are kept by their number alone: they are looked at in stretches of 128.
+// Which documents pass a test of their number alone. They are tested in stretches of 128.
 ghost use Rattle.std.specs.Prelude.{◌≡◌, ℕ, ◌+◌, ◌%◌, ◌-◌, ◌^◌, ◌<◌, ◌≤◌, ◌&&◌, IfErr, IfOk, true, false, length, min};
 ghost use Rattle.std.specs.Prelude.{take};
 ghost use Rattle.fts_cursor.specs.Dense.{AreWithin, HoldsRow, Tells, is_dense};
@@ -13,12 +13,12 @@ use fts_postings::marks;
 use fts_segment::Segment;
 use std::alloc::{AllocError, Global};
 
-/// Which documents are kept.
+/// The documents that pass.
 #[derive(Drop)]
 pub(crate) enum Kept<'a> {
-    /// Every document.
+    /// Every document passes.
     Every,
-    /// Those whose number in the column is `low` or more and `high` or less.
+    /// Those whose number in the column is in `low..=high`.
     Within {
         column: &'a Column,
         low: u64,
@@ -36,11 +36,11 @@ pub(crate) enum Kept<'a> {
         segment: &'a Segment,
         field: usize,
     },
-    /// Those that bits tell.
+    /// Those whose bits are set.
     Told(Dense<'a>),
 }
 
-/// Keeps only those whose bit is set, where words tell of both, and says whether it did.
+/// Leaves only the documents whose bit is set, if words give these and those that pass, and returns whether it did.
 pub(crate) fn cut<'a>(
     kept: &mut Kept<'a>,
     alloc: Global,
@@ -82,7 +82,7 @@ pub(crate) fn cut<'a>(
     }
 }
 
-/// Writes those kept of the 128 documents from `from` on to the front of `out`, and gives how many they are.
+/// Writes the documents that pass, of the 128 from `from` on, to the front of `out`, and returns how many they are.
 pub(crate) fn write(
     kept: &Kept,
     docs: usize,
@@ -113,7 +113,7 @@ pub(crate) fn write(
     }
 }
 
-/// How many of the 128 documents from `from` on are kept.
+/// How many of the 128 documents from `from` on pass.
 pub(crate) fn count(kept: &Kept, docs: usize, from: usize) -> usize
     requires few { docs ≤ 2 ^ 32 }
     requires are_for { AreFor kept.now docs }

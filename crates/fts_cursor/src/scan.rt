@@ -1,4 +1,4 @@
-// A cursor over the documents that are kept by their number alone.
+// A cursor over the documents that pass a test of their number alone.
 ghost use Rattle.std.specs.Prelude.{◌≡◌, ◌%◌, ◌^◌, ◌+◌, ◌-◌, ◌<◌, ◌≤◌, IfErr, IfOk, IfSome, Some, [], true, false, filter};
 ghost use Rattle.std.specs.Prelude.{length, slice_get, slice_index};
 ghost use Rattle.std.specs.Prelude.{take};
@@ -22,7 +22,7 @@ use std::marker::Model;
 // A stretch that begins after each document, since these have 32 bits.
 const BEHIND_ALL: usize = 8_589_934_592;
 
-/// A cursor over the documents that are kept. Those of the stretch in which it is are in the value.
+/// A cursor over the documents that pass. Those of the stretch in which it is are in the value.
 #[derive(Drop)]
 pub(crate) struct ScanCursor<'a> {
     kept: Kept<'a>,
@@ -48,7 +48,7 @@ impl<'a> Model for ScanCursor<'a> {
 }
 
 impl<'a> ScanCursor<'a> {
-    /// Of this many documents, and how many of them are kept, if that is known.
+    /// A cursor over this many documents, and how many of them pass, if that is known.
     pub(crate) fn new(kept: Kept<'a>, docs: usize, total: Option<usize>) -> ScanCursor<'a>
         requires few { docs ≤ 2 ^ 32 }
         requires are_for { AreFor kept docs }
@@ -70,7 +70,8 @@ impl<'a> ScanCursor<'a> {
         }
     }
 
-    /// How many documents remain at most: if it isn't known how many, as many as were not looked at.
+    /// An upper bound on the documents that remain: their number, if it is known, otherwise the number of those not
+    /// looked at.
     pub(crate) fn cost(&self) -> usize
         ensures { length self.now ≤ result }
     {
@@ -80,8 +81,8 @@ impl<'a> ScanCursor<'a> {
         }
     }
 
-    /// How many documents remain. Passes them, and lists none of those of later stretches; where their number
-    /// is known, none is looked at.
+    /// How many documents remain. Passes them, without listing those of later stretches; if their number is known, none
+    /// is looked at.
     pub(crate) fn count(&mut self) -> usize
         ensures count { result ≡ length self.old }
         ensures none { self.new ≡ [] }
@@ -91,7 +92,7 @@ impl<'a> ScanCursor<'a> {
         count
     }
 
-    /// Leaves nothing.
+    /// Passes all documents that remain.
     fn finish(&mut self)
         ensures none { self.new ≡ [] }
         ensures past { at_least (2 ^ 32) self.old ≡ [] }
@@ -102,8 +103,8 @@ impl<'a> ScanCursor<'a> {
         self.len = 0;
     }
 
-    /// Marks the documents that have a place in the window, and passes them, where words tell of them, and says whether
-    /// it did.
+    /// Marks the documents that have a place in the window, and passes them, if words of bits give them. Returns
+    /// whether they do.
     pub(crate) fn mark(&mut self, window: &mut Window) -> bool
         requires { self.old ≡ at_least window.old.from self.old }
         ensures marked { result ≡ true → AreMarked (has self.old) window.old window.new }
@@ -121,7 +122,7 @@ impl<'a> ScanCursor<'a> {
         true
     }
 
-    /// Passes what lies up to the last.
+    /// Passes the documents up to and including `last`.
     fn pass(&mut self, last: u32)
         ensures { self.new ≡ at_least (last + 1) self.old }
     {
@@ -132,7 +133,7 @@ impl<'a> ScanCursor<'a> {
         self.seek(last + 1);
     }
 
-    /// Marks those from the first on, if words tell of them, and says whether it did. Passes none.
+    /// Marks the documents from `first` on, if words of bits give them, and returns whether they do. Passes none.
     fn mark_from(&mut self, window: &mut Window, first: u32) -> bool
         requires first { Some first ≡ slice_get self.old 0 }
         requires low { window.old.from ≤ first }
@@ -148,8 +149,8 @@ impl<'a> ScanCursor<'a> {
         true
     }
 
-    /// Keeps of those that remain only those whose bit is set, where words tell of both and none was passed yet, and
-    /// says whether it did.
+    /// Leaves only those of the remaining documents whose bit is set, if words give both and none was passed yet.
+    /// Returns whether it did.
     pub(crate) fn cut(&mut self, alloc: Global, live: &'a Bits) -> Result<bool, AllocError>
         ensures cut { IfOk result (λ did. did ≡ true → self.new ≡ filter (is_live live.now) self.old) }
         ensures uncut { IfOk result (λ did. did ≡ false → self.new ≡ self.old) }
@@ -238,7 +239,7 @@ impl DocSet for ScanCursor<'_> {
         }
     }
 
-    /// Looks in the stretch in which it is first, and else begins at that of the target.
+    /// Looks in the current stretch first, and otherwise begins at that of the target.
     fn seek(&mut self, target: u32) {
         if self.at >= self.len {
             return;
@@ -275,8 +276,8 @@ impl DocSet for ScanCursor<'_> {
     }
 }
 
-/// The first stretch from one on in which a document of the target or more is kept, and how many are kept there: they
-/// are at the front of `numbers`.
+/// The first stretch from `from` on with a document that passes and isn't below the target, and how many pass in it:
+/// they are at the front of `numbers`.
 fn find(
     kept: &Kept,
     docs: usize,
@@ -311,7 +312,7 @@ fn find(
     (from, 0)
 }
 
-/// How many documents from one on are kept.
+/// How many documents from `from` on pass.
 fn count_from(kept: &Kept, docs: usize, from: usize) -> usize
     requires few { docs ≤ 2 ^ 32 }
     requires are_for { AreFor kept.now docs }

@@ -65,7 +65,7 @@ fn split_of<'a>(alloc: Global, lists: &[&'a List]) -> Result<Split<'a>, AllocErr
     Ok(Split { bits, rest, opened })
 }
 
-/// Where none of the others has bits.
+/// The cursor if none of the others has bits.
 fn untold<'a>(
     alloc: Global,
     shortest: &'a List,
@@ -78,7 +78,7 @@ fn untold<'a>(
     Tree::terms(alloc, Conjunction::new(lead, others))
 }
 
-/// Where all have bits.
+/// The cursor if all have bits.
 fn all_told<'a>(
     alloc: Global,
     shortest: &'a List,
@@ -104,7 +104,7 @@ fn all_told<'a>(
     Tree::dense(alloc, scan, opened)
 }
 
-/// Where some of the others have bits.
+/// The cursor if some of the others have bits.
 fn some_told<'a>(
     alloc: Global,
     shortest: &'a List,

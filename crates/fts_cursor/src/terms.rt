@@ -53,14 +53,14 @@ pub(crate) fn of_terms<'a>(
     of_lists(alloc, lists.shortest, &lists.others)
 }
 
-// Lists, of which the shortest leads.
+// Lists, led by the shortest.
 #[derive(Drop)]
 struct Lists<'a> {
     shortest: &'a List,
     others: Vec<&'a List>,
 }
 
-/// The lists of terms, and none where no document has all of them.
+/// The lists of terms, and none if no document has all of them.
 fn lists_of<'a>(
     alloc: Global,
     segment: &'a Segment,
@@ -89,7 +89,7 @@ fn lists_of<'a>(
     Ok(Some(Lists { shortest, others }))
 }
 
-/// The list of a term, and none where no document has it.
+/// The list of a term, and none if no document has it.
 pub(crate) fn list_of<'a>(segment: &'a Segment, query: &Query) -> Option<&'a List>
     requires { is_term (query_value query.now) ≡ true }
     ensures { MatchOption result
@@ -102,7 +102,7 @@ pub(crate) fn list_of<'a>(segment: &'a Segment, query: &Query) -> Option<&'a Lis
     Some(segment.postings(segment.find(term)?))
 }
 
-/// The term that a query is, alone or as its only should: so is a word where one field is default.
+/// The term that a query is, alone or as its only should, as a word is if one field is marked default.
 fn term_of(query: &Query) -> Option<&Term>
     ensures { MatchOption result
         (term_in (query_value query.now) ≡ None)

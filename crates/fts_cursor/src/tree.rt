@@ -1,4 +1,4 @@
-// Cursors of queries within one another, each of which knows the first document that remains of it.
+// Cursors of queries within one another. Each knows the first document that remains of it.
 ghost use Rattle.std.specs.Prelude.{◌≡◌, ℕ, ◌+◌, ◌-◌, ◌^◌, ◌<◌, ◌≤◌, All, IfOk, [], MatchOption, true, false, drop};
 ghost use Rattle.std.specs.Prelude.{Some, filter, length};
 ghost use Rattle.std.specs.Prelude.{min, slice_get, take};
@@ -31,8 +31,8 @@ use intersection::{Intersection, align};
 use std::alloc::{AllocError, Global};
 use std::marker::Model;
 
-/// The documents that match a query. A tree is moved often as it is made, so it is small: what it finds them by lies
-/// after it.
+/// The documents that match a query. A tree is moved often while it is made, so it is small: the node that finds them
+/// is in a box.
 #[cycle(tree)]
 #[derive(Drop)]
 pub(crate) struct Tree<'a> {
@@ -40,7 +40,7 @@ pub(crate) struct Tree<'a> {
     source: Source<'a>,
 }
 
-/// Where no document matches there is nothing, and no memory is taken.
+/// If no document matches there is no node, and no memory is taken.
 #[cycle(tree)]
 #[derive(Drop)]
 enum Source<'a> {
@@ -51,9 +51,9 @@ enum Source<'a> {
 #[cycle(tree)]
 #[derive(Drop)]
 enum Node<'a> {
-    /// Beside it how many blocks were opened of the lists that it stands for.
+    /// The count is the number of blocks that were opened of the lists whose documents it has.
     Scan(ScanCursor<'a>, u64),
-    /// The same.
+    /// The count is the number of blocks that were opened to list the documents.
     Listed(ListedCursor, u64),
     Postings(PostingCursor<ListSource<'a>>),
     Terms(Conjunction<ListSource<'a>>),
@@ -83,7 +83,7 @@ impl<'a> Model for Tree<'a> {
 }
 
 impl<'a> Tree<'a> {
-    /// Of no document.
+    /// The tree without documents.
     pub(crate) fn nothing() -> Tree<'a>
         ensures remaining { result.remaining ≡ [] }
         ensures counts { (result.openings ≡ 0) × (result.bound ≡ at_most 0) × (result.whole ≡ true) }
@@ -95,7 +95,7 @@ impl<'a> Tree<'a> {
         }
     }
 
-    /// Of a node that is at the document.
+    /// The tree of a node that is at the document.
     fn of(alloc: Global, doc: Option<u32>, node: Node<'a>) -> Result<Tree<'a>, AllocError>
         requires { StandsAt doc node }
         ensures { IfOk result (λ t. t ≡ tree_value node.entry) }
@@ -104,7 +104,7 @@ impl<'a> Tree<'a> {
         Ok(Tree { doc, source })
     }
 
-    /// Of documents that are kept by their number alone.
+    /// The tree of documents that are tested by their number alone.
     #[inline(never)]
     pub(crate) fn scan(alloc: Global, scan: ScanCursor<'a>) -> Result<Tree<'a>, AllocError>
         ensures remaining { IfOk result (λ t. t.remaining ≡ scan.entry) }
@@ -113,7 +113,7 @@ impl<'a> Tree<'a> {
         Tree::dense(alloc, scan, 0)
     }
 
-    /// Of documents that bits tell of lists of which this many blocks were opened.
+    /// The tree of documents that are given by bits of lists. `opened` blocks of these lists were opened.
     pub(crate) fn dense(
         alloc: Global,
         scan: ScanCursor<'a>,
@@ -125,7 +125,7 @@ impl<'a> Tree<'a> {
         Tree::of(alloc, scan.doc(), Node::Scan(scan, opened))
     }
 
-    /// Of documents that are in memory, and this many blocks that were opened to read them.
+    /// The tree of documents that are in memory. `opened` blocks were opened to read them.
     pub(crate) fn listed(
         alloc: Global,
         listed: ListedCursor,
@@ -137,7 +137,7 @@ impl<'a> Tree<'a> {
         Tree::of(alloc, listed.doc(), Node::Listed(listed, opened))
     }
 
-    /// Of a list.
+    /// The tree of a list.
     #[inline(never)]
     pub(crate) fn postings(alloc: Global, list: &'a List) -> Result<Tree<'a>, AllocError>
         ensures remaining { IfOk result (λ t. t.remaining ≡ list.now) }
@@ -149,7 +149,7 @@ impl<'a> Tree<'a> {
         Tree::of(alloc, postings.doc(), Node::Postings(postings))
     }
 
-    /// Of what lists have in common.
+    /// The tree of the documents that lists have in common.
     pub(crate) fn terms(
         alloc: Global,
         terms: Conjunction<ListSource<'a>>,
@@ -163,7 +163,7 @@ impl<'a> Tree<'a> {
         Tree::of(alloc, terms.doc(), Node::Terms(terms))
     }
 
-    /// Of what lists have in common and bits tell.
+    /// The tree of the documents that lists have in common and whose bits are set.
     pub(crate) fn filter(alloc: Global, filter: FilterCursor<'a>) -> Result<Tree<'a>, AllocError>
         ensures remaining { IfOk result (λ t. t.remaining ≡ filter.entry.remaining) }
         ensures openings { IfOk result (λ t. t.openings ≡ filter.entry.openings) }
@@ -172,7 +172,7 @@ impl<'a> Tree<'a> {
         Tree::of(alloc, filter.doc(), Node::Filter(filter))
     }
 
-    /// Of a phrase.
+    /// The tree of a phrase.
     pub(crate) fn phrase(alloc: Global, phrase: PhraseCursor<'a>) -> Result<Tree<'a>, AllocError>
         ensures remaining { IfOk result (λ t. t.remaining ≡ phrase.entry.remaining) }
         ensures bound { IfOk result (λ t. t.bound ≡ phrase.entry.bound) }
@@ -180,7 +180,8 @@ impl<'a> Tree<'a> {
         Tree::of(alloc, phrase.doc(), Node::Phrase(phrase))
     }
 
-    /// Of what all have in common. The one that leads is best the one with the fewest documents.
+    /// The tree of the documents that all parts have in common. The one that leads is best the one with the fewest
+    /// documents.
     pub(crate) fn and(
         alloc: Global,
         lead: Box<Tree<'a>>,
@@ -196,7 +197,7 @@ impl<'a> Tree<'a> {
         Tree::of(alloc, doc, Node::And(parts))
     }
 
-    /// Of what one of them has.
+    /// The tree of the documents that at least one part has.
     #[inline(never)]
     pub(crate) fn or(alloc: Global, parts: Vec<Tree<'a>>) -> Result<Tree<'a>, AllocError>
         ensures remaining { IfOk result (λ t. t.remaining ≡ union (remains parts.entry.items)) }
@@ -208,7 +209,7 @@ impl<'a> Tree<'a> {
         Tree::of(alloc, doc, Node::Or(buffered))
     }
 
-    /// Of what the first has and the second doesn't.
+    /// The tree of the documents that the first part has and the second doesn't.
     pub(crate) fn without(
         alloc: Global,
         kept: Tree<'a>,
@@ -226,7 +227,7 @@ impl<'a> Tree<'a> {
         Tree::of(alloc, doc, Node::Without(parts))
     }
 
-    /// Keeps of those that remain only those whose bit is set, where words tell of both, and says whether it did.
+    /// Leaves only those of the remaining documents whose bit is set, if words give both, and returns whether it did.
     pub(crate) fn cut(&mut self, alloc: Global, live: &'a Bits) -> Result<bool, AllocError>
         ensures cut { IfOk result (λ did. did ≡ true
             → self.new.remaining ≡ filter (is_live live.now) self.old.remaining) }
@@ -251,8 +252,8 @@ impl<'a> Tree<'a> {
         }
     }
 
-    /// How many blocks were opened since the cursors were made, the making included, or the greatest `u64`: no more
-    /// than the bound where it is.
+    /// How many blocks were opened since the cursors were made, those of the making included, or the greatest `u64`. It
+    /// is never more than the bound at the document where the tree is.
     #[cycle(openings)]
     pub(crate) fn openings(&self) -> u64
         ensures sum { result ≡ min (2 ^ 64 - 1) self.now.openings }
@@ -332,7 +333,7 @@ impl<'a> Tree<'a> {
         }
     }
 
-    /// Passes what lies before the target. Contracts learn here what remained of a list alone.
+    /// Passes the documents below the target. Contracts learn here what remained of a list alone.
     #[cycle(tree)]
     pub(crate) fn seek(&mut self, target: u32)
         ensures remaining { self.new.remaining ≡ at_least target self.old.remaining }
@@ -350,8 +351,8 @@ impl<'a> Tree<'a> {
         }
     }
 
-    /// How many documents remain, or the greatest `usize`, where they needn't be gone through one after the other for
-    /// that, and passes them then.
+    /// The number of documents that remain, or the greatest `usize`, if they needn't be gone through one by one for
+    /// that; it passes them then.
     pub(crate) fn count(&mut self) -> Option<usize>
         ensures counted { MatchOption result (self.new ≡ self.old)
             (λ count. (count ≡ min (2 ^ 64 - 1) (length self.old.remaining)) × (self.new.remaining ≡ [])) }
@@ -370,7 +371,7 @@ impl<'a> Tree<'a> {
         Some(count)
     }
 
-    /// Takes the next 128 documents, or all where fewer remain: writes them to the front of `out`, and gives how many
+    /// Takes the next 128 documents, or all if fewer remain: writes them to the front of `out`, and returns how many
     /// they are.
     pub(crate) fn fill(&mut self, out: &mut [u32; 128]) -> usize
         ensures count { result ≡ min 128 (length self.old.remaining) }
@@ -460,7 +461,7 @@ fn step(node: &mut Node) -> Option<u32>
     }
 }
 
-/// Passes what lies before the target, and gives the first document from there on.
+/// Passes the documents below the target, and returns the first document from there on.
 #[cycle(tree)]
 fn skip(node: &mut Node, target: u32) -> Option<u32>
     requires { (doc : ℕ) × StandsAt (Some doc) node.old × (doc < target) }
@@ -505,7 +506,7 @@ fn skip(node: &mut Node, target: u32) -> Option<u32>
     }
 }
 
-/// Takes the next 128 of a node that is at the document, and gives how many they are, and the next.
+/// Takes the next 128 documents of a node that is at `doc`. Returns how many they are, and the next document.
 fn fill(node: &mut Node, doc: Option<u32>, out: &mut [u32; 128]) -> (usize, Option<u32>)
     requires { StandsAt doc node.old }
     ensures count { result.0 ≡ min 128 (length (tree_value node.old).remaining) }
@@ -543,7 +544,7 @@ fn fill(node: &mut Node, doc: Option<u32>, out: &mut [u32; 128]) -> (usize, Opti
     }
 }
 
-/// The same, a document at a time.
+/// As `fill`, a document at a time.
 fn fill_by_steps(node: &mut Node, doc: Option<u32>, out: &mut [u32; 128]) -> (usize, Option<u32>)
     requires { StandsAt doc node.old }
     ensures count { result.0 ≡ min 128 (length (tree_value node.old).remaining) }

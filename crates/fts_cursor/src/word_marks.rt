@@ -1,4 +1,4 @@
-// Documents that bits tell, marked in a window: a word of 64 at a time.
+// Marks the documents that bits give in a window, a word of 64 at a time.
 ghost use Rattle.std.specs.Prelude.{◌≡◌, ℕ, ◌+◌, ◌*◌, ◌/◌, ◌%◌, ◌^◌, ◌<◌, ◌≤◌, ◌==◌, ◌&&◌, ◌||◌, length, nat_le};
 ghost use Rattle.std.specs.Prelude.{nat_lt, slice_index_or};
 ghost use Rattle.std.specs.Int.{bit_at};
@@ -53,7 +53,7 @@ fn mark_words(
     }
 }
 
-/// Of the 64 documents from one on that are told, those from `first` on.
+/// Clears the bits of documents below `first` in the word of the 64 documents from `from` on.
 #[inline]
 fn from_first(word: u64, from: usize, first: usize) -> u64
     requires { first < from + 64 }
@@ -108,7 +108,8 @@ fn repeated(bytes: u8x8) -> u8x64
     ])
 }
 
-/// Of each of 64 bytes one bit, of eight bytes one after the other the first, the second, and so on.
+/// Keeps one bit of each of 64 bytes: the lowest of the first, the next of the second, and so on, and again after
+/// eight.
 #[inline]
 fn alone(bytes: u8x64) -> u8x64
     requires { length bytes ≡ 64 }

@@ -46,7 +46,7 @@ all_add-adds : (documents : List (Stamped DocumentValue)) (ops : List (Stamped O
 all_add-adds [] ops h = h
 all_add-adds (d ∷ documents) ops h = all_add-adds documents ops h
 
--- behind documents, adds alone leave them and what they add
+-- after documents that are there, adds alone leave these and what they add
 pub alive-adds : (schema : List Field) (documents : List (Stamped DocumentValue)) (ops : List (Stamped Op)) → all_add ops ≡ true →
     alive schema (adds documents ++ ops) ≡ documents ++ added ops
 alive-adds schema documents ops h = alive_all_add schema (adds documents ++ ops) (all_add-adds documents ops h) ∙ added-adds documents ops

@@ -5,7 +5,7 @@ use Rattle.fts_model.specs.declared.operation.Op.{Op}
 use Rattle.fts_model.specs.declared.operation.Stamped.{Stamped}
 use Rattle.fts_model.specs.Documents.{DocumentValue}
 
--- what carries an index: what opens and changes it, and what it tells
+-- what carries an index: what opens and changes it, and what can be read of it
 pub record Carrier (S : Type 0) : Type 0 where
   -- a new index: the opening commit has stamp 0 and no document
   pub opened : List Field → S

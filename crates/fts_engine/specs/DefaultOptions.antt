@@ -1,4 +1,4 @@
--- How a run works where nothing else is asked for.
+-- How a run works if no options are given.
 use Rattle.std.specs.Prelude.{◌≡◌}
 use Rattle.fts_model.specs.Limits.{most_built}
 use Rattle.fts_model.specs.declared.cut.Cut.TheVariants.{Runs}

@@ -7,7 +7,7 @@ use Rattle.fts_model.specs.declared.operation.Stamped.{Stamped}
 use Rattle.fts_model.specs.Operations.{alive}
 use Rattle.fts_engine.specs.Carriers.{Carrier}
 
--- an accepted command that changes an index
+-- an accepted command that changes an index: an operation, a commit or a rollback
 pub data Accepted : Type 0 where
   Submitted : Op → Accepted
   Committed : Accepted
@@ -20,7 +20,7 @@ take_back (Submitted op ∷ cs) = take_back cs
 take_back (Committed ∷ cs) = false
 take_back (RolledBack ∷ cs) = true
 
--- a kept command: an operation, or a commit
+-- a command that no rollback took back: an operation, or a commit
 pub data Kept : Type 0 where
   Operation : Op → Kept
   CommitPoint : Kept
@@ -36,12 +36,12 @@ abbrev pub is_commit : Kept → Bool
 is_commit (Operation op) = false
 is_commit CommitPoint = true
 
--- what was kept up to the last commit
+-- the members of `kept` up to the last commit
 abbrev pub up_to_commit : List Kept → List Kept
 up_to_commit [] = []
 up_to_commit (k ∷ ks) = if is_commit k || list_any is_commit ks then k ∷ up_to_commit ks else []
 
--- what was kept since the last commit
+-- the members of `kept` since the last commit
 abbrev pub since_commit : List Kept → List Kept
 since_commit [] = []
 since_commit (k ∷ ks) = if is_commit k || list_any is_commit ks then since_commit ks else k ∷ ks
@@ -52,7 +52,8 @@ stamped_from n [] = []
 stamped_from n (Operation op ∷ ks) = record { stamp = n; value = op } ∷ stamped_from (n + 1) ks
 stamped_from n (CommitPoint ∷ ks) = stamped_from (n + 1) ks
 
--- the operations that were kept and committed, with their stamps: their places among all that was kept, from 1
+-- the operations that were committed, with their stamps: their places among all operations and commits that no rollback
+-- took back, from 1
 abbrev pub committed : List Accepted → List (Stamped Op)
 committed cs = stamped_from 1 (up_to_commit (kept cs))
 

@@ -1,8 +1,8 @@
 //! What a script needs of an index: one step of the definitions for each call.
 //!
-//! An [`Engine`] takes operations, and as an [`EngineOver`] what it is given to work with it commits, rolls back,
-//! merges and searches. [`ListEngine`] keeps a plain list of documents; the engines over segments are in crates
-//! above. [`Options`] say how an engine works, and change nothing that it answers.
+//! An [`Engine`] takes operations, and, as an [`EngineOver`] the resources that it is given, commits, rolls back,
+//! merges and searches. [`ListEngine`] holds a plain list of documents; the engines over segments are in crates above.
+//! [`Options`] say how an engine works, and change nothing that it answers.
 #![tactic(auto)]
 
 mod engine;

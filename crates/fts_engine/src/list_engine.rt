@@ -28,7 +28,7 @@ fn all_add(ops: &[Stamped<Op>]) -> bool
     ops.iter().all(|op| matches!(op.value, Op::Add(_)))
 }
 
-/// Puts the document that an operation adds after others.
+/// Appends the document that an operation adds.
 fn push_added(documents: &mut Vec<Stamped<Document>>, op: &Stamped<Op>) -> Result<(), AllocError>
     ensures ok { OnOk result
         (documents.new.items ≡ documents.old.items ++ added_by op.now.stamp op.now.value) }
@@ -44,7 +44,7 @@ fn push_added(documents: &mut Vec<Stamped<Document>>, op: &Stamped<Op>) -> Resul
     Ok(())
 }
 
-/// Puts the documents that operations add after others.
+/// Appends the documents that operations add.
 fn append(documents: &mut Vec<Stamped<Document>>, ops: &[Stamped<Op>]) -> Result<(), AllocError>
     ensures ok { OnOk result (documents.new.items ≡ documents.old.items ++ added ops.now) }
     ensures err { OnErr result (documents.new.items ≡ documents.old.items) }
@@ -62,7 +62,7 @@ fn append(documents: &mut Vec<Stamped<Document>>, ops: &[Stamped<Op>]) -> Result
     Ok(())
 }
 
-/// Puts a copy of an operation after others.
+/// Appends a copy of an operation.
 fn push_copy(all: &mut Vec<Stamped<Op>>, op: &Stamped<Op>) -> Result<(), AllocError>
     ensures { OnOk result (all.new.items ≡ all.old.items ++ op.now ∷ []) }
 {
@@ -74,7 +74,7 @@ fn push_copy(all: &mut Vec<Stamped<Op>>, op: &Stamped<Op>) -> Result<(), AllocEr
     Ok(())
 }
 
-/// Puts the operation that adds a document after others.
+/// Appends the operation that adds a document.
 fn push_add(all: &mut Vec<Stamped<Op>>, document: &Stamped<Document>) -> Result<(), AllocError>
     ensures { OnOk result (all.new.items
         ≡ all.old.items ++ record { stamp = document.now.stamp; value = Op.Add document.now.value } ∷ []) }
@@ -87,7 +87,7 @@ fn push_add(all: &mut Vec<Stamped<Op>>, document: &Stamped<Document>) -> Result<
     Ok(())
 }
 
-/// The operations that add these documents, and more after them.
+/// The operations that add these documents, followed by more.
 fn history(
     alloc: Global,
     documents: &[Stamped<Document>],
@@ -105,7 +105,7 @@ fn history(
     Ok(all)
 }
 
-/// The documents alive after operations after those that are there.
+/// The documents alive once operations are applied to those that are there.
 fn survivors(
     alloc: Global,
     schema: &Schema,
@@ -119,7 +119,7 @@ fn survivors(
     fts_scan::alive(alloc, schema, &all)
 }
 
-/// Puts the documents alive after operations in the place of those before.
+/// Replaces the documents by those alive once operations are applied to them.
 fn commit(
     alloc: Global,
     schema: &Schema,
@@ -132,7 +132,7 @@ fn commit(
     ensures memory { IfErr result (λ refusal. refusal ≡ Refusal.Memory) }
 {
     if all_add(ops) {
-        // Adds alone go after what is there, so that a commit costs no more than its operations.
+        // Adds alone are appended to what is there, so that a commit costs no more than its operations.
         append(documents, ops)?;
         return Ok(());
     }

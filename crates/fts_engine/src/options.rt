@@ -22,15 +22,15 @@ pub struct Options {
 /// When segments are merged.
 #[derive(Clone, Copy, Debug, Drop, PartialEq, Eq)]
 pub enum Merge {
-    /// Never.
+    /// Segments are never merged.
     Off,
-    /// As the merge policy says.
+    /// Segments are merged as the merge policy says.
     Policy,
 }
 
 impl Options {
-    /// The options of these parts, if there are 1 to 64 workers, and a segment takes 1 to 65,536
-    /// documents in a row or 1 to 64 segments take documents in turn.
+    /// The options of these parts, if there are 1 to 64 workers, and a segment takes 1 to 65,536 documents in a row or
+    /// 1 to 64 segments take documents in turn.
     pub fn new(workers: usize, cut: Cut, merge: Merge) -> Option<Options>
         ensures some { IfSome result (λ options.
             (options.workers ≡ workers) × (options.cut ≡ cut) × (options.merge ≡ merge)) }
@@ -57,7 +57,7 @@ impl Default for Options {
 
     ghost is_default = { AreDefault };
 
-    /// One worker, segments of up to 65,536 documents, and no merges.
+    /// The options that hold if none are given: one worker, segments of up to 65,536 documents, and no merges.
     fn default() -> Self {
         Options {
             workers: 1,

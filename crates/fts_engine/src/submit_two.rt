@@ -16,7 +16,7 @@ pub trait SubmitTwo: Engine {
         requires { Self.changes self.now < 2 ^ 61 }
         ensures { result ≡ next_stamp indexes (Self.index self.now) + 1 };
 
-    /// Takes two operations, and answers the stamp of the second. At a refusal neither is taken.
+    /// Takes two operations, and returns the stamp of the second. At a refusal neither is taken.
     fn submit_two(&mut self, first: Op, second: Op) -> Result<Stamp, Refusal>
         requires changes { Self.changes self.old < 2 ^ 61 }
         requires fits_first { op_fits (Self.index self.old).schema first ≡ true }

@@ -25,7 +25,7 @@ commits_batch cut batch ops old mid new same is same_ops content =
     (subst (λ os. Commits os mid.front.snapshot new.front.snapshot) same_ops
     (commits_made cut batch.ops mid.front.snapshot new.front.snapshot (ap (λ (w : WriterValue). w.front.snapshot) is) content))
 
--- there is no fault in a batch of the open round whose operations fit, where there are numbers left
+-- a batch of the open round whose operations fit has no fault, if there are numbers left
 pub no_batch_fault : (cut : Cut) (batch : Gathered) (ops : List (Stamped Op)) (old mid : WriterValue) → mid.front ≡ old.front → batch.ops ≡ ops →
     is_of mid.round batch ≡ true →
     misfit old.front.snapshot.schema ops ≡ None → old.front.snapshot.next_id + length ops ≤ 2 ^ 62 → batch_fault cut batch mid ≡ None

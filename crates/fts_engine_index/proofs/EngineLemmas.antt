@@ -1,4 +1,4 @@
--- What an engine over a writer keeps from call to call.
+-- What stays true of an engine over a writer from call to call.
 use Rattle.std.proofs.Common.{◌≡◌, ◌+◌, ◌≤◌, ℕ, true, Option, None, Some, Ok, List, [], ◌∷◌, ◌++◌, length, refl, sym, ap, subst, ◌∙◌, arith}
 use Rattle.std.proofs.lemmas.List.{length-append}
 use Rattle.fts_model.specs.declared.operation.Op.{Op}

@@ -51,15 +51,15 @@ pub record IsItsBatch (w : WriterValue) (batch : rounds.Gathered) : Type 0 where
   pub its : is_of w.round batch ≡ true
   pub first : batch.first ≡ w.front.stamp + 1
 
--- they are those of the writer's open round, or there are none and no round is open
+-- the uncommitted operations are those of the writer's open round, or there are none and no round is open
 abbrev pub IsUncommittedIn : WriterValue → Uncommitted → Type 0
 IsUncommittedIn w Nothing = w.round ≡ None
 IsUncommittedIn w (Open round lane) = IsOpen w round × IsItsLane round lane
 IsUncommittedIn w (Ended round ends) = IsOpen w round × IsItsEnd round ends.items
 IsUncommittedIn w (Gathered batch) = IsItsBatch w batch
 
--- An operation was taken after others, and its stamp counts from the first one; at a refusal they are as they were,
--- and memory ran out or there were as many as may be.
+-- An operation was taken after others, and its stamp counts from the first one. At a refusal they are as they were, and
+-- memory ran out or there were as many as there may be.
 abbrev pub Submits : ℕ → Op → List (Stamped Op) → List (Stamped Op) → Result ℕ Refusal → Type 0
 Submits first op old new (Ok stamp) = (stamp ≡ first + length old)
     × (new ≡ old ++ record { stamp = stamp; value = op } ∷ []) × (length old < most_uncommitted)

@@ -10,11 +10,11 @@ use Rattle.fts_engine_local.specs.CountedIndexes.{IsCounted, index_at}
 use Rattle.fts_engine_index.specs.declared.uncommitted.Uncommitted.{Uncommitted}
 use Rattle.fts_engine_index.specs.UncommittedOperations.{ops_of, IsUncommittedIn}
 
--- what a writer stands for, with the uncommitted operations
+-- the index at a writer's last commit, with the uncommitted operations
 abbrev pub index_of : WriterValue → Uncommitted → Index
 index_of w uncommitted = index_at w.front.stamp w.front.snapshot (ops_of uncommitted)
 
--- a reader, if there is one, is of the writer of which this is known
+-- a reader, if there is one, is of the writer whose publications these are
 abbrev pub IsReaderOf : Known → Option Known → Type 0
 IsReaderOf seen reader = (known : Known) → reader ≡ Some known → known.of ≡ seen.of
 
@@ -27,9 +27,8 @@ pub record IsIndexEngine (w : WriterValue) (reader : Option Known) (uncommitted 
   pub rounds : w.rounds ≤ calls
   pub counted : IsCounted w.front.stamp w.front.snapshot (ops_of uncommitted) calls
 
--- an engine: what it stands for, how many calls changed it, and what no reply shows: how large its segments are, if it
--- has a reader, the segments of its last commit, when it merges, and whether all that was due after that commit was
--- merged
+-- an engine: its index, how many calls changed it, and what no reply shows: how large its segments are, if it has a
+-- reader, the segments of its last commit, when it merges, and whether all that was due after that commit was merged
 pub record EngineValue : Type 0 where
   pub index : Index
   pub calls : ℕ

@@ -17,7 +17,7 @@ use std::marker::Model;
 use std::sync::Wait;
 use std::thread::Threads;
 
-/// A reader of a writer. There is none where the writer has no memory for it.
+/// A reader of a writer. There is none if the writer has no memory for it.
 fn reader_of(writer: &mut Writer) -> Option<Reader>
     ensures same { writer.new ≡ writer.old }
     ensures reader { IsReaderOf writer.new.front.seen result }
@@ -28,7 +28,8 @@ fn reader_of(writer: &mut Writer) -> Option<Reader>
     }
 }
 
-/// Tells a reader, if there is one, of a commit. One that can't be told finds it by looking.
+/// Reports a commit to a reader, if there is one. If memory is refused for that, the reader finds the commit when it
+/// looks.
 fn tell(reader: &mut Option<Reader>, seen: &CommitSeen)
     requires { IsReaderOf seen.now reader.old }
     ensures { IsReaderOf seen.now reader.new }
@@ -38,7 +39,7 @@ fn tell(reader: &mut Option<Reader>, seen: &CommitSeen)
     }
 }
 
-/// The last commit, to search: as a reader finds it, or else as the writer has it.
+/// The last commit, to be searched: as a reader finds it, or, without one, as the writer has it.
 fn last_commit(writer: &Writer, reader: &mut Option<Reader>) -> Result<Searcher, Refusal>
     requires { IsReaderOf writer.now.front.seen reader.old }
     ensures reader { IsReaderOf writer.now.front.seen reader.new }
@@ -54,7 +55,7 @@ fn last_commit(writer: &Writer, reader: &mut Option<Reader>) -> Result<Searcher,
     writer.searcher()
 }
 
-/// Has a reader, if there is one, look at what is shown, so that it holds no segment from before a merge.
+/// Lets a reader, if there is one, look at what is shown, so that it holds no segment from before a merge.
 fn look(writer: &Writer, reader: &mut Option<Reader>)
     requires { IsReaderOf writer.now.front.seen reader.old }
     ensures { IsReaderOf writer.now.front.seen reader.new }
@@ -62,7 +63,7 @@ fn look(writer: &Writer, reader: &mut Option<Reader>)
     let _ = last_commit(writer, reader);
 }
 
-/// A writer of segments, the operations since its last commit, and a reader that is told of each commit.
+/// A writer of segments, the operations since its last commit, and a reader to which each commit is reported.
 pub struct IndexEngine {
     alloc: Global,
     options: Options,
@@ -99,7 +100,7 @@ impl Model for IndexEngine {
 }
 
 impl IndexEngine {
-    /// How large the segments of the last commit are, by rising numbers. No reply shows them.
+    /// The sizes of the segments of the last commit, by rising numbers. No reply shows them.
     pub fn segments(&self, alloc: Global) -> Result<Vec<SegmentInfo>, Refusal>
         ensures segments { IfOk result (λ infos. infos.items ≡ self.now.segments) }
         ensures memory { IsOkUnless result Refusal.Memory }
@@ -107,15 +108,15 @@ impl IndexEngine {
         self.writer.segments(alloc)
     }
 
-    /// Whether the last commit is searched through a reader. There is none where the writer had no memory for it.
+    /// Whether the last commit is searched through a reader. There is none if the writer had no memory for it.
     pub fn has_reader(&self) -> bool
         ensures { result ≡ self.now.has_reader }
     {
         self.reader.is_some()
     }
 
-    /// Whether all that was due after the last commit was merged. If memory ran out for some, their segments are left
-    /// to the next commit. No reply shows it.
+    /// Whether all that was due after the last commit was merged. If memory ran out for some merge, its segments are
+    /// left to the next commit. No reply shows it.
     pub fn is_merged(&self) -> bool
         ensures { result ≡ self.now.is_merged }
     {

@@ -1,9 +1,9 @@
 //! An index of segments under a script.
 //!
-//! [`IndexEngine`] is an engine of scripts over a writer of segments: it submits to rounds of one lane, commits them
-//! cut as its options say, merges as they say, and searches the last commit through a reader. For every cutting,
-//! merging and number of workers it takes the same steps as a plain list of documents, so no option changes a reply.
-//! Where the segments are small, one thread searches them, whatever the number of workers.
+//! [`IndexEngine`] is an engine of scripts over a writer of segments: it submits to rounds of one lane, cuts and merges
+//! as its options say, and searches the last commit through a reader. For every cutting, merging and number of workers
+//! it takes the same steps as a plain list of documents, so no option changes a reply. If the segments are small, one
+//! thread searches them, whatever the number of workers.
 //!
 //! [`LocalEngine`] of `fts_engine_local`, which is handed on here, takes the same steps in the calling thread alone.
 //!

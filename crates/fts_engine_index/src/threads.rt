@@ -1,14 +1,14 @@
-// With how many threads segments are searched.
+// How many threads search the segments.
 ghost use Rattle.std.specs.Prelude.{◌≡◌, ◌-◌, ◌^◌, ◌≤◌, min};
 ghost use Rattle.fts_engine_index.specs.SearchThreads.{documents_in, threads_for};
 
 use fts_index::EntryList;
 
-/// Fewer documents are searched by the calling thread alone: each further thread costs some 40 microseconds, in which a
-/// thread searches tens of thousands of documents.
+/// Fewer documents than this are searched by the calling thread alone: each further thread costs about 40 microseconds,
+/// in which a thread searches tens of thousands of documents.
 const WORTH_THREADS: u64 = 262_144;
 
-/// How many documents segments have in all; a sum stays at the greatest `u64`.
+/// How many documents segments have in all. A sum past the greatest `u64` stays at it.
 fn documents_in(entries: &EntryList) -> u64
     ensures { result ≡ min (2 ^ 64 - 1) (documents_in entries.now) }
 {
@@ -19,7 +19,7 @@ fn documents_in(entries: &EntryList) -> u64
     documents
 }
 
-/// With how many threads segments are searched, where this many are wanted. The answer is the same with any number.
+/// How many threads search the segments if this many are wanted. The answer is the same with any number.
 pub(crate) fn threads_for(wanted: usize, entries: &EntryList) -> usize
     requires { 1 ≤ wanted }
     ensures threads { result ≡ threads_for wanted entries.now }

@@ -19,12 +19,12 @@ use std::thread::Threads;
 
 /// The uncommitted operations, however far a commit has come with them.
 ///
-/// A refused commit leaves them, and neither the end of a lane nor a batch can be undone: so they are kept as these.
+/// A refused commit leaves them, and neither the end of a lane nor a batch can be undone, so each stage is a variant.
 #[derive(Drop)]
 pub enum Uncommitted {
-    /// None, and no round is open.
+    /// There are none, and no round is open.
     Nothing,
-    /// Those that were submitted to the lane of the open round.
+    /// They were submitted to the lane of the open round.
     Open(Round, Lane),
     /// The lane was ended, and then a growth was refused.
     Ended(Round, Vec<LaneEnd>),
@@ -51,7 +51,7 @@ fn open(alloc: Global, writer: &mut Writer) -> Result<(Round, Lane), Refusal>
     Ok((round, lane))
 }
 
-/// Opens a round if none is open.
+/// Opens a round unless one is open.
 fn make_open(
     alloc: Global,
     writer: &mut Writer,
@@ -86,7 +86,7 @@ fn draw(round: &Round, lane: &mut Lane, op: Op) -> Result<Stamp, Refusal>
     }
 }
 
-/// Submits an operation. It is refused as `LaneFull` where 1,000,000 are uncommitted.
+/// Submits an operation. It is refused as `LaneFull` if 1,000,000 are uncommitted.
 pub fn submit(
     alloc: Global,
     writer: &mut Writer,
@@ -105,7 +105,7 @@ pub fn submit(
     make_open(alloc, writer, uncommitted)?;
     match uncommitted {
         Uncommitted::Open(round, lane) => draw(round, lane, op),
-        // A commit was refused for its memory, and can be tried again or given up.
+        // A commit was refused because memory ran out. It can be tried again or given up.
         _ => Err(Refusal::Memory),
     }
 }
@@ -143,7 +143,7 @@ fn gather_lane(alloc: Global, round: Round, lane: Lane) -> Result<Batch, (Uncomm
     gather_end(alloc, round, ends)
 }
 
-/// Gathers the uncommitted operations; if there are none, a round without one.
+/// Gathers the uncommitted operations. If there are none, the batch of a round without operations.
 fn gather(
     alloc: Global,
     writer: &mut Writer,

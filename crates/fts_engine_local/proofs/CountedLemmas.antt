@@ -44,7 +44,7 @@ counted_merged stamp old new ops calls i m = record {
   segments = omega (arith, m.segments, i.segments);
 }
 
--- operations were committed, and then what was due was merged, but for what memory ran out for
+-- operations were committed, and then what was due was merged, except what memory ran out for
 pub commits_and_merges : {X : Type 0} (merge : Merge) (policy : MergePolicy) (ops : List (Stamped Op)) (old made new : SnapshotValue) (r : Result X Refusal) →
     Commits ops old made → MergesDue (candidates_after merge policy made) made new (is_ok r) → CommitsAndMerges merge policy ops old new (is_ok r)
 commits_and_merges merge policy ops old made new r c m = record { made = made; commits = c; merges = m }

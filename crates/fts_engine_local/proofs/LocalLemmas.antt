@@ -1,4 +1,4 @@
--- What an engine of one thread keeps from call to call.
+-- What stays true of an engine of one thread from call to call.
 use Rattle.std.proofs.Common.{◌≡◌, ◌+◌, ◌<◌, ◌≤◌, ℕ, true, Option, None, Result, Ok, nat_lt, List, [], ◌∷◌, ◌++◌, length, filter, not, refl, sym, ap, subst, ◌∙◌, arith}
 use Rattle.std.specs.List.{range_with_len}
 use Rattle.std.specs.Option.{ForSome}
@@ -31,7 +31,7 @@ use Rattle.fts_engine_local.specs.LaterCommits.{IsLaterCommit}
 use Rattle.fts_engine_local.specs.LocalIndexes.{IsLocalEngine}
 use Rattle.fts_engine_local.proofs.CountedLemmas.{counted_committed, counted_merged, counted_submitted}
 
--- what the begun merge makes fits what follows
+-- what the started merge makes fits a later snapshot
 fits_later : (begun : Option (List EntryValue)) (old new : SnapshotValue) → ForSome begun (λ job. Fits (merged_of job) old) → Follows old new →
     ForSome begun (λ job. Fits (merged_of job) new)
 fits_later begun old new h f = λ job is. fits_further (merged_of job) old new (h job is) f
@@ -121,7 +121,7 @@ end_counted m s =
       count_by-le-length has_live one,
     )
 
--- the begun merge has ended
+-- the started merge has ended
 pub local_ended : (m : MergedSegmentValue) (old new : CommitPoint) (uncommitted : List (Stamped Op)) (cut : Cut) (calls : ℕ) (begun : Option (List EntryValue)) →
     IsLocalEngine old uncommitted cut calls begun → new.snapshot ≡ after_end m old.snapshot → new.stamp ≡ old.stamp →
     IsLocalEngine new uncommitted cut (calls + 1) None
@@ -136,7 +136,7 @@ local_ended m old new uncommitted cut calls begun i is kept = record {
   };
 }
 
--- one more call was counted, and the begun merge may be forgotten
+-- one more call was counted, and the started merge may be forgotten
 pub local_counted : (commit : CommitPoint) (uncommitted : List (Stamped Op)) (cut : Cut) (calls : ℕ) (begun : Option (List EntryValue)) →
     IsLocalEngine commit uncommitted cut calls begun → IsLocalEngine commit uncommitted cut (calls + 1) begun
 local_counted commit uncommitted cut calls begun i = record {

@@ -1,4 +1,4 @@
--- Which merge is begun, and what ends it.
+-- Which merge is started beside commits, and what its end leaves.
 use Rattle.std.specs.Prelude.{◌≡◌, ◌&&◌, ℕ, Bool, List, [], ◌∷◌, Option, Some, None, Result, IfOk}
 use Rattle.std.specs.Prelude.{nat_lt, is_none, not, sum_by, if◌then◌else◌}
 use Rattle.std.specs.Option.{option_or}
@@ -32,7 +32,7 @@ abbrev pub due_job : List EntryValue → Option (List EntryValue)
 due_job entries = first_job (candidate_ids_by (local_policy None) entries) entries
 
 -- What the end of a merge of these segments gives in a snapshot: the snapshot with the merged segment in place of its
--- sources, where the same is found, or a refusal.
+-- sources, in which nothing is found differently, or a refusal.
 pub record EndsIn (job : List EntryValue) (s : SnapshotValue) (result : Result SnapshotValue Refusal) : Type 0 where
   pub snapshot :
       Gives (λ new. new) result (ok_unless (end_fault s.next_id (merged_of job) s.entries) (after_end (merged_of job) s))

@@ -9,7 +9,7 @@ use Rattle.fts_engine_local.specs.BegunMerges.{due_job}
 use Rattle.fts_engine_local.specs.LocalIndexes.{LocalValue}
 use Rattle.fts_engine_local.specs.declared.begun_merge.BegunMerge.{BegunMerge}
 
--- what came of the beginning of a merge: a job of what is due, which the engine remembers, or nothing, if nothing is due
+-- what the beginning of a merge gives: a job of what is due, which the engine remembers, or nothing, if nothing is due
 -- or memory was refused
 abbrev pub Begins : LocalValue → LocalValue → Result (Option BegunMerge) Refusal → Type 0
 Begins old new (Ok None) = (due_job old.snapshot.entries ≡ None) × (new ≡ old)
@@ -29,7 +29,7 @@ HasFailed (Some job) old new refusal =
     (end_fault old.snapshot.next_id (merged_of job) old.snapshot.entries ≡ Some refusal)
     × (new.snapshot ≡ old.snapshot) × (new.begun ≡ None)
 
--- what came of the end of a merge
+-- what the end of a merge gives
 abbrev pub Ends : LocalValue → LocalValue → Result Bool Refusal → Type 0
 Ends old new (Ok true) = HasEnded old.begun old new
 Ends old new (Ok false) = (new.snapshot ≡ old.snapshot) × (new.begun ≡ old.begun)
@@ -37,7 +37,7 @@ Ends old new (Err refusal) =
     ((refusal ≡ Memory) × (new.snapshot ≡ old.snapshot) × (new.begun ≡ old.begun))
     ⊎ HasFailed old.begun old new refusal
 
--- A merge was ended, if one was begun and run; what the index stands for is the same. Calls are counted up to 2^61.
+-- A merge was ended, if one was started and run; the index is the same. Calls are counted up to 2^61.
 pub record EndsMerge (old new : LocalValue) (result : Result Bool Refusal) : Type 0 where
   pub index : new.index ≡ old.index
   pub calls : new.calls ≤ old.calls + 1

@@ -1,4 +1,4 @@
--- What merges keep of a commit.
+-- What merges leave of a commit.
 use Rattle.std.specs.Prelude.{◌≡◌}
 use Rattle.fts_snapshots.specs.Successors.{Follows}
 use Rattle.fts_snapshots.specs.declared.commit_point.CommitPoint.{CommitPoint}

@@ -1,4 +1,4 @@
--- An index over a commit and the operations since, kept by one thread.
+-- An index over a commit and the operations since, in one thread.
 use Rattle.std.specs.Prelude.{◌≡◌, Bool, ℕ, ◌+◌, Option, List, length}
 use Rattle.std.specs.List.{range_with_len}
 use Rattle.std.specs.Option.{ForSome}
@@ -17,9 +17,9 @@ use Rattle.fts_engine.specs.declared.options.Merge.{Merge}
 use Rattle.fts_engine_local.specs.CountedIndexes.{IsCounted}
 use Rattle.fts_engine_local.specs.declared.stats.Stats.{Stats}
 
--- an engine: what it stands for, how many calls changed it, and how large it is; and what no reply shows: the segments
--- of its last commit, when it merges, whether all that was due after that commit was merged, the segments of the merge
--- that was begun last, and the limit of what its commits merge
+-- an engine: its index, how many calls changed it, and how large it is; and what no reply shows: the segments of its
+-- last commit, when it merges, whether all that was due after that commit was merged, the segments of the merge that
+-- was started last, and the limit of what its commits merge
 pub record LocalValue : Type 0 where
   pub index : Index
   pub calls : ℕ
@@ -31,7 +31,7 @@ pub record LocalValue : Type 0 where
   pub limit : Option ℕ
 
 -- What holds of an engine after this many calls that changed it: the operations have the stamps after the commit's, and
--- what the begun merge makes can take the place of its sources.
+-- what the started merge makes can take the place of its sources.
 pub record IsLocalEngine (commit : CommitPoint) (uncommitted : List (Stamped Op)) (cut : Cut) (calls : ℕ)
     (begun : Option (List EntryValue)) : Type 0 where
   pub fits : ForSome begun (λ job. Fits (merged_of job) commit.snapshot)

@@ -1,4 +1,4 @@
-// A merge that was begun: it is run in any thread, beside the engine, and then ended by the engine.
+// A merge that any thread may run beside the engine, which then ends it.
 ghost use Rattle.std.specs.Prelude.{◌≡◌, ◌≤◌, ◌⊎◌, None, Some, IfErr, IfNone, IfOk, IfSome, OnErr, OnOk, IsOkUnless};
 ghost use Rattle.std.specs.Prelude.{IsFalse, IsTrue, map, sum_by};
 ghost use Rattle.std.specs.Arc.{arc_value};
@@ -18,7 +18,7 @@ use fts_snapshots::{CommitPoint, Entry, MergeJob, MergedSegment, Snapshot};
 use std::alloc::{AllocError, Global};
 use std::sync::Arc;
 
-/// What a job made.
+/// The segment that a job made.
 #[derive(Drop)]
 pub(crate) struct MadeSegment {
     segment: MergedSegment,
@@ -30,14 +30,14 @@ impl Fits for MadeSegment {
     ghost fits = { λ job made. made.segment ≡ merged_of job };
 }
 
-/// Where that which a job makes is put. Contracts see it as the job's segments.
+/// Holds the segment that a job makes. Contracts see it as the segments of the job.
 #[derive(Drop)]
 pub(crate) struct MergeSlot {
     pub(crate) made: Counted<Option<MadeSegment>>,
 }
 
 impl MergeSlot {
-    /// The place of a job, which is empty.
+    /// The slot of a job, still empty.
     fn new(job: &MergeJob) -> MergeSlot
         ensures { result.made ≡ job.now }
     {
@@ -46,7 +46,7 @@ impl MergeSlot {
         }
     }
 
-    /// Puts what was made there, unless something is there.
+    /// Stores the segment, unless one is stored already.
     fn put(&self, segment: MergedSegment)
         requires { segment ≡ merged_of self.now.made }
     {
@@ -58,7 +58,8 @@ impl MergeSlot {
         }
     }
 
-    /// The snapshot with what was made in place of its sources, or why it can't be; nothing if nothing was made.
+    /// The snapshot with the merged segment in place of its sources, or why it can't be; nothing if no segment was
+    /// made.
     fn end_in(&self, alloc: Global, snapshot: &Snapshot) -> Option<Result<Snapshot, Refusal>>
         requires { successors.Fits (merged_of self.now.made) snapshot.now }
         ensures { IfSome result (EndsIn self.now.made snapshot.now) }
@@ -77,7 +78,7 @@ impl MergeSlot {
     }
 }
 
-/// A merge of segments of an engine. It is run in any thread, while the engine goes on, and then ended by the engine.
+/// A merge of segments of an engine. Any thread may run it while the engine goes on; then the engine ends it.
 #[derive(Drop)]
 pub struct BegunMerge {
     job: Option<MergeJob>,
@@ -125,7 +126,7 @@ fn is_within(entries: &[Entry]) -> bool
     true
 }
 
-/// A job of the segments of these numbers, if they can be merged.
+/// The job that merges the segments of these numbers, if they can be merged.
 fn job_of(alloc: Global, snapshot: &Snapshot, ids: &[u64]) -> Result<Option<MergeJob>, Refusal>
     ensures job { IfOk result (λ job. job ≡ job_of ids.now snapshot.now.entries) }
     ensures fits { IfOk result (λ job. IfSome job (λ j. successors.Fits (merged_of j) snapshot.now)) }
@@ -145,7 +146,7 @@ fn job_of(alloc: Global, snapshot: &Snapshot, ids: &[u64]) -> Result<Option<Merg
     }
 }
 
-/// A job of the first of candidates that can be merged, if there is one.
+/// The job of the first of candidates that can be merged, if there is one.
 fn first_job(
     alloc: Global,
     snapshot: &Snapshot,
@@ -166,8 +167,8 @@ fn first_job(
     Ok(None)
 }
 
-/// Begins a merge of what the policy names first of a snapshot, if it names anything that can be merged: the merge, and
-/// the place that it shares with it.
+/// Starts a merge of the first candidate of the policy that can be merged, if there is one: the merge, and the slot
+/// that the engine shares with it.
 pub(crate) fn begun(
     alloc: Global,
     snapshot: &Snapshot,
@@ -203,7 +204,7 @@ pub(crate) fn is_memory(refusal: Refusal) -> bool
     }
 }
 
-/// The commit with what was made in place of its sources, or why it can't be; nothing if nothing was made.
+/// The commit with the merged segment in place of its sources, or why it can't be; nothing if no segment was made.
 pub(crate) fn ended(
     alloc: Global,
     place: &MergeSlot,

@@ -14,13 +14,13 @@ use std::alloc::{AllocError, Global};
 use std::marker::Model;
 use std::sync::Arc;
 
-/// For how many operations room is kept once those before were committed or given up.
+/// After a commit or rollback the buffer of operations is shrunk to this capacity.
 const MOST_KEPT: usize = 1_024;
 
-/// After this many calls no merge is ended.
+/// Once this many calls changed the engine, no merge is ended.
 const MOST_CALLS: u64 = 1 << 61;
 
-/// Lets operations go, and the room of many.
+/// Clears the operations, and shrinks their buffer to `MOST_KEPT`.
 fn let_go(ops: &mut Vec<Stamped<Op>>)
     ensures { ops.new.items ≡ [] }
 {
@@ -28,7 +28,7 @@ fn let_go(ops: &mut Vec<Stamped<Op>>)
     ops.shrink_to(MOST_KEPT);
 }
 
-/// Puts two operations after others, from this stamp on, or neither.
+/// Appends two operations with stamps from this one on, or neither.
 fn push_two(
     ops: &mut Vec<Stamped<Op>>,
     stamp: Stamp,
@@ -60,7 +60,7 @@ fn push_two(
 
 /// The last commit, which forks share, and the operations since.
 ///
-/// All work is done by the calling thread, so of the options it heeds the cut and the merges.
+/// All work is done by the calling thread, so only the options on cuts and merges have an effect.
 #[derive(Drop)]
 pub struct LocalEngine {
     alloc: Global,
@@ -74,7 +74,7 @@ pub struct LocalEngine {
     is_merged: bool,
     /// A commit merges no segment of more live documents than this, if there is a limit.
     limit: Option<u32>,
-    /// Where the merge that was begun last puts what it makes.
+    /// The slot of the merge that was started last.
     begun: Option<Arc<MergeSlot>>,
 }
 
@@ -117,15 +117,15 @@ impl LocalEngine {
         stats_of(self.commit.snapshot.entries())
     }
 
-    /// Whether all that was due after the last commit was merged. If memory ran out for some, their segments are left
-    /// to the next commit. No reply shows it.
+    /// Whether all that was due after the last commit was merged. If memory ran out for some merge, its segments are
+    /// left to the next commit. No reply shows it.
     pub fn is_merged(&self) -> bool
         ensures { result ≡ self.now.is_merged }
     {
         self.is_merged
     }
 
-    /// From now on, commits merge no segment of more live documents than this, and none by itself; without a limit,
+    /// From now on, commits merge no segment of more live documents than this, and none by itself. Without a limit,
     /// they merge whatever the policy names.
     pub fn limit_merges(&mut self, limit: Option<u32>)
         ensures { self.new ≡ record self.old { limit = limit } }
@@ -133,8 +133,8 @@ impl LocalEngine {
         self.limit = limit;
     }
 
-    /// Begins a merge of what the policy names first that can be merged, if there is any: it may be run in any thread,
-    /// while the engine goes on. The engine forgets the one that was begun before.
+    /// Starts a merge of the first candidate of the policy that can be merged, if there is one. It may be run in any
+    /// thread, while the engine goes on. The engine forgets a merge that was started before.
     pub fn begin_merge(&mut self) -> Result<Option<BegunMerge>, Refusal>
         ensures { Begins self.old self.new result }
     {
@@ -148,10 +148,11 @@ impl LocalEngine {
         }
     }
 
-    /// Ends the merge that was begun last, if there is one and it was run, and tells whether: the segment takes the
-    /// place of its sources, with the live bits that these have by then. Nothing is found differently by it.
+    /// Ends the merge that was started last, if there is one and it was run, and returns whether it did: the segment
+    /// takes the place of its sources, with the live bits that these have by then. Nothing is found differently
+    /// afterwards.
     ///
-    /// `SourceGone` if a source is gone, by which the merge is given up; `Memory` also after 2^61 calls.
+    /// `SourceGone` if a source is gone, and the merge is given up then; `Memory` also after 2^61 calls.
     pub fn end_merge(&mut self) -> Result<bool, Refusal>
         ensures { EndsMerge self.old self.new result }
     {

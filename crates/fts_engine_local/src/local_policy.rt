@@ -11,8 +11,8 @@ use fts_model::Refusal;
 use fts_snapshots::{MergePolicy, Mergeable, merge_planned};
 use std::alloc::Global;
 
-/// Merges segments of a new commit by a policy, if the option says so. Where memory runs out for some, they stay, and
-/// are merged after a later commit.
+/// Merges segments of a new commit by a policy, if the option says so. If memory runs out for some, they stay, and are
+/// merged after a later commit.
 pub fn merge_after<R, S: Mergeable<R>>(
     rt: &R,
     alloc: Global,
@@ -39,11 +39,12 @@ pub fn merge_after<R, S: Mergeable<R>>(
 /// A commit waits for the merges after it, so these are graded finely: the floor is near the size of small commits,
 /// since each merge of a level copies all that is below it. Seven members are few enough to leave few segments to
 /// search, and no segment has over a third of its documents dead for long, so that updates of the same documents over
-/// and over keep some 120 of 100. By a model (`bench/updates.py policies`) commits of ten updates of 100,000 documents
-/// move 52 documents each and leave 17 segments, where the levels of the stated policy move 960 and leave 8.
+/// and over leave about 120 documents for 100 live ones. By a model (`bench/updates.py policies`) commits of ten
+/// updates of 100,000 documents move 52 documents each and leave 17 segments, while the levels of the stated policy
+/// move 960 and leave 8.
 ///
 /// Under a limit, this is what commits merge: no segment of more live documents, and none by itself. The rest waits for
-/// a merge that is begun, which goes by the policy without a limit.
+/// a merge that is started beside commits, which follows the policy without a limit.
 pub(crate) fn policy(limit: Option<u32>) -> MergePolicy
     ensures policy { result ≡ local_policy limit }
     ensures floor { result.floor ≤ most_merged }

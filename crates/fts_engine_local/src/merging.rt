@@ -4,8 +4,8 @@ use fts_snapshots::{CommitPoint, Mergeable, Snapshot};
 use std::alloc::Global;
 use std::sync::Arc;
 
-/// A commit whose segments are merged. What merges leave follows what was, so that a merge which was begun before can
-/// end.
+/// A commit whose segments are merged. Each snapshot follows the one before it, so that a merge started earlier can
+/// still end.
 #[derive(Drop)]
 pub(crate) struct Merging {
     pub(crate) commit: Arc<CommitPoint>,

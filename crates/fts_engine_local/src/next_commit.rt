@@ -1,4 +1,4 @@
-// What the next commit makes of that of an engine of one thread.
+// The commit after the last one of an engine of one thread.
 ghost use Rattle.std.specs.Prelude.{◌≡◌, ◌+◌, ◌^◌, ◌<◌, ◌≤◌, None, length, IfOk, IsOkUnless};
 ghost use Rattle.std.specs.Arc.{arc_value};
 ghost use Rattle.std.specs.List.{range_with_len};
@@ -30,7 +30,7 @@ pub(crate) fn next_commit(
     ensures stamp { IfOk result (λ next. (arc_value next).stamp ≡ last.now.stamp + length ops.now + 1) }
     ensures memory { IsOkUnless result Refusal.Memory }
 {
-    // What a snapshot holds has rising stamps.
+    // The stamps of a snapshot's documents rise.
     let _schema = last.snapshot.schema();
     let snapshot = match last.snapshot.commit_alone(alloc, ops, cut) {
         Ok(snapshot) => snapshot,

@@ -1,16 +1,16 @@
-// How large an index is.
+// The size of an index.
 ghost use Rattle.std.specs.Prelude.{◌≡◌, ◌+◌};
 ghost use Rattle.fts_engine_local.specs.Stats.{capped, stats_of};
 
 use fts_snapshots::EntryList;
 
-/// How large an index is at a commit. What doesn't fit is the greatest number that does.
+/// The size of an index at a commit. A number over the greatest `u64` is that one.
 #[derive(Clone, Copy, Debug, PartialEq, Eq)]
 #[repr(C)]
 pub struct Stats {
     /// How many segments there are.
     pub segments: u64,
-    /// How many documents the segments have, with those that were deleted and are in them still.
+    /// How many documents the segments have, deleted ones that are still in them included.
     pub documents: u64,
     /// How many of them are live.
     pub live: u64,
@@ -23,7 +23,7 @@ fn capped_sum(a: u64, b: u64) -> u64
     a.saturating_add(b)
 }
 
-/// How large segments are.
+/// The sizes of segments, added up.
 pub(crate) fn stats_of(entries: &EntryList) -> Stats
     ensures { result ≡ stats_of entries.now }
 {

@@ -9,13 +9,13 @@ use Rattle.fts_snapshots.specs.declared.commits.commit_job.CommitJob.{CommitJob}
 use Rattle.fts_snapshots.proofs.JobLemmas.{kept_in_turn}
 use Rattle.fts_index.specs.CommitJobs.{AreAnswers}
 
--- the answer of a job is its own
+-- a job's answer is what the job itself leaves
 answer_at : (jobs : List CommitJob) (results : List (Result EntryValue Refusal)) (k : ℕ) (job : CommitJob) (result : Result EntryValue Refusal) →
     AreAnswers jobs results → k < length results →
     result ≡ get_or results k result → Answers (get_or jobs k job) result
 answer_at jobs results k job result a l e = subst (λ r. Answers (get_or jobs k job) r) (sym e) (a.each k job result (omega (arith, l, a.count)))
 
--- a job refuses for memory alone
+-- a job is refused for memory alone
 pub memory_only : (jobs : List CommitJob) (results : List (Result EntryValue Refusal)) (k : ℕ) (result : Result EntryValue Refusal) (refusal : Refusal) →
     AreAnswers jobs results → k < length results →
     result ≡ get_or results k result → result ≡ Err refusal → refusal ≡ Memory
@@ -23,7 +23,7 @@ memory_only [] results k result refusal a l e f = absurd (omega (arith, l, a.cou
 memory_only (job ∷ jobs) results k result refusal a l e f =
     (subst (λ r. Answers (get_or (job ∷ jobs) k job) r) f (answer_at (job ∷ jobs) results k job result a l e)).1
 
--- one job's segment more
+-- one more job's segment
 pub kept_more : (jobs : List CommitJob) (results : List (Result EntryValue Refusal)) (k : ℕ) (result : Result EntryValue Refusal) (entry : EntryValue)
     (kept : List EntryValue) → AreAnswers jobs results →
     k < length results → result ≡ get_or results k result → result ≡ Ok entry → kept ≡ filter has_live (map entry_of (take k jobs)) →

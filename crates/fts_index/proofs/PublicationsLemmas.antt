@@ -20,7 +20,7 @@ use Rattle.fts_index.specs.Publications.{opening, Follows, ArePublications, newe
 pub prefix_self : {A : Type 0} (xs : List A) → IsPrefix xs xs
 prefix_self xs = ([], append-nil xs)
 
--- of two beginnings of one list the shorter begins the longer
+-- the shorter of two beginnings of one list begins the longer
 pub prefix_shorter : {A : Type 0} (xs ys zs : List A) → IsPrefix xs zs → IsPrefix ys zs → length xs ≤ length ys → IsPrefix xs ys
 prefix_shorter [] ys zs p q le = (ys, refl)
 prefix_shorter (x ∷ xs) [] zs p q le = absurd (omega arith)
@@ -36,7 +36,7 @@ prefix_whole [] (y ∷ ys) p le = absurd (omega arith)
 prefix_whole (x ∷ xs) [] p le = absurd (cc (p.1))
 prefix_whole (x ∷ xs) (y ∷ ys) p le = let rest = prefix_whole xs ys (p.0, cc (p.1)) (omega arith) in cc (p.1, rest)
 
--- what is taken last of a list that ends with y
+-- the last member of a list that ends with y
 pub fold_last : {A : Type 0} (x : A) (xs : List A) (y : A) → fold (λ before z. z) x (xs ++ y ∷ []) ≡ y
 fold_last x [] y = refl
 fold_last x (z ∷ zs) y = fold_last z zs y
@@ -90,13 +90,13 @@ rest_follows x xs rest are =
     subst (λ (q : Publication). Follows q (newest ((x ∷ xs) ++ rest))) here (newest_after ((x ∷ xs) ++ rest) (length xs) x are.follow
     (omega (arith, length-append xs rest)))
 
--- of a beginning and the whole, the newest follow one another
+-- if a list begins another, the newest of the whole follows the newest of the beginning
 pub newest_follows : (known more : List Publication) → IsPrefix known more → ArePublications known → ArePublications more → Follows (newest known) (newest more)
 newest_follows [] more p begun are = absurd (cc (begun.opens))
 newest_follows (x ∷ xs) more p begun are =
     subst (λ (l : List Publication). Follows (newest (x ∷ xs)) (newest l)) p.1 (rest_follows x xs p.0 (subst ArePublications (sym p.1) are))
 
--- two beginnings of one list tell last the same schema, and the same content where they tell the same stamp
+-- two beginnings of one list end with the same schema, and with the same content if they end with the same stamp
 pub newest_alike : (xs ys both : List Publication) → IsPrefix xs both → IsPrefix ys both → ArePublications xs → ArePublications ys →
     ((newest xs).schema ≡ (newest ys).schema) × ((newest xs).stamp ≡ (newest ys).stamp → (newest xs).content ≡ (newest ys).content)
 newest_alike xs ys both p q are others =
@@ -110,7 +110,7 @@ newest_alike xs ys both p q are others =
 pub front_schema : (f : FrontValue) → IsFront f → f.snapshot.schema ≡ schema_of f.seen
 front_schema f is = sym (ap (λ (n : Publication). n.schema) is.last)
 
--- two fronts of one list are of one commit where their stamps are equal
+-- two fronts of one list are of one commit if their stamps are equal
 pub one_commit : (a b : FrontValue) (both : List Publication) → IsPrefix a.seen.list both → IsPrefix b.seen.list both → IsFront a → IsFront b →
     a.stamp ≡ b.stamp → IsOneCommit a b
 one_commit a b both p q mine other same =

@@ -1,4 +1,4 @@
--- The steps over the shown front keep the rule: a front of one writer is in for another.
+-- The steps over the shown front keep the rule: a writer's front is replaced by another front of that writer.
 use Rattle.std.proofs.Common.{◌≡◌, ◌≢◌, ℕ, Result, Ok, Err, OnOk, MatchResult, List, [], ◌∷◌, ◌++◌, set, Some, None, Option, refl, ap, ◌∙◌, subst, ⊎_elim, fold}
 use Rattle.std.proofs.Common.{sym}
 use mathlib.Core.Option.{some}
@@ -43,7 +43,7 @@ merges seat v other w x views h at apart there =
     (at_set views seat other w w there) in
     set_knows x (set views seat w) other None (set_knows x views seat w h told) tt
 
--- of pending operations the last is what is shown after them
+-- the last of pending operations is what is shown after them
 last_pending : (old front : FrontValue) (pending before : List FrontValue) → pending ≡ before ++ front ∷ [] → fold (λ (f : FrontValue) o. o) old pending ≡ front
 last_pending old front pending before e = ap (fold (λ f o. o) old) e ∙ fold_last old before front
 
@@ -59,13 +59,13 @@ pub of_shown : {A B : Type 0} (P Q : Type 0) (r : Result A B) (new old front : F
 of_shown P Q (Ok a) new old front pending before of e h = ap (λ f. f.seen.of) (h.0 ∙ last_pending old front pending before e)
 of_shown P Q (Err f) new old front pending before of e h = ap (λ f. f.seen.of) h.0 ∙ of
 
--- where it went through, it is the front that was appended
+-- if the step went through, the front that was appended is shown
 pub is_shown : {A B : Type 0} (P Q : Type 0) (r : Result A B) (new old front : FrontValue) (pending before : List FrontValue) → pending ≡ before ++ front ∷ []
     → MatchResult r (λ _. (new ≡ fold (λ (f : FrontValue) o. o) old pending) × P) (λ _. (new ≡ old) × Q) → OnOk r (new ≡ front)
 is_shown P Q (Ok a) new old front pending before e h = h.0 ∙ last_pending old front pending before e
 is_shown P Q (Err f) new old front pending before e h = tt
 
--- and where it did, the publisher's seat knows the writer
+-- and then the publisher's seat knows the writer
 pub seat_shown : {A B : Type 0} (r : Result A B) (first v w : Option WriterId) (x y : FrontValue) (b : Book) → v ≡ first → y.seen.of ≡ b →
     MatchResult r (λ _. Looks v x y w) (λ _. w ≡ v)
     → MatchResult r (λ _. w ≡ Some (name_of b)) (λ _. w ≡ first)

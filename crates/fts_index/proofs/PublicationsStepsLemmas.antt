@@ -54,7 +54,7 @@ append_goes list v e old new behind more len may count legal pre false is =
       rw is tt,
     )
 
--- whatever the book is, the exchange adds the publication to all that was seen, or finds that the list is longer
+-- whatever the book is, the exchange appends the publication to all known ones, or finds that the list is longer
 pub append_moves : (v : List Publication) (e : Publication) (old new : ℕ) → new ≡ old + 1 → length v ≡ old + 1 → ArePublications (v ++ e ∷ [])
     → Moves IsKept shown moved 0 (v, (no_nib, None)) (λ n. either (n == old) new n) (Appends (step 0 old new e) (v, (no_nib, None)))
 append_moves v e old new more len may cs list kept pre away =

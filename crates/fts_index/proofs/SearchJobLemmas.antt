@@ -35,7 +35,7 @@ parts_told query request (job ∷ jobs) (answer ∷ answers) (entry ∷ entries)
     let rest : answers ≡ map (λ part. Ok part) parts = cc in
     (told_at query request job answer entry part z.0 first told, parts_told query request jobs answers entries parts z.1 others rest)
 
--- a job refuses for memory alone
+-- a job is refused for memory alone
 pub refused_for_memory : (jobs : List SearchJob) (answers : List (Result PartValue Refusal)) (refusal : Refusal) → AllZip AnswersSearch jobs answers →
     Contains answers (Err refusal) → refusal ≡ Memory
 refused_for_memory [] [] refusal z c = absurd (Contains-none (Err refusal) c)

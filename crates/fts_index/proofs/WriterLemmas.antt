@@ -9,14 +9,14 @@ use Rattle.fts_snapshots.specs.LateMerges.{after_merge}
 use Rattle.fts_snapshots.specs.Snapshots.{merge_fault}
 use Rattle.fts_index.specs.Writers.{IsOpen, IsRefusedFor, KeepsRounds, WriterValue, is_of, with_merge}
 
--- the first stamp of a batch of the open round
+-- the first stamp of a batch of the open round is the one after the last commit's
 pub first_behind : (stamp rounds : ℕ) (round : Option RoundLimits) (batch : Gathered) → IsOpen stamp rounds round → is_of round batch ≡ true →
     batch.first ≡ stamp + 1
 first_behind stamp rounds None batch h e = cc e
 first_behind stamp rounds (Some limits) batch h e =
     sym (eqb-true limits.first batch.first (and_parts (limits.round == batch.round) (limits.first == batch.first) e).1) ∙ h.0
 
--- what a merge leaves that was made or refused
+-- what a merge that was made or refused leaves
 pub merge_given : {X : Type 0} (ids : List ℕ) (old new : WriterValue) (r : Result X Refusal) → OnOk r (new ≡ with_merge ids old) →
     IsRefusedFor (merge_fault ids old.front.snapshot) r →
     Gives (λ done. new.front.snapshot) r (ok_unless (merge_fault ids old.front.snapshot) (after_merge ids old.front.snapshot))

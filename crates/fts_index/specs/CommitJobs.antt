@@ -1,4 +1,4 @@
--- What threads answer that run the jobs of a commit.
+-- What the threads that run a commit's jobs return.
 use Rattle.std.specs.Prelude.{◌≡◌, ℕ, ◌<◌, List, length, Result, slice_index_or}
 use Rattle.fts_base.specs.declared.refusal.Refusal.{Refusal}
 use Rattle.fts_snapshots.specs.Entries.{EntryValue}

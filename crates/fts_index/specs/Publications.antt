@@ -29,7 +29,7 @@ pub record ArePublications (list : List Publication) : Type 0 where
   pub opens : slice_get list 0 ≡ Some (opening (newest list).schema)
   pub follow : AllPairs Follows list
 
--- what is known of what a writer published: which writer, and a beginning of its one list of publications
+-- what is known of the publications of a writer: which writer it is, and a beginning of its one list of publications
 pub record Known : Type 0 where
   pub of : Book
   pub list : List Publication
@@ -38,13 +38,13 @@ pub record Known : Type 0 where
 abbrev pub schema_of : Known → List Field
 schema_of known = (newest known.list).schema
 
--- a snapshot at its commit stamp, with what was seen of the writer's publications when it was taken
+-- a snapshot at its commit stamp, with the publications that were known when it was taken
 pub record FrontValue : Type 0 where
   pub stamp : ℕ
   pub snapshot : SnapshotValue
   pub seen : Known
 
--- a writer's front after a snapshot was published at a stamp: its list has one publication more
+-- a writer's front once a snapshot was published at a stamp: its list has one publication more
 abbrev pub published : ℕ → SnapshotValue → FrontValue → FrontValue
 published stamp snapshot f = record {
   stamp = stamp;
@@ -52,13 +52,13 @@ published stamp snapshot f = record {
   seen = record { of = f.seen.of; list = f.seen.list ++ publication stamp snapshot ∷ [] };
 }
 
--- what was seen are publications, of which the last has this stamp, schema and content
+-- the known publications are those of one writer, and the last has this stamp, schema and content
 pub record IsFront (f : FrontValue) : Type 0 where
   pub legal : ArePublications f.seen.list
   pub last : newest f.seen.list ≡ publication f.stamp f.snapshot
   pub stamped : IsStamped f.stamp f.snapshot
 
--- two fronts are of one commit: the same stamp, schema and content, however it is cut into segments
+-- two fronts are of one commit: the same stamp, schema and content, however the content is cut into segments
 pub record IsOneCommit (a b : FrontValue) : Type 0 where
   pub stamp : a.stamp ≡ b.stamp
   pub schema : a.snapshot.schema ≡ b.snapshot.schema

@@ -1,4 +1,4 @@
--- The rule of the book that holds a writer's publications, and what its one step tells.
+-- The rule of the book that holds a writer's publications, and what its one step adds.
 use Rattle.std.specs.Prelude.{◌≡◌, ℕ, ◌+◌, ◌==◌, true, List, [], ◌∷◌, ◌++◌, length, MatchBool}
 use Rattle.logbook.specs.Pages.{Cell, Step, View, Book, Named}
 use Rattle.fts_index.specs.Publications.{ArePublications}
@@ -15,6 +15,6 @@ pub record IsKept (cells : List Cell) (list : List Publication) : Type 0 where
 abbrev pub head_of : Book → Named
 head_of b = record { tracked = true; key = 0; book = b }
 
--- where the word was as expected, all publications had been seen, and one was added to them
+-- if the word was as expected, all publications were known, and one was added to them
 abbrev pub Appends : Step Publication → View Publication ℕ → ℕ → View Publication ℕ → Type 0
 Appends s v found w = MatchBool (found == s.old) (w.0 ≡ v.0 ++ s.ask ∷ []) (Unit {0})

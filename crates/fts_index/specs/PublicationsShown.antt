@@ -1,4 +1,4 @@
--- The rule over what readers are shown: the front that is shown is of the writer that each seat knows.
+-- The rule over what readers are shown: each seat knows no writer, or the one whose front is shown.
 use Rattle.std.specs.Prelude.{◌≡◌, ℕ, List, Option, Some, None, Result, IfOk, IfSome}
 use Rattle.std.specs.declared.alloc.AllocError.{AllocError}
 use mathlib.Core.Option.{some}
@@ -11,14 +11,14 @@ use Rattle.left_right.specs.Sides.{view}
 use Rattle.fts_index.specs.Publications.{FrontValue}
 use Rattle.fts_index.specs.declared.publications.writer_id.WriterId.{WriterId}
 
--- which writer a place knows, once it was told
+-- the writer that a seat knows, if it knows one
 abbrev pub told_name : {T : Type 0} → Seat (Option (Part T)) (Doing T (Option WriterId)) → Option WriterId
 told_name = view
 
 abbrev pub name_of : Book → WriterId
 name_of b = record { number = b.number; log_name = b.log_name; cells_name = b.cells_name }
 
--- a seat that was told no name knows nothing
+-- the writer that a seat knows, if it knows one, is that of the book
 abbrev pub KnowsName : Option WriterId → Book → Type 0
 KnowsName None b = Unit {0}
 KnowsName (Some n) b = n ≡ name_of b
@@ -30,7 +30,7 @@ IsOfOne shown views = (seat : ℕ) (v : Option WriterId) → get_elem? views sea
 abbrev pub Looks : Option WriterId → FrontValue → FrontValue → Option WriterId → Type 0
 Looks v x y w = KnowsName v y.seen.of × (w ≡ Some (name_of y.seen.of))
 
--- what a look leaves: a seat that knew the writer knows it still, and the front that it found is of that writer
+-- what a look leaves: a seat that knew the writer still does, and the front that it found is that writer's
 pub record Finds (before after : Option WriterId) (found : Result (Option FrontValue) AllocError) : Type 0 where
   pub keeps : (b : Book) → before ≡ Some (name_of b) → after ≡ Some (name_of b)
   pub of_one : (b : Book) → before ≡ Some (name_of b) → IfOk found (λ o. IfSome o (λ f. f.seen.of ≡ b))

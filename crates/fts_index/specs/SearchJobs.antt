@@ -1,4 +1,4 @@
--- What the jobs of a search are asked, and what they answer.
+-- What the jobs of a search are asked, and what they return.
 use Rattle.std.specs.Prelude.{Result, IfOk, IsOkUnless}
 use Rattle.fts_model.specs.declared.query.Request.{Request}
 use Rattle.fts_base.specs.declared.refusal.Refusal.{Refusal}
@@ -9,13 +9,13 @@ use Rattle.fts_snapshots.specs.Entries.{EntryValue}
 use Rattle.fts_collect.specs.Searches.{IsPartOf}
 use Rattle.fts_index.specs.declared.searches.search_job.SearchJob.{SearchJob}
 
--- a query and a request, for a segment
+-- a query and a request, asked of one segment
 pub record Asked : Type 0 where
   pub query : QueryValue
   pub request : Request
   pub entry : EntryValue
 
--- the same query and request for each segment
+-- what one query and request ask of a segment
 abbrev pub asks : QueryValue → Request → EntryValue → Asked
 asks query request entry = record { query = query; request = request; entry = entry }
 
@@ -23,10 +23,10 @@ asks query request entry = record { query = query; request = request; entry = en
 abbrev pub asked_of : SearchJob → Asked
 asked_of job = record { query = query_value job.query.now; request = job.request.now; entry = job.entry.now }
 
--- a result is a part of what was asked, or that memory ran out
+-- a result is the part that was asked for, or says that memory ran out
 abbrev pub Tells : Asked → Result PartValue Refusal → Type 0
 Tells asked result = IfOk result (IsPartOf asked.query asked.request asked.entry) × IsOkUnless result Memory
 
--- a job answers what it is asked
+-- a job returns what it is asked
 abbrev pub AnswersSearch : SearchJob → Result PartValue Refusal → Type 0
 AnswersSearch job result = Tells (asked_of job) result

@@ -1,4 +1,4 @@
--- What contracts see of a writer, and what its calls make of it.
+-- What contracts see of a writer, and what its calls change.
 use Rattle.std.specs.Prelude.{◌≡◌, ℕ, ◌+◌, ◌*◌, ◌^◌, ◌<◌, ◌≤◌, ◌==◌, ◌&&◌, ◌||◌, nat_le, Bool, false, Option}
 use Rattle.std.specs.Prelude.{Some, None, List, length, MatchOption, ◌⊎◌, Result, Ok, Err, if◌then◌else◌}
 use Rattle.fts_base.specs.declared.refusal.Refusal.{Refusal}
@@ -14,7 +14,7 @@ use Rattle.fts_snapshots.specs.MergedSegments.{MergedSegmentValue, merged_of}
 use Rattle.fts_snapshots.specs.LateMerges.{end_fault, after_end}
 use Rattle.fts_index.specs.Publications.{FrontValue, published}
 
--- a call succeeded and nothing was wrong; or it was refused for what was wrong, or for memory
+-- a call succeeded and nothing was wrong, or it was refused for what was wrong or for memory
 abbrev pub IsRefusedFor : {X : Type 0} → Option Refusal → Result X Refusal → Type 0
 IsRefusedFor fault (Ok x) = fault ≡ None
 IsRefusedFor fault (Err refusal) = (refusal ≡ Memory) ⊎ (fault ≡ Some refusal)
@@ -47,7 +47,7 @@ with_round lanes cap w = record { front = w.front; rounds = w.rounds + 1; round 
 abbrev pub without_round : WriterValue → WriterValue
 without_round w = record { front = w.front; rounds = w.rounds; round = None }
 
--- why no round can be opened, if `used_up` tells that its stamps or its number can't be given
+-- why no round can be opened; `used_up` says whether its stamps or its number can't be given
 abbrev pub fault_beside : Option RoundLimits → Bool → Option Refusal
 fault_beside (Some limits) used_up = Some RoundOpen
 fault_beside None used_up = if used_up then Some StampsUsedUp else None
@@ -57,7 +57,7 @@ abbrev pub round_fault : ℕ → ℕ → WriterValue → Option Refusal
 round_fault lanes cap w =
     fault_beside w.round (nat_le (2 ^ 62) (w.front.stamp + 1 + lanes * cap) || nat_le (2 ^ 62) w.rounds)
 
--- a batch is of the round
+-- a batch is of the open round
 abbrev pub is_of : Option RoundLimits → Gathered → Bool
 is_of None batch = false
 is_of (Some limits) batch = limits.round == batch.round && limits.first == batch.first
@@ -68,7 +68,7 @@ batch_fault cut batch w =
     first_of (if is_of w.round batch then None else Some StaleBatch)
     (first_of (misfit w.front.snapshot.schema batch.ops) (commit_fault cut batch.ops w.front.snapshot))
 
--- the stamp of the commit of a batch
+-- the stamp of the commit of a batch: the one after the last of its operations
 abbrev pub stamp_behind : Gathered → ℕ
 stamp_behind batch = batch.first + length batch.ops
 
@@ -93,7 +93,7 @@ with_end m w = record {
   round = w.round;
 }
 
--- the writer after a merge that was begun, run and ended with nothing between
+-- the writer after a merge that was started, run and ended with nothing in between
 abbrev pub with_merge : List ℕ → WriterValue → WriterValue
 with_merge ids w = with_end (merged_of (entries_at w.front.snapshot.entries ids)) w
 

@@ -15,7 +15,7 @@ use std::alloc::Global;
 use std::sync::Wait;
 use std::thread::Threads;
 
-/// The segments that jobs left, without those that have no live document; or the first refusal.
+/// The segments that jobs left, except those without a live document; or the first refusal.
 fn assemble(alloc: Global, answers: Vec<Result<Entry, Refusal>>) -> Result<Vec<Entry>, Refusal>
     ensures ok { IfOk result (λ entries. (jobs : List CommitJob) → AreAnswers jobs answers.items →
         entries.items ≡ filter has_live (map entry_of jobs)) }
@@ -31,7 +31,7 @@ fn assemble(alloc: Global, answers: Vec<Result<Entry, Refusal>>) -> Result<Vec<E
     Ok(entries)
 }
 
-/// The segments that jobs leave and that have a live document. The jobs are run by up to this many threads.
+/// The segments that jobs leave, except those without a live document. Up to this many threads run the jobs.
 fn entries_of_jobs<R: Threads + Wait + Sync, G: Gate>(
     rt: &R,
     alloc: Global,
@@ -47,8 +47,8 @@ fn entries_of_jobs<R: Threads + Wait + Sync, G: Gate>(
     assemble(alloc, answers)
 }
 
-/// The snapshot after a batch, as `Snapshot::commit_alone` has it. The jobs, one for each segment that the batch may
-/// strike and then one for each new one, are run by up to this many threads, 1 to 64.
+/// The snapshot after a batch, as by `Snapshot::commit_alone`. Up to this many threads, 1 to 64, run the jobs: one for
+/// each segment that the batch may strike, and then one for each new one.
 pub(crate) fn commit<R: Threads + Wait + Sync, G: Gate>(
     rt: &R,
     alloc: Global,

@@ -1,6 +1,6 @@
 //! The index: written by one writer in as many lanes as there are threads, and searched from any thread.
 //!
-//! What is found at one time, and how commits and merges lead from one such [`Snapshot`] to the next, is a crate below
+//! A [`Snapshot`] is what is found at one time. How commits and merges lead from one to the next is in a crate below
 //! (`fts_snapshots`), and so are the rounds that take operations (`fts_rounds`): their types are handed on here.
 //!
 //! - A [`Writer`] opens rounds, commits their batches, and merges segments. It holds the newest snapshot, counts rounds
@@ -10,7 +10,7 @@
 //!   by then.
 //! - Commits are *published* ([`publications`]). A [`Reader`] in any thread takes the newest one by one look, without a
 //!   lock, and never goes back; a [`Searcher`] keeps the one that it was made of.
-//! - A search asks each segment by a job of its own, and joins what these tell ([`Searcher::search`]).
+//! - A search asks each segment by a job of its own, and joins the parts ([`Searcher::search`]).
 //!
 //! ```text
 //! let mut writer = Writer::new(rt, alloc, &schema)?;

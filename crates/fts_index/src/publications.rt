@@ -5,12 +5,13 @@
 //! [`Reader`] makes a [`Searcher`] by one look, with no lock, while the publisher goes on, and the searcher keeps its
 //! snapshot for good.
 //!
-//! What a reader knows of the list is a beginning of it, and only grows. It grows when the reader looks, and when it is
-//! told of a [`CommitSeen`], which the publisher answers and any thread may hand on. So a reader that was told of a
-//! commit answers that commit or a later one, and two searchers of one stamp have the same documents.
+//! What a reader knows of the list is a beginning of it, and only grows. It grows when the reader looks, and when a
+//! [`CommitSeen`] is reported to it ([`Reader::told`]), which the publisher returns and any thread may hand on. So a
+//! reader that knows of a commit finds that commit or a later one, and two searchers of one stamp have the same
+//! documents.
 //!
-//! The list exists in proofs alone: what the threads share is its length, in one word (`history`), and the newest
-//! snapshot, in two copies of which readers read one while the other is changed (`shown`).
+//! The list exists in proofs alone. The threads share its length, in one word (`publication_log`), and the newest
+//! snapshot, in two copies: readers read one while the other is changed (`left_right_rule`).
 //!
 //! ```text
 //! let mut publisher = Publisher::new(&rt, alloc, snapshot)?;

@@ -41,7 +41,7 @@ fn search_jobs<'a>(
     Ok(jobs)
 }
 
-/// The parts that jobs answered, or the first refusal.
+/// The parts that jobs returned, or the first refusal.
 fn parts_of(alloc: Global, answers: Vec<Result<Part, Refusal>>) -> Result<Vec<Part>, Refusal>
     ensures ok { IfOk result (λ parts. answers.items ≡ map (λ part. Ok part) parts.items) }
     ensures err { IfErr result (λ e. (e ≡ Refusal.Memory) ⊎ Contains answers.items (Err e)) }
@@ -67,7 +67,7 @@ pub(crate) fn openings_of(parts: &[Part]) -> u64
     openings
 }
 
-/// What each segment tells of its live hits, in the order of the segments.
+/// The part of each segment, in the order of the segments. Up to this many threads search them.
 pub(crate) fn segment_parts<R: Threads + Wait + Sync, G: Gate>(
     rt: &R,
     alloc: Global,

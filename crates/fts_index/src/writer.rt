@@ -40,7 +40,7 @@ pub struct Writer {
 pub struct Committed {
     /// Its stamp, above those of its operations.
     pub stamp: Stamp,
-    /// What the writer has published by it: a reader that is told of it finds this commit, or a later one.
+    /// What the writer has published by it: a reader to which it is reported finds this commit or a later one.
     pub seen: CommitSeen,
 }
 
@@ -104,7 +104,8 @@ impl Writer {
         self.publisher.commit_stamp()
     }
 
-    /// The schema of all documents. The numbers of segments rise, and no stamp occurs twice.
+    /// The schema of all documents. Contracts learn here that the numbers of segments rise, and that no stamp occurs
+    /// twice.
     pub fn schema(&self) -> &Schema
         ensures schema { result.now ≡ self.now.front.snapshot.schema }
         ensures snapshot { IsSnapshot self.now.front.snapshot }
@@ -120,7 +121,7 @@ impl Writer {
         self.publisher.snapshot()
     }
 
-    /// The last commit, to search.
+    /// The last commit, to be searched.
     pub fn searcher(&self) -> Result<Searcher, Refusal>
         ensures searcher { IfOk result (λ s. s ≡ self.now.front) }
         ensures front { IfOk result IsFront }
@@ -140,7 +141,7 @@ impl Writer {
     /// Opens a round of this many lanes, 1 to 64, each of which takes up to `cap` operations, 1 to 1,000,000. Its first
     /// stamp is the commit stamp plus 1.
     ///
-    /// `RoundOpen` if one is open; `StampsUsedUp` where a stamp of the round, or its number, could be 2^62 or more.
+    /// `RoundOpen` if one is open; `StampsUsedUp` if a stamp of the round, or its number, could be 2^62 or more.
     pub fn open_round(
         &mut self,
         alloc: Global,
@@ -175,14 +176,14 @@ impl Writer {
         Ok(round)
     }
 
-    /// Commits a batch: its adds are cut into new segments, and the documents that it strikes are struck. The work is
-    /// done by up to this many threads, 1 to 64, the calling one among them: if the batch has a delete, one job for each
-    /// segment that was there, in their order; and then one for each new segment, in the order of their first adds. The
-    /// gate is called around each.
+    /// Commits a batch: its adds are cut into new segments, and its deletes are applied. The work is done by up to this
+    /// many threads, 1 to 64, the calling one among them: if the batch has a delete, one job for each segment that was
+    /// there, in their order; and then one for each new segment, in the order of their first adds. The gate is called
+    /// around each.
     ///
-    /// `StaleBatch` where no round is open, or the batch isn't of the open one; then `OtherSchema` with the stamp of
-    /// the first operation that doesn't fit the schema; then `StampsUsedUp` where a segment's number would reach 2^62.
-    /// A refusal leaves everything as it was, and the batch can be tried again.
+    /// `StaleBatch` if no round is open, or the batch isn't of the open one; then `OtherSchema` with the stamp of the
+    /// first operation that doesn't fit the schema; then `StampsUsedUp` if a segment's number would reach 2^62. A
+    /// refusal leaves everything as it was, and the batch can be tried again.
     pub fn commit<R: Threads + Wait + Sync, G: Gate>(
         &mut self,
         rt: &R,
@@ -218,7 +219,7 @@ impl Writer {
         Ok(Committed { stamp, seen })
     }
 
-    /// Gives up the open round, if there is one, and answers the stamp of the last commit.
+    /// Gives up the open round, if there is one, and returns the stamp of the last commit.
     pub fn abandon(&mut self) -> Stamp
         ensures writer { self.new ≡ without_round self.old }
         ensures follows { Follows self.old.front.snapshot self.new.front.snapshot }
@@ -228,7 +229,7 @@ impl Writer {
         self.publisher.commit_stamp()
     }
 
-    /// How large the segments of the last commit are, by rising numbers.
+    /// The sizes of the segments of the last commit, by rising numbers.
     pub fn segments(&self, alloc: Global) -> Result<Vec<SegmentInfo>, Refusal>
         ensures segments { IfOk result (λ infos.
             infos.items ≡ map info_of self.now.front.snapshot.entries) }
@@ -237,8 +238,8 @@ impl Writer {
         self.publisher.snapshot().segments(alloc)
     }
 
-    /// The segments that are worth merging, by their numbers: each list is one merge, those of greater segments first.
-    /// A segment is as large as it has live documents.
+    /// The segments that are worth merging, by their numbers. Each list is one merge, and those of larger segments come
+    /// first. A segment is as large as it has live documents.
     pub fn plan(&self, alloc: Global) -> Result<Vec<Vec<u64>>, Refusal>
         ensures candidates { IfOk result (λ found.
             map (λ c. c.items) found.items ≡ candidate_ids self.now.front.snapshot.entries) }
@@ -247,12 +248,12 @@ impl Writer {
         self.publisher.snapshot().plan(alloc)
     }
 
-    /// Makes one segment of the live documents of the segments of these numbers, in their order. What is found stays as
-    /// it was.
+    /// Makes one segment of the live documents of the segments of these numbers, in their order. Nothing is found
+    /// differently.
     ///
-    /// `NoSegments` for an empty list; then at the first bad place `UnknownSegment`, or `SegmentTwice` where the number
-    /// comes before; then `TooLarge` for over 1,048,576 live documents, and `StampsUsedUp` where the new segment's
-    /// number would reach 2^62. A refusal leaves everything as it was.
+    /// `NoSegments` for an empty list; then at the first bad place `UnknownSegment`, or `SegmentTwice` if the number
+    /// occurs earlier in the list; then `TooLarge` for over 1,048,576 live documents, and `StampsUsedUp` if the new
+    /// segment's number would reach 2^62. A refusal leaves everything as it was.
     pub fn merge<R: Wait>(&mut self, rt: &R, alloc: Global, ids: &[u64]) -> Result<(), Refusal>
         ensures writer { OnOk result (self.new ≡ with_merge ids.now self.old) }
         ensures refused { IsRefusedFor (merge_fault ids.now self.old.front.snapshot) result }
@@ -268,11 +269,11 @@ impl Writer {
         Ok(())
     }
 
-    /// Begins a merge of the segments of these numbers, in their order, which may be run in another thread and ended
-    /// here later.
+    /// Starts a merge of the segments of these numbers, in their order. It may be run in another thread and ended here
+    /// later.
     ///
-    /// `NoSegments` for an empty list; then at the first bad place `UnknownSegment`, or `SegmentTwice` where the number
-    /// comes before.
+    /// `NoSegments` for an empty list; then at the first bad place `UnknownSegment`, or `SegmentTwice` if the number
+    /// occurs earlier in the list.
     pub fn begin_merge(&self, alloc: Global, ids: &[u64]) -> Result<MergeJob, Refusal>
         ensures job { IfOk result (λ job.
             job ≡ entries_at self.now.front.snapshot.entries ids.now) }
@@ -283,12 +284,12 @@ impl Writer {
         self.publisher.snapshot().begin_merge(alloc, ids)
     }
 
-    /// Ends a merge that was begun on this writer: the merged segment takes the place of its sources under the next
-    /// number. What was struck since the merge was begun is struck in it, and what is found stays as it was.
+    /// Ends a merge that was started on this writer: the merged segment takes the place of its sources under the next
+    /// number. Documents deleted since the start are deleted in it, and nothing is found differently.
     ///
-    /// `SourceGone` with the first source that isn't in the last commit, where none is, or where one that isn't there
-    /// has a document that is live in another segment; then `StampsUsedUp` where the new segment's number would reach
-    /// 2^62. A refusal leaves everything as it was, and hands the merged segment back.
+    /// `SourceGone` with the first source that isn't in the last commit, if none is, or if one that isn't there has a
+    /// document that is live in another segment; then `StampsUsedUp` if the new segment's number would reach 2^62. A
+    /// refusal leaves everything as it was, and hands the merged segment back.
     pub fn end_merge<R: Wait>(
         &mut self,
         rt: &R,

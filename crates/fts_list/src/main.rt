@@ -1,4 +1,4 @@
-// Runs a script over standard input and standard output and a plain list of documents: what the index is compared with.
+// Runs a script over standard input and output with a plain list of documents, with which the index is compared.
 #![tactic(auto)]
 
 use fts_script::{ListEngine, Options, Plain, Streams, run_script};

@@ -90,7 +90,7 @@ filter-again : (p : Key → Bool) (keys : List Key) → filter p (filter p keys)
 filter-again p [] = refl
 filter-again p (key ∷ keys) = again-step p key (filter p keys) (p key) refl (filter-again p keys)
 
--- of more keys only those of the best ranks are needed, if there are enough of these
+-- among more keys, only those of the best ranks are needed, if there are enough of these
 pub first-best : (k most : ℕ) (before more : List Key) → k ≤ length (filter (within most) more) → first_keys k (before ++ filter (within most) more)
     ≡ first_keys k (before ++ more)
 first-best k most before more enough =

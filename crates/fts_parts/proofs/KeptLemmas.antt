@@ -62,7 +62,7 @@ numbers_keep kinds.Keyword keywords h x y low high = cc
 numbers_keep kinds.U64 keywords h x y low high = refl
 numbers_keep kinds.I64 keywords h x y low high = signed_order x y
 
--- of texts that climb one with a lower number is before one with a higher
+-- if texts climb, one with a lower index is before one with a higher index
 climbs_at : (ts : List (List ℕ)) (i j : ℕ) → Climbs ts → i < j → j < length ts → slice_cmp nat_cmp (get_or ts i []) (get_or ts j []) ≡ Less
 climbs_at [] i j climbs up less = absurd (omega (arith, less))
 climbs_at (t ∷ ts) i zero climbs up less = absurd (omega (arith, up))

@@ -48,7 +48,7 @@ less_of Less h = refl
 less_of Equal h = cc
 less_of Greater h = cc
 
--- of two keys only one stands before the other
+-- only one of two keys is before the other
 lt_one_way : (a b : Key) → key_lt a b ≡ true → key_lt b a ≡ false
 lt_one_way a b h = ap is_lt (key_total.antisymm b a ∙ ap ordering_reverse (less_of (key_cmp a b) h))
 
@@ -83,7 +83,7 @@ take-behind : (k : ℕ) (x : Key) (xs : List Key) → take k (x ∷ xs) ≡ take
 take-behind zero x xs = refl
 take-behind (suc k) x xs = ap (λ ys. x ∷ ys) (take-shorter k xs)
 
--- of two keys before all others, either may be put in front first, however they compare
+-- if two keys are before all others, either may be put in front first, however they compare
 front_at : (a b : Key) (rest : List Key) (o : Ordering) → key_cmp a b ≡ o →
     cond (key_lt b a) (b ∷ a ∷ rest) (a ∷ b ∷ rest) ≡ cond (key_lt a b) (a ∷ b ∷ rest) (b ∷ a ∷ rest)
 front_at a b rest Less e =
@@ -96,7 +96,7 @@ front_at a b rest Greater e =
     let behind : key_lt b a ≡ true = ap is_lt (key_total.antisymm b a ∙ ap ordering_reverse e) in
     ap (λ c. cond c (b ∷ a ∷ rest) (a ∷ b ∷ rest)) behind ∙ sym (ap (λ c. cond c (a ∷ b ∷ rest) (b ∷ a ∷ rest)) (lt_one_way b a behind))
 
--- of two keys where the first alone stands before another, either may be put first
+-- if only the first of two keys is before a third, either may be put first
 apart_swap : (other : Key) (others : List Key) (a b : Key) → key_lt a other ≡ true → key_lt b other ≡ false →
     put_key (a ∷ other ∷ others) b ≡ put_key (other ∷ put_key others b) a
 apart_swap other others a b e f =

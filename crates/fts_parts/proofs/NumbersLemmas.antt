@@ -28,7 +28,7 @@ below_above x y h l = grind (arith, nat_tests)
 above_below : (x y : ℕ) → 2 ^ 63 ≤ x → y < 2 ^ 63 → Greater ≡ nat_cmp x y
 above_below x y h l = grind (arith, nat_tests)
 
--- the same for the signed numbers, on whichever side of 2 ^ 63 they are
+-- signed numbers are ordered as the numbers that store them, on whichever side of 2 ^ 63 these are
 signed_at : (x y : ℕ) (b c : Bool) → nat_lt x (2 ^ 63) ≡ b → nat_lt y (2 ^ 63) ≡ c →
     int_cmp (cond b (negsuc (2 ^ 63 - 1 - x)) (pos (x - 2 ^ 63))) (cond c (negsuc (2 ^ 63 - 1 - y)) (pos (y - 2 ^ 63))) ≡ nat_cmp x y
 signed_at x y true true h l = both_below x y (ltb-true x (2 ^ 63) h) (ltb-true y (2 ^ 63) l)

@@ -61,7 +61,7 @@ rank-cmp kind Falling x y h l = number_at-cmp kind (2 ^ 64 - 1 - y) (2 ^ 64 - 1 
 nat_cmp-above : (x y : ℕ) → y < x → nat_cmp x y ≡ Greater
 nat_cmp-above x y h = grind (arith, nat_tests)
 
--- of two stamps, with a later document
+-- a hit of a later document is before another exactly if its stamp is smaller
 stamp_test : (b e : Bool) → is_lt (ordering_then (cond b Less (cond e Equal Greater)) Greater) ≡ b
 stamp_test true e = refl
 stamp_test false true = refl

@@ -1,4 +1,4 @@
--- What is kept of the hits of a segment that were seen.
+-- What is collected of the hits of a segment that were looked at.
 use Rattle.std.specs.Prelude.{◌≡◌, ℕ, ◌-◌, ◌^◌, ◌<◌, true, min, List, [], Option, Some, None, All, AllPairs}
 use Rattle.std.specs.Prelude.{IfSome, if◌then◌else◌, length, map, slice_get, slice_index_or}
 use Rattle.std.specs.Option.{option_map_or}
@@ -93,7 +93,7 @@ pub record AreHits (segment : SegmentValue) (docs : List ℕ) : Type 0 where
   pub rise : AllPairs (λ a b. a < b) docs
   pub few : length docs < 2 ^ 64
 
--- these documents were seen
+-- these documents were looked at
 pub record HasSeen (segment : SegmentValue) (request : Request) (docs : List ℕ) (seen : Seen) : Type 0 where
   pub count : seen.count ≡ min (length docs) (2 ^ 64 - 1)
   pub places : IsTallyOf segment request.groups seen.tally

@@ -1,3 +1,3 @@
--- What only private functions are told by: no reader of a public contract meets these.
+-- What only private functions are stated by: no reader of a public contract meets these.
 pub mod Joins
 pub mod Lent

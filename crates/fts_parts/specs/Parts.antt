@@ -1,4 +1,4 @@
--- What one segment tells of its hits, and when parts are told of the hits of a whole.
+-- The answer over the hits of one segment, and when parts are the answers over the hits of a whole.
 use Rattle.std.specs.Prelude.{◌≡◌, ℕ, List, map}
 use Rattle.std.specs.List.{flat_map}
 use Rattle.std.specs.List.Sorted.{IsPermutation}
@@ -7,7 +7,7 @@ use Rattle.fts_model.specs.declared.query.Request.{Request}
 use Rattle.fts_model.specs.Documents.{DocumentValue}
 use Rattle.fts_model.specs.Answers.{AnswerValue, answer_of}
 
--- a part: what is told of its hits, and how many blocks were opened to find them
+-- a part: the answer over its hits, and how many blocks were opened to find them
 pub record PartValue : Type 0 where
   pub answer : AnswerValue
   pub openings : ℕ
@@ -16,7 +16,7 @@ pub record PartValue : Type 0 where
 abbrev pub joined : List (List (Stamped DocumentValue)) → List (Stamped DocumentValue)
 joined lists = flat_map (λ hits. hits) lists
 
--- the hits were cut in some way into lists, whatever their order, and each part is what is told of one of these
+-- the hits were cut in some way into lists, whatever their order, and each part is the answer over one of these
 pub record ArePartsOf (request : Request) (hits : List (Stamped DocumentValue)) (parts : List PartValue) : Type 0 where
   pub lists : List (List (Stamped DocumentValue))
   pub cut : IsPermutation (joined lists) hits

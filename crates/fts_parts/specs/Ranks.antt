@@ -14,7 +14,7 @@ use Rattle.fts_parts.specs.declared.top_k.Key.{Key}
 use Rattle.fts_parts.specs.Tallies.{number_at}
 use Rattle.fts_parts.specs.Keys.{TopKValue, put_key}
 
--- where a number stands among those of 64 bits in an order, and the number that is there
+-- the rank of a 64-bit number in an order, and the number of a rank
 abbrev pub rank_in : Order → ℕ → ℕ
 rank_in Rising x = x
 rank_in Falling x = 2 ^ 64 - 1 - x

@@ -12,7 +12,7 @@ use fts_model::GroupValue;
 use std::alloc::{AllocError, Global};
 use std::cmp::Ordering;
 
-/// Puts some of these groups, from a place on, after others.
+/// Appends these groups, from `from` on, to others.
 fn lend_rest<'a>(
     list: &mut Vec<Lent<'a>>,
     groups: &[Lent<'a>],
@@ -65,7 +65,7 @@ fn merged<'a>(
     Ok(list)
 }
 
-/// The groups that a part tells, lent.
+/// The groups of a part, borrowed from it.
 fn groups_of(alloc: Global, part: &Part) -> Result<Vec<Lent<'_>>, AllocError>
     ensures { IfOk result (λ list. list.items ≡ unwrap_or part.now.answer.groups []) }
 {
@@ -75,7 +75,7 @@ fn groups_of(alloc: Global, part: &Part) -> Result<Vec<Lent<'_>>, AllocError>
     }
 }
 
-/// The groups of all parts: those of each half, merged. Their keywords stay in the segments.
+/// The groups of all parts: the groups of each half, merged. Their keywords stay in the segments.
 fn merged_groups(alloc: Global, parts: &[Part]) -> Result<Vec<Lent<'_>>, AllocError>
     ensures { (field : ℕ) (lists : List (List (Stamped DocumentValue))) →
         AreGroupsOf field lists parts.now → length (joined lists) < 2 ^ 64 →

@@ -14,7 +14,7 @@ use std::alloc::{AllocError, Global};
 use std::cmp::Ordering;
 use std::marker::Model;
 
-/// The value of a group, of which a keyword stays where it is.
+/// The value of a group. A keyword is borrowed from the segment.
 #[derive(Clone, Copy)]
 pub(crate) enum LentValue<'a> {
     U64(u64),
@@ -57,7 +57,7 @@ impl LentValue<'_> {
     }
 }
 
-/// A group whose value is lent. Contracts see the value and the count.
+/// A group whose value is borrowed. Contracts see the value and the count.
 #[derive(Drop)]
 pub(crate) struct Lent<'a> {
     value: LentValue<'a>,

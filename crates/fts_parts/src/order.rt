@@ -1,11 +1,11 @@
-// How hits stand to each other.
+// The order of hits in a top list.
 ghost use Rattle.std.specs.Prelude.{◌≡◌};
 ghost use Rattle.fts_parts.specs.Internals.Joins.{rank};
 
 use fts_model::{Hit, Order};
 use std::cmp::Ordering;
 
-/// How two hits compare in a top list: by their values, and where these are equal by their stamps.
+/// Compares two hits in a top list: by their values, and equal values by their stamps.
 pub(crate) fn rank(order: Order, a: &Hit, b: &Hit) -> Ordering
     ensures { result ≡ rank order a.now b.now }
 {

@@ -1,4 +1,4 @@
-// What one segment tells of its hits, and what several tell together.
+// The answer over the hits of one segment, and how several are joined.
 ghost use Rattle.std.specs.Prelude.{◌≡◌, ◌<◌, ◌≤◌, ◌^◌, [], List, IfOk, length, option_map, sum_by, vec_capacity};
 ghost use Rattle.fts_model.specs.declared.operation.Stamped.{Stamped};
 ghost use Rattle.fts_model.specs.Documents.{DocumentValue};
@@ -14,8 +14,8 @@ use fts_model::{Answer, GroupValue, Hit, Refusal, Request};
 use std::alloc::{AllocError, Global};
 use std::marker::Model;
 
-/// What one segment tells of its hits: the answer over them, and how many blocks were opened to find them. The keywords
-/// of groups stay in the segment, which it shares.
+/// The answer over the hits of one segment, and how many blocks were opened to find them. The keywords of groups stay
+/// in the segment, which the part shares.
 #[derive(Drop)]
 pub struct Part {
     pub(crate) count: u64,
@@ -45,15 +45,15 @@ impl Part {
     ghost use Rattle.fts_model.specs.Answers.{answer_of};
     ghost use Rattle.fts_parts.specs.Parts.{ArePartsOf};
 
-    /// How many blocks were opened to find the hits; a sum stays at the greatest `u64`.
+    /// How many blocks were opened to find the hits. A sum past the greatest `u64` stays at it.
     pub fn openings(&self) -> u64
         ensures { result ≡ self.now.openings }
     {
         self.openings
     }
 
-    /// The answer over the hits of all parts, in whatever order the parts stand, if they are answers to this request
-    /// over hits among which no stamp occurs twice. The top list moves out of the parts.
+    /// The answer over the hits of all parts, in whatever order the parts are, if they are answers to this request over
+    /// hits among which no stamp occurs twice. The top list moves out of the parts.
     ///
     /// The only refusal is `Memory`, and it hands the parts back.
     pub fn join(

@@ -12,10 +12,11 @@ use fts_pack::column::Column;
 use fts_segment::Segment;
 use std::alloc::{AllocError, Global};
 
-/// For this many documents a column tells the range of their values.
+/// A column has the range of the values of each block of this many documents.
 const BLOCK: u32 = 128;
 
-// From how far apart the numbers of a column are on, blocks are looked at: eight times as far as a block has documents.
+// Blocks are skipped only if the column's numbers span at least this much: eight times as many numbers as a block has
+// documents.
 const FEW_NUMBERS: u64 = 1024;
 
 /// The column of a number field.
@@ -26,7 +27,7 @@ pub fn numbers_of(segment: &Segment, field: usize) -> &Column
     segment.column(field)
 }
 
-/// Where a number stands among those of 64 bits in an order, and also the number that is there.
+/// The rank of a 64-bit number in an order, and also the number of a rank.
 fn rank_in(order: Order, number: u64) -> u64
     ensures { result ≡ rank_in order number }
 {
@@ -36,7 +37,7 @@ fn rank_in(order: Order, number: u64) -> u64
     }
 }
 
-/// The best rank of the numbers from the first to the second of these.
+/// The best rank of the numbers in a range.
 fn best_rank(order: Order, range: (u64, u64)) -> u64
     ensures { result ≡ best_rank order range }
 {
@@ -46,7 +47,7 @@ fn best_rank(order: Order, range: (u64, u64)) -> u64
     }
 }
 
-/// Where the hits begin that are of one block with the last.
+/// The index of the first hit that is in the last hit's block.
 fn block_start(docs: &[u32]) -> usize
     requires { 0 < length docs.now }
     ensures start { result < length docs.now }
@@ -81,8 +82,8 @@ impl Ranking<'_> {
         }
     }
 
-    /// Whether blocks may well be passed over: where a column has few different numbers, most blocks have one of the
-    /// first.
+    /// Whether it may well be possible to pass over blocks. If a column has few different numbers, most blocks have one
+    /// of the first.
     fn has_spread(&self) -> bool {
         match self.column.range() {
             None => false,
@@ -105,7 +106,7 @@ impl Ranking<'_> {
         Ok(())
     }
 
-    /// Offers hits of one block, if any of its values may rank among the first. Else the column is not read.
+    /// Offers hits of one block, if any of its values may rank among the first. Otherwise the column is not read.
     fn offer_block(&self, docs: &[u32], top_k: &mut TopK) -> Result<(), AllocError>
         requires within { All (λ doc. doc < length self.now.segment.now.documents) docs.now }
         requires some { 0 < length docs.now }
@@ -128,8 +129,8 @@ impl Ranking<'_> {
         }
     }
 
-    /// Offers the hits that have a number in the column, the last first: where ranks fall from document to document,
-    /// each hit would else keep out those before it, and few are kept out at one compare.
+    /// Offers the hits that have a number in the column, the last first. If ranks fall from document to document, then
+    /// in their own order each hit would be better than those before it; from the last on, one compare rejects most.
     pub fn offer_each(&self, docs: &[u32], top_k: &mut TopK) -> Result<(), AllocError>
         requires { All (λ doc. doc < length self.now.segment.now.documents) docs.now }
         ensures { OnOk result (Offers self.now docs.now top_k.old top_k.new) }

@@ -1,4 +1,4 @@
-// What is kept of the hits of a segment as they are seen, and what is told of them in the end.
+// What is collected of the hits of a segment as they are looked at, and the part that is made of it in the end.
 ghost use Rattle.std.specs.Prelude.{◌≡◌, ◌<◌, ◌++◌, ◌^◌, ℕ, List, [], true, All, IfOk, IfSome, OnOk, length, option_map};
 ghost use Rattle.fts_model.specs.Queries.{is_number_field, is_ordered_field, request_fits};
 ghost use Rattle.fts_model.specs.Answers.{answer_of, groups, top};
@@ -15,12 +15,12 @@ use fts_pack::column::Column;
 use fts_segment::Segment;
 use std::alloc::{AllocError, Global};
 
-/// What is kept of the hits that were seen: as much of each as a request asks for.
+/// What is collected of the hits looked at so far: as much of each as a request asks for.
 #[derive(Drop)]
 pub struct Seen {
     /// How many they are; the count stays at the greatest `u64`.
     pub count: u64,
-    /// Of their numbers in the field of the groups.
+    /// The counts of their numbers in the field of the groups.
     pub tally: Tally,
     /// By their numbers in the field of the top list.
     pub top_k: TopK,
@@ -137,8 +137,8 @@ fn top_told(
     }
 }
 
-/// Takes more hits: the numbers of documents of the segment, which come after those that were seen. An error says that
-/// memory was refused; then some of them may have been seen.
+/// Takes more hits: the numbers of documents of the segment, which come after those taken before. An error says that
+/// memory was refused; some of them may have been taken by then.
 pub fn see(
     segment: &Segment,
     request: &Request,
@@ -156,7 +156,7 @@ pub fn see(
     rank_hits(segment, request.top, docs, &mut seen.top_k)
 }
 
-/// What is kept of no hits, for a request that fits the segment.
+/// Nothing collected yet, for a request that fits the segment.
 pub fn nothing_seen(alloc: Global, segment: &Segment, request: &Request) -> Result<Seen, AllocError>
     requires { request_fits segment.now.schema request.now ≡ true }
     ensures { IfOk result (HasSeen segment.now request.now []) }
@@ -173,7 +173,7 @@ pub fn nothing_seen(alloc: Global, segment: &Segment, request: &Request) -> Resu
     })
 }
 
-/// The answer over the hits that were seen, and how many blocks were opened to find them, as the caller counted.
+/// The answer over the hits that were taken, and how many blocks were opened to find them, as the caller counted.
 pub fn told(
     alloc: Global,
     segment: &Segment,

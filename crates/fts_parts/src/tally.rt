@@ -32,7 +32,7 @@ fn counts_of_sorted(alloc: Global, numbers: &[u64]) -> Result<Vec<(u64, u64)>, A
         .collect(alloc)
 }
 
-/// The numbers that were counted, of which the first is the least, with their counts.
+/// The numbers that were counted, with their counts. `counts` has one for each number from `least` on.
 fn counts_from(alloc: Global, least: u64, counts: &[u64]) -> Result<Vec<(u64, u64)>, AllocError>
     requires { least + length counts.now ≤ 2 ^ 64 }
     ensures { IfOk result (λ list. list.items ≡ counts_from least counts.now) }
@@ -99,7 +99,8 @@ impl Tally {
     ghost use Rattle.std.specs.Prelude.{◌≡◌, ◌<◌, ◌++◌, ◌^◌, ℕ, List, [], IfOk, OnOk, length};
     ghost use Rattle.fts_parts.specs.Tallies.{IsTally, IsTallyFor, counts_of, present_at};
 
-    /// Of no hits. There is a place for each number where they lie close together for this many documents.
+    /// The tally of no hits. It has a place for each number, if the column's numbers are close together for this many
+    /// documents.
     pub(crate) fn new(alloc: Global, column: &Column) -> Result<Tally, AllocError>
         ensures none { IfOk result (IsTally []) }
         ensures for_column { IfOk result (IsTallyFor column.now) }

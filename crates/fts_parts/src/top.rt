@@ -26,7 +26,7 @@ fn length_of(part: &Part) -> usize
     }
 }
 
-/// An empty list with room for the top lists of all parts.
+/// An empty list with capacity for the top lists of all parts.
 pub(crate) fn room_for_hits(alloc: Global, parts: &[Part]) -> Result<Vec<Hit>, AllocError>
     ensures none { IfOk result (λ list. list.items ≡ []) }
     ensures room { IfOk result (λ list. length (all_hits parts.now) ≤ vec_capacity list) }
@@ -38,7 +38,7 @@ pub(crate) fn room_for_hits(alloc: Global, parts: &[Part]) -> Result<Vec<Hit>, A
     Vec::with_capacity(alloc, count)
 }
 
-/// Moves the top list of a part after hits, for which there is room.
+/// Moves the top list of a part to the end of `list`, whose capacity suffices.
 fn move_hits(list: &mut Vec<Hit>, part: Part)
     requires { vec_len list.old + length (hits_in part) ≤ vec_capacity list.old }
     ensures items { list.new.items ≡ list.old.items ++ hits_in part }
@@ -51,7 +51,7 @@ fn move_hits(list: &mut Vec<Hit>, part: Part)
     }
 }
 
-/// The top list of all parts, in the room that was made for it.
+/// The top list of all parts, in the list that was allocated for it.
 pub(crate) fn joined_top(wanted: Top, parts: Vec<Part>, room: Vec<Hit>) -> Vec<Hit>
     requires none { room.items ≡ [] }
     requires room { length (all_hits parts.items) ≤ vec_capacity room }

@@ -1,4 +1,4 @@
-// The least of many keys, of which few are held at a time.
+// The least of many keys, few of which are held at a time.
 ghost use Rattle.std.specs.Prelude.{◌≡◌, ◌<◌, ◌≤◌, ℕ, [], IfSome, OnOk, All, length, take, true};
 ghost use Rattle.fts_parts.specs.Keys.{first_keys, key_lt, put_key};
 
@@ -15,8 +15,8 @@ pub struct Key {
 
 /// The `k` least of the keys that it was given. Contracts see `k` and these.
 ///
-/// Up to `2 * k` keys are held; when there is no room for one more, all but the least are dropped. From then on the
-/// greatest of those is a bound: what isn't before it is dropped at once.
+/// Up to `2 * k` keys are held; once that many are held and one more comes, all but the least are dropped. From then on
+/// the greatest of those is a bound: a key that isn't before it is dropped at once.
 #[derive(Drop)]
 pub struct TopK {
     k: usize,
@@ -35,7 +35,7 @@ impl Model for TopK {
 }
 
 impl TopK {
-    /// Without keys.
+    /// An empty list of keys.
     pub fn new(alloc: Global, k: usize) -> TopK
         ensures { result ≡ record { k = k; keys = [] } }
     {

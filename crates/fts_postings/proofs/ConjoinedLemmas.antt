@@ -260,7 +260,7 @@ in_all-stand doc (p ∷ ps) h =
     ap₂ (λ a b. a && b) (has-first (remaining_of p) doc (sym (All-head (λ q. slice_get (remaining_of q) 0 ≡ Some doc) p ps h)))
     (in_all-stand doc ps (All-tail (λ q. slice_get (remaining_of q) 0 ≡ Some doc) p ps h))
 
--- where all stand together, the first document is one of all
+-- if all are at the same document, the first document is one of all
 first_passes : (others : List Posting) (xs : List ℕ) → ((doc : ℕ) → slice_get xs 0 ≡ Some doc → StandAt doc others) →
     FirstPasses (in_all (each_remaining others)) xs
 first_passes others [] h = tt
@@ -269,7 +269,7 @@ first_passes others (x ∷ xs) h = in_all-stand x others (h x refl)
 pub together-passes : (lead : Posting) (others : List Posting) → StandTogether lead others → FirstPasses (in_all (each_remaining others)) (remaining_of lead)
 together-passes lead others h = first_passes others (remaining_of lead) h
 
--- where something is left in common, all stand at its first
+-- if something is left in common, all are at its first
 standing_at : (others : List Posting) (xs : List ℕ) → ((doc : ℕ) → slice_get xs 0 ≡ Some doc → StandAt doc others) →
     0 < length (common xs (each_remaining others)) → (doc : ℕ) × (slice_get (common xs (each_remaining others)) 0 ≡ Some doc) × StandAt doc others
 standing_at others [] h some = absurd (omega (arith, some))

@@ -8,7 +8,7 @@ use Rattle.std.proofs.lemmas.List.{take_all, drop_all, drop-drop, get_or-drop, l
 use Rattle.std.proofs.lemmas.Option.{get_or_from_slice_get, slice_get_within}
 use Rattle.fts_postings.specs.Fills.{IsStretch}
 
--- the first so many of `whole` lie at the front of `out`, and the others are left
+-- the first `count` members of `whole` are at the front of `out`, and the others are left
 pub record Taken (whole left out : List ℕ) (count : ℕ) : Type 0 where
   pub left_is : left ≡ drop count whole
   pub front : take count out ≡ take count whole
@@ -84,7 +84,7 @@ module _ (whole left next out written : List ℕ) (filled count : ℕ) (h : Take
       elim (cases_lt 0 (length left)) [ inl some ↦ absurd (omega (arith, none, s.some some)) | inr empty ↦ omega (arith, empty) ] in
       ap (λ xs. slice_get xs 0) (sym (nil_from_length next (omega (arith, gone, ap length s.left_is, length-drop count left))))
 
--- where nothing is left, nothing is taken
+-- if nothing is left, nothing is taken
 pub no_stretch : (left out : List ℕ) (filled : ℕ) → (0 < length left → ⊥) → filled < 128 → IsStretch left left out out filled 0
 no_stretch left out filled none room = record {
   some = λ some. absurd (none some);
@@ -114,7 +114,7 @@ stretch_copied numbers here rest next out written at len filled count is size in
       left_is = left;
     }
 
--- the first of what was left lie behind those that filled the front, and are left no more
+-- the first of what was left were written after those that filled the front, and are left no more
 pub record IsTakenBehind (left next out written : List ℕ) (filled end : ℕ) : Type 0 where
   pub order : filled ≤ end
   pub within : end ≤ filled + length left
@@ -150,7 +150,7 @@ IsTakenBehind-more left mid next out written later filled end count h s =
       left_is = s.left_is ∙ ap (drop count) h.left_is ∙ drop-drop count taken left ∙ ap (λ n. drop n left) (omega (arith, more));
     }
 
--- as many as there is room for, or all
+-- as many as fit, or all
 pub IsStretch-behind : (left next out written : List ℕ) (filled end count : ℕ) → IsTakenBehind left next out written filled end → count ≡ end - filled →
     (0 < length left → filled < end) → IsStretch left next out written filled count
 IsStretch-behind left next out written filled end count h is some =
@@ -163,7 +163,7 @@ IsStretch-behind left next out written filled end count h is some =
       left_is = h.left_is ∙ ap (λ n. drop n left) (sym is);
     }
 
--- where a stretch of nothing follows, something was taken if there was any
+-- if a stretch of nothing follows, something was taken if there was any
 pub behind_some : (left mid out written : List ℕ) (filled end : ℕ) → IsTakenBehind left mid out written filled end → (0 < length mid → ⊥) → 0 < length left →
     filled < end
 behind_some left mid out written filled end h none some =

@@ -24,7 +24,7 @@ or_turn false true b = refl
 or_turn false false true = refl
 or_turn false false false = refl
 
--- what is left from a target on lies there
+-- what is left from a target on is no less than the target
 pub at_least_each : (target : ℕ) (xs : List ℕ) → All (λ d. target ≤ d) (at_least target xs)
 at_least_each target [] = All-nil (λ d. target ≤ d)
 at_least_each target (x ∷ xs) = elim (cases_lt x target) [
@@ -33,7 +33,7 @@ at_least_each target (x ∷ xs) = elim (cases_lt x target) [
       (at_least_each target xs))
 ]
 
--- what lies from a target on is left, and what lies below it isn't
+-- each document of the target or more is left, and no lower one
 pub at_least_kept : (target : ℕ) (xs : List ℕ) → All (λ d. target ≤ d) xs → at_least target xs ≡ xs
 at_least_kept target [] h = refl
 at_least_kept target (x ∷ xs) h =
@@ -66,7 +66,7 @@ rises_up xs at (suc more) h inside =
     let e : at + more + 1 ≡ at + suc more = omega arith in
     omega (arith, rises_up xs at more h (omega (arith, inside)), rw e at (h (at + more) (omega (arith, inside))))
 
--- where the last of them has a place, each has
+-- if the last of them has a place, each has
 pub places_first : (last : ℕ) (docs : List ℕ) (count : ℕ) → IsStrictlyIncreasing docs → count ≤ length docs → (0 < count → get_or docs (count - 1) 0 ≤ last) →
     All (λ d. d ≤ last) (take count docs)
 places_first last docs count rises within reached k d inside =

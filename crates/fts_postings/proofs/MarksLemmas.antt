@@ -96,7 +96,7 @@ pub others_below : (from marks bound : ℕ) → ((k : ℕ) → bit_at marks k �
     from + k < bound
 others_below from marks bound few k is = few k (omega (arith, is, bit_at_and marks (marks - 1) k, bit_at-lt marks k))
 
--- the lowest is written behind the others
+-- the lowest is written after the others
 pub lowest_written : (out : List ℕ) (count from last marks : ℕ) → 0 < marks → marks < 2 ^ 64 → from + 63 ≤ last → count < length out →
     take (count + 1) (set out count (from + trailing_zeros w64 marks)) ++ marked from last (bit_and marks (marks - 1)) ≡ take count out
     ++ marked from last marks

@@ -1,4 +1,4 @@
--- Of 16 numbers that are compared at once, the first that is reached.
+-- 16 numbers are compared at once; the first that reaches the target is found.
 use Rattle.std.proofs.Common.{◌≡◌, ℕ, ◌+◌, ◌-◌, ◌^◌, ◌%◌, ◌<◌, ◌≤◌, ◌==◌, cond, not, List, length, get_or, map, sym, ap, subst, ◌∙◌, inl, inr, arith}
 use Rattle.std.specs.Int.{w32, w64}
 use Rattle.std.specs.List.{prefix_len}
@@ -52,7 +52,7 @@ module _ (numbers : List ℕ) (from to target m : ℕ) (room : from + 16 ≤ to)
         here = λ _. leb-true target (get_or numbers (from + r) 0) (run_in_chunk_stops (leb target) numbers from 16 r 0 long counted near);
       }
 
-  -- where none is reached, the place lies behind all of them
+  -- if none is reached, the place is after all of them
   pub none_reached : m ≡ 0 → (place : ℕ) → IsPlaceOf (λ k. get_or numbers k 0) (from + 16) to target place →
       IsPlaceOf (λ k. get_or numbers k 0) from to target place
   none_reached none place h = record {

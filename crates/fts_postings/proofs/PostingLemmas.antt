@@ -30,7 +30,7 @@ split_at blocks k = ap flat (sym (take-append-drop k blocks)) ∙ flat_map-appen
 abbrev get_first : ℕ → List ℕ → ℕ
 get_first i xs = get_or xs i 0
 
--- blocks of which the last has a number have one
+-- if the last of some blocks has a number, the blocks have one
 front_some : (blocks rest : List (List ℕ)) (k n : ℕ) → n ≡ k + 1 → k < length rest → 0 < length (get_or rest k []) → 0 < length (flat (take n rest))
 front_some blocks rest k n more inside some =
     let e : flat (take n rest) ≡ flat (take k rest) ++ get_or rest k [] = ap (λ m. flat (take m rest)) more ∙ ap flat (take_more rest k [] inside)
@@ -82,7 +82,7 @@ last_of-append xs ys some =
     ap (λ n. get_or (xs ++ ys) n 0) (let e : length (xs ++ ys) - 1 ≡ length xs + (length ys - 1) = omega (arith, length-append xs ys) in e)
     ∙ get_or-append-add xs ys (length ys - 1) 0
 
--- where the last number is below the target, all are
+-- if the last number is below the target, all are
 pub all_below : (target next : ℕ) (xs : List ℕ) → Rises next xs → (0 < length xs → last_of xs < target) → at_least target xs ≡ []
 all_below target next xs h last =
     at_least_place target next xs (length xs) h (omega arith) (λ some. last some) (λ some. absurd (omega arith)) ∙ drop_all (length xs) xs (omega arith)
@@ -248,7 +248,7 @@ Follows-trans p q r h k = record { blocks = k.blocks ∙ h.blocks; more = omega 
 pub Walks-trans : (p q r : Posting) → Walks p q → Walks q r → Walks p r
 Walks-trans p q r h k = record { follows = Follows-trans p q r h.follows k.follows; each = omega (arith, h.each, k.each) }
 
--- where nothing remains, all blocks were reached
+-- if nothing remains, all blocks were reached
 pub reached_all : (p : Posting) → p.block ≤ length p.blocks → (p.block < length p.blocks → p.at < length (here p)) → remaining_of p ≡ [] →
     blocks_reached p ≡ length p.blocks
 reached_all p within stands none = elim (cases_lt p.block (length p.blocks)) [
@@ -285,7 +285,7 @@ place_in_list documents block at inside within =
     ∙ ap (drop at) (sym (split_block (blocks_of documents) block) ∙ blocks_behind documents (block_count (length documents) - block) block all)
     ∙ drop-drop at (block * 128) documents)
 
--- where something remains, a block is open
+-- if something remains, a block is open
 pub stands_within : (p : Posting) → 0 < length (remaining_of p) → p.block < length p.blocks
 stands_within p some = elim (cases_lt p.block (length p.blocks)) [
   | inl inside ↦ inside

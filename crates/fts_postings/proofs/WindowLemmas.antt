@@ -46,7 +46,7 @@ passing-at p a k n inside lack there =
     ∙ ap (λ b. cond b ((a + k) ∷ passing p (a + k + 1) m) (passing p (a + k + 1) m)) there
     ∙ ap (λ b. (a + k) ∷ passing p b m) f
 
--- the same without it
+-- if the first document that passes no longer does, the others are left
 pub passing-next : (p q : ℕ → Bool) (a k n : ℕ) → k < n → ((d : ℕ) → a ≤ d → d < a + k → p d ≡ false) → p (a + k) ≡ true →
     ((d : ℕ) → a ≤ d → d < a + suc k → q d ≡ false) → ((d : ℕ) → a + suc k ≤ d → d < a + n → q d ≡ p d) → passing q a n ≡ drop 1 (passing p a n)
 passing-next p q a k n inside lack there gone rest =

@@ -1,4 +1,4 @@
--- How many blocks are opened at most, by where a cursor stands.
+-- How many blocks are opened at most, by the document at which a cursor is.
 use Rattle.std.specs.Prelude.{ℕ, ◌+◌, ◌*◌, List, Option, None, Some, filter, length, nat_le}
 
 -- this many in any case, and if other lists are sought for the members of one that leads, one of each of them when its

@@ -20,7 +20,7 @@ each_remaining others = map remaining_of others
 abbrev pub common_of : Conjoined → List ℕ
 common_of c = common (remaining_of c.lead) (each_remaining c.others)
 
--- how many members there are up to the one at which the cursor stands, that one counted: all of them at the end
+-- how many members there are up to the one at which the cursor is, that one included: all of them at the end
 abbrev pub members_reached : Posting → ℕ
 members_reached p = length (members_of p) - (length (remaining_of p) - 1)
 
@@ -35,7 +35,7 @@ counts_of c = c.lead.count + sum_by (λ p. p.count) c.others
 abbrev pub bound_of : Conjoined → Bound
 bound_of c = record { blocks = length c.lead.blocks; lead = members_of c.lead; others = length c.others }
 
--- the same lists later on
+-- a later state of cursors over lists that don't change
 pub record AllFollow (old new : Conjoined) : Type 0 where
   pub lead : Follows old.lead new.lead
   pub others : AllZip Follows old.others new.others
@@ -44,7 +44,7 @@ pub record AllFollow (old new : Conjoined) : Type 0 where
 abbrev pub AreFew : Posting → List Posting → Type 0
 AreFew lead others = All (λ p. p.opened ≤ members_reached lead + 1) others
 
--- so few that each may open another block where the leading cursor stands
+-- each of the others has so few openings that it may open another block at the leading cursor's document
 pub record MayBeBrought (lead : Posting) (others : List Posting) : Type 0 where
   pub few : AreFew lead others
   pub fewer : 0 < length (remaining_of lead) → All (λ p. p.opened ≤ members_reached lead) others
@@ -53,7 +53,7 @@ pub record MayBeBrought (lead : Posting) (others : List Posting) : Type 0 where
 abbrev pub StandAt : ℕ → List Posting → Type 0
 StandAt doc cursors = All (λ p. slice_get (remaining_of p) 0 ≡ Some doc) cursors
 
--- the others stand where the leading cursor does, or that one at its end
+-- the others are at the leading cursor's document, or that one is at its end
 abbrev pub StandTogether : Posting → List Posting → Type 0
 StandTogether lead others = (doc : ℕ) → slice_get (remaining_of lead) 0 ≡ Some doc → StandAt doc others
 
@@ -70,7 +70,7 @@ pub record Sought (doc : ℕ) (old new : Posting) : Type 0 where
 abbrev pub Brought : ℕ → List Posting → List Posting → Type 0
 Brought doc old new = AllZip (Sought doc) old new
 
--- where the lists may next have a document in common, from `doc` on
+-- the first document, from `doc` on, that the lists may have in common
 abbrev pub IsAhead : ℕ → List (List ℕ) → Option ℕ → Type 0
 IsAhead doc lists None = (d : ℕ) → doc ≤ d → in_all lists d ≡ false
 IsAhead doc lists (Some next) =

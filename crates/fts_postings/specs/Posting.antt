@@ -28,22 +28,22 @@ members_of p = flat_map (λ block. block) p.blocks
 abbrev pub blocks_reached : Posting → ℕ
 blocks_reached p = min (suc p.block) (length p.blocks)
 
--- 1 where a step passes the open block's end and another follows
+-- 1 if a step passes the open block's end and another follows, otherwise 0
 abbrev pub opened_by_step : Posting → ℕ
 opened_by_step p = if (suc p.at == length (here p)) && nat_lt (suc p.block) (length p.blocks) then 1 else 0
 
--- the same list later on: each opening since was counted by the source, and by the cursor
+-- a later state of a cursor over a list: each opening since was counted by the source, and by the cursor
 pub record Follows (old new : Posting) : Type 0 where
   pub blocks : new.blocks ≡ old.blocks
   pub more : old.opened ≤ new.opened
   pub counted : new.count + old.opened ≡ old.count + new.opened
 
--- the same list later on, where each block that was reached since was opened
+-- a later state of a cursor over a list, if each block that was reached since was opened
 pub record Walks (old new : Posting) : Type 0 where
   pub follows : Follows old new
   pub each : new.opened + blocks_reached old ≡ old.opened + blocks_reached new
 
--- how the fields stand to one another: the open block is at the front of the array
+-- how the fields fit together: the open block is at the front of the array
 pub record IsPosting (blocks : List (List ℕ)) (block at len opened : ℕ) (numbers : List ℕ) : Type 0 where
   pub fits : length blocks < 2 ^ 64
   pub within : block ≤ length blocks

@@ -15,7 +15,7 @@ is_marked from marks d = bit_at marks (d - from) == 1
 abbrev pub marked : ℕ → ℕ → ℕ → List ℕ
 marked from last marks = passing (is_marked from marks) from (suc last - from)
 
--- whether a document is marked, where each has a number from one document on: 0 if it is not
+-- whether a document is marked: marks have a number for each document from one on, which is 0 if it isn't marked
 abbrev pub is_found : ℕ → List ℕ → ℕ → Bool
 is_found base marks d = nat_lt 0 (slice_index_or marks (d - base) 0)
 

@@ -1,12 +1,12 @@
 // Marks of documents in bytes, one for each document from a first one on: 0 if it isn't marked. These are loops over
-// slices, so that no step asks again where the bytes lie.
+// slices, so that no step computes again where the bytes begin.
 ghost use Rattle.std.specs.Prelude.{◌≡◌, ℕ, ◌+◌, ◌<◌, ◌≤◌, ◌||◌, All, length, slice_index};
 ghost use Rattle.fts_postings.specs.Sets.{has};
 ghost use Rattle.fts_postings.specs.Windows.{AreMarksFrom, found_in};
 
 use std::simd::prelude::*;
 
-/// Takes the first marks away, this many of them.
+/// Clears the first `count` marks.
 #[inline]
 pub(crate) fn clear(marks: &mut [u8], count: usize)
     requires { count ≤ length marks.old }
@@ -18,7 +18,7 @@ pub(crate) fn clear(marks: &mut [u8], count: usize)
     }
 }
 
-/// Marks documents, where the first mark is that of `base`.
+/// Marks documents; the first mark is that of `base`.
 #[inline]
 pub(crate) fn mark_each(marks: &mut [u8], base: u32, docs: &[u32])
     requires low { All (λ d. base ≤ d) docs.now }

@@ -54,7 +54,7 @@ impl<B: Blocks + Drop> Conjunction<B> {
         self.lead.cost()
     }
 
-    /// The place in the leading list of the document at which all stand.
+    /// The place in the leading list of the document at which all cursors are.
     pub fn lead_posting(&self) -> usize
         requires stands { 0 < length (common_of self.now) }
         requires few { length self.now.lead.blocks ≤ 2 ^ 32 }
@@ -64,7 +64,7 @@ impl<B: Blocks + Drop> Conjunction<B> {
         self.lead.posting()
     }
 
-    /// Its place in another list.
+    /// The place in another list of the document at which all cursors are.
     pub fn other_posting(&self, other: usize) -> usize
         requires inside { other < length self.now.others }
         requires stands { 0 < length (common_of self.now) }
@@ -78,8 +78,8 @@ impl<B: Blocks + Drop> Conjunction<B> {
 
     /// How many blocks were opened since the cursors were made, or the greatest `u64`.
     ///
-    /// Wherever it is, they are no more than the blocks of the leading list, and for each other list one when its
-    /// cursor was made and one for each document of the leading list up to that at which all stand.
+    /// Wherever the cursors are, they are no more than the blocks of the leading list, and for each other list one when
+    /// its cursor was made and one for each document of the leading list up to the one at which all are.
     pub fn openings(&self) -> u64
         ensures sum { result ≡ min (2 ^ 64 - 1) (openings_of self.now) }
         ensures bound { openings_of self.now
@@ -92,8 +92,8 @@ impl<B: Blocks + Drop> Conjunction<B> {
         sum
     }
 
-    /// Copies some of the first documents that remain after what fills `out` so far, at least one if there is any,
-    /// and passes them. Of one list alone it takes what lies open.
+    /// Copies some of the first documents that remain after what fills `out` so far, at least one if there is any, and
+    /// passes them. If there is one list alone, it takes the rest of the open block.
     pub fn take_stretch(&mut self, out: &mut [u32; 128], filled: usize) -> usize
         requires { filled < 128 }
         ensures taken { IsStretch (common_of self.old) (common_of self.new) out.old out.new filled result }
@@ -157,8 +157,8 @@ impl<B: Blocks + Drop> DocSet for Conjunction<B> {
     }
 }
 
-/// Seeks the document with each of the others in turn, and gives the first that all may have: that one, where all stand
-/// at it, or a later one. `None` where one of them is at its end.
+/// Seeks the document with each of the others in turn, and returns the first document that all may have: that one, if
+/// all are at it, or a later one. `None` if one of them is at its end.
 fn bring<B: Blocks + Drop>(others: &mut [PostingCursor<B>], doc: u32) -> Option<u32>
     ensures each { Brought doc others.old others.new }
     ensures next { IsAhead doc (each_remaining others.new) result }

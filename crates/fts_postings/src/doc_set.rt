@@ -17,11 +17,11 @@ pub trait DocSet {
     fn advance(&mut self)
         ensures remaining { remaining self.new ≡ drop 1 (remaining self.old) };
 
-    /// Passes what lies before the target, whatever it is.
+    /// Passes the documents below the target, whatever the target is.
     fn seek(&mut self, target: u32)
         ensures remaining { remaining self.new ≡ at_least target (remaining self.old) };
 
-    /// Takes the next 128 documents, or all where fewer remain: writes them to the front of `out`, and gives how many
+    /// Takes the next 128 documents, or all if fewer remain: writes them to the front of `out`, and returns how many
     /// they are. What is after them may be anything.
     fn fill(&mut self, out: &mut [u32; 128]) -> usize
         ensures count { result ≡ min 128 (length (remaining self.old)) }

@@ -4,11 +4,10 @@
 //! ([`DocSet::advance`]), goes to the first from a number on ([`DocSet::seek`]), or writes up to 128 at once
 //! ([`DocSet::fill`]). Contracts see it as the list of documents that remain. Its steps take no memory and don't fail.
 //!
-//! A [`PostingCursor`] goes over any list in blocks: it opens a block where it enters it, and passes over blocks it
+//! A [`PostingCursor`] goes over any list in blocks: it opens a block when it enters it, and passes over blocks it
 //! needn't read. A [`Conjunction`] lets one such cursor lead and seeks its documents alone in the others. Both count
-//! the blocks they open, and contracts bound the count. Beside them stand what cursors of any kind are made with:
-//! [`stretch`], the documents that lie open in an array, [`marks`], 64 documents as the bits of a word, and a
-//! [`Window`] of 4,096.
+//! the blocks they open, and contracts bound the count. Cursors of any kind are made with the rest: [`stretch`], the
+//! documents of an open block in an array, [`marks`], 64 documents as the bits of a word, and a [`Window`] of 4,096.
 //!
 //! Nothing here knows of segments or queries: lists are blocks of rising numbers.
 //!

@@ -1,4 +1,4 @@
-// A cursor over the blocks of one list, of which one is open at a time.
+// A cursor over the blocks of one list. One block is open at a time.
 ghost use Rattle.std.specs.Prelude.{◌≡◌, ℕ, ◌+◌, ◌-◌, ◌^◌, ◌<◌, ◌≤◌, List, [], drop, length, min, slice_index_or, take};
 ghost use Rattle.std.specs.Prelude.{◌||◌, All, if◌then◌else◌, nat_lt, slice_index};
 ghost use Rattle.std.specs.List.Sorted.{IsStrictlyIncreasing};
@@ -63,7 +63,7 @@ impl<B: Blocks> PostingCursor<B> {
         cursor
     }
 
-    /// The place in its list of the document at which it is, where all blocks but the last have 128.
+    /// The place in its list of the document at which it is. All blocks but the last have 128 documents.
     pub fn posting(&self) -> usize
         requires stands { 0 < length (remaining_of self.now) }
         requires few { length self.now.blocks ≤ 2 ^ 32 }
@@ -73,7 +73,7 @@ impl<B: Blocks> PostingCursor<B> {
         self.block * 128 + self.at
     }
 
-    /// How many blocks were opened since it was made, the making included. Contracts learn here that its members rise.
+    /// How many blocks were opened since it was made, the first included. Contracts learn here that its members rise.
     pub fn openings(&self) -> u64
         ensures opened { result ≡ self.now.opened }
         ensures bound { result ≤ blocks_reached self.now }
@@ -91,8 +91,8 @@ impl<B: Blocks> PostingCursor<B> {
         (self.source.blocks() - self.block).saturating_mul(128)
     }
 
-    /// Marks the documents of the open block that have a place in the window, of which it is at one, passes them
-    ///, and gives how many they are.
+    /// Marks the documents of the open block that have a place in the window, passes them, and returns how many they
+    /// are. The document at which it is has a place.
     #[inline]
     pub fn mark_open(&mut self, window: &mut Window) -> usize
         requires some { 0 < length (remaining_of self.old) }
@@ -129,7 +129,7 @@ impl<B: Blocks> PostingCursor<B> {
         count
     }
 
-    /// Leaves nothing.
+    /// Passes all documents that remain.
     pub(crate) fn finish(&mut self)
         ensures nothing { remaining_of self.new ≡ [] }
         ensures follows { Follows self.old self.new }
@@ -139,7 +139,7 @@ impl<B: Blocks> PostingCursor<B> {
         self.len = 0;
     }
 
-    /// Stands at the beginning of a block, or at the end.
+    /// Goes to the beginning of a block, or to the end.
     fn enter(&mut self, block: usize)
         requires few { self.old.opened ≤ block }
         requires within { block ≤ length self.old.blocks }
@@ -220,7 +220,7 @@ impl<B: Blocks> DocSet for PostingCursor<B> {
         }
     }
 
-    /// Looks in the open block first, and else opens the one block in which the target lies or would be, if there is
+    /// Looks in the open block first, and otherwise opens the one block in which the target is or would be, if there is
     /// one.
     fn seek(&mut self, target: u32)
         ensures remaining { remaining_of self.new ≡ at_least target (remaining_of self.old) }

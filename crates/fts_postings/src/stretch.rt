@@ -1,4 +1,4 @@
-// A stretch of documents that lies open in an array: what is copied of it, and where a target is in it.
+// A stretch of documents in an array, such as an open block: what is copied from it, and where a target is in it.
 ghost use Rattle.std.specs.Prelude.{◌≡◌, ◌+◌, ◌≤◌, ◌++◌, drop, length, slice_index, take};
 ghost use Rattle.fts_postings.specs.Remaining.{IsPlaceOf};
 
@@ -13,8 +13,8 @@ pub fn copy_part(numbers: &[u32; 128], from: usize, count: usize, out: &mut [u32
     out[to..to + count].copy_from_slice(&numbers[from..from + count]);
 }
 
-/// The first place of those in `from..to` that has the target or more: `to` if there is none. Looks at the nearest
-/// 16 at once, since what is sought is mostly near, and halves what is passed them.
+/// The first place of those in `from..to` that has the target or more: `to` if there is none. Looks at the nearest 16
+/// at once, since what is sought is mostly near, and then halves the rest.
 #[inline]
 pub fn place_of(numbers: &[u32], from: usize, to: usize, target: u32) -> usize
     requires order { from ≤ to }
@@ -32,7 +32,7 @@ pub fn place_of(numbers: &[u32], from: usize, to: usize, target: u32) -> usize
     from + reached.trailing_zeros() as usize
 }
 
-/// The same, by halving.
+/// As `place_of`, by halving alone.
 #[inline]
 fn place_between(numbers: &[u32], from: usize, to: usize, target: u32) -> usize
     requires order { from ≤ to }

@@ -11,17 +11,17 @@ use crate::stretch::place_of;
 use crate::{bytes, marks};
 use std::alloc::{AllocError, Global};
 
-/// The documents marked among those of `from..=last`, of which there are 4,096 at most.
+/// The documents marked among those of `from..=last`, at most 4,096.
 #[derive(Drop)]
 pub struct Window {
     /// The document of the first bit.
     pub base: u32,
-    /// What lies before it was passed.
+    /// The first document that wasn't passed.
     pub from: u64,
     /// The last document that has a place.
     pub last: u32,
-    /// A mark for each document from `base` on: 0 if it isn't found. Marks are bytes, since documents of a list
-    /// mostly lie close together, and bits of one word would be set one after the other.
+    /// A mark for each document from `base` on: 0 if it isn't found. Marks are bytes: documents of a list are mostly
+    /// close together, and bits of one word would have to be set one after the other.
     pub marks: Vec<u8>,
     pub ghost aligned: { base % 64 ≡ 0 },
     pub ghost order: { base ≤ from },
@@ -31,7 +31,7 @@ pub struct Window {
 }
 
 impl Window {
-    /// With nothing marked.
+    /// A window with nothing marked.
     pub fn new(alloc: Global) -> Result<Window, AllocError>
         ensures { IfOk result (λ window. found_in window.base window.from window.last window.marks.items ≡ []) }
     {
@@ -43,8 +43,8 @@ impl Window {
         })
     }
 
-    /// Begins anew with nothing marked, for a document and those after it that are no more than this many above the
-    /// first of the 64 in which it lies: so words of bits lie as those of the window do.
+    /// Begins anew with nothing marked, for `doc` and the documents after it that are no more than `reach` above the
+    /// first of the 64 to which `doc` belongs. So words of bits begin at the same documents as the window's.
     pub fn begin(&mut self, doc: u32, reach: u32)
         requires { reach ≤ 4095 }
         ensures from { self.new.from ≡ doc }
@@ -98,7 +98,7 @@ impl Window {
         count
     }
 
-    /// How many of the documents have a place: mostly all of them, and then the last alone is looked at.
+    /// How many of the documents have a place. Mostly all have one, and then only the last is looked at.
     #[inline]
     fn count_covered(&self, docs: &[u32]) -> usize
         requires { IsStrictlyIncreasing docs.now }
@@ -155,8 +155,8 @@ impl Window {
         None
     }
 
-    /// Passes what has no mark before the first mark of the word in which the first place lies, or all of that
-    /// word if it has none. Whether it has one.
+    /// Passes the places before the first mark in the word of the first place, or all of that word if it has none.
+    /// Returns whether it has one.
     #[inline]
     fn pass_word(&mut self) -> bool
         requires { self.old.from ≤ self.old.last }
@@ -177,8 +177,8 @@ impl Window {
         true
     }
 
-    /// Writes the first documents that are marked after the first `filled` of `out`, passes them, and gives how
-    /// many they are: as many as there is room for.
+    /// Writes the first documents that are marked after the first `filled` of `out`, passes them, and returns how many
+    /// they are: as many as fit.
     #[inline]
     pub fn take_some(&mut self, out: &mut [u32; 128], filled: usize) -> usize
         requires { filled < 128 }
@@ -199,7 +199,8 @@ impl Window {
         128 - filled
     }
 
-    /// The same for the documents of a whole word if there is room for them, and else for one.
+    /// Takes the marked documents of a whole word if all fit and the word ends no later than `last`, otherwise one
+    /// document.
     #[inline]
     fn take_next(&mut self, out: &mut [u32; 128], filled: usize) -> usize
         requires { filled < 128 }
@@ -240,7 +241,7 @@ impl Window {
         count
     }
 
-    /// Passes the documents of the word in which the first place lies, and gives how many of them are marked.
+    /// Passes the documents of the word of the first place, and returns how many of them are marked.
     #[inline]
     fn count_word(&mut self) -> usize
         requires { self.old.from ≤ self.old.last }
@@ -259,7 +260,8 @@ impl Window {
         inside.count_ones() as usize
     }
 
-    /// The same for all words from the first place on, with which a word begins, but for one that ends after the last.
+    /// Passes the documents of all words from the first place on, except for one that ends after the last, and returns
+    /// how many are marked. The first place begins a word.
     #[inline]
     fn count_words(&mut self) -> usize
         requires { (self.old.from - self.old.base) % 64 ≡ 0 }
@@ -290,7 +292,7 @@ impl Window {
         }
     }
 
-    /// Passes what lies before the target.
+    /// Passes the documents below the target.
     #[inline]
     pub fn seek(&mut self, target: u32)
         ensures last { self.new.last ≡ self.old.last }
@@ -300,7 +302,7 @@ impl Window {
         self.from = self.from.max(target as u64);
     }
 
-    /// At least as many as are marked.
+    /// An upper bound on the marked documents.
     pub fn cost(&self) -> usize
         ensures { length (found_in self.now.base self.now.from self.now.last self.now.marks.items) ≤ result }
     {

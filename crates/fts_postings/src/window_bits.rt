@@ -21,8 +21,8 @@ impl Window {
         count
     }
 
-    /// Passes the documents of the word in which the first place lies, and gives how many of them are marked and
-    /// have a bit that is set.
+    /// Passes the documents of the word of the first place, and returns how many of them are marked and have a bit that
+    /// is set.
     #[inline]
     fn count_set_word(&mut self, bits: &Bits) -> usize
         requires { self.old.from ≤ self.old.last }

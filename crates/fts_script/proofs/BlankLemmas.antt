@@ -62,7 +62,7 @@ bare_step b xs true e h =
     let more : 1 + prefix_len is_white xs ≡ suc (prefix_len is_white xs) = omega arith in rw more h
 bare_step b xs false e h = λ blank. let parts = and_parts (is_white b) (is_blank xs) blank in cc
 
--- what follows it is not blank, if there is anything
+-- the rest is not blank, if there is any
 bare-drop : (xs : List ℕ) → is_blank (drop (prefix_len is_white xs) xs) ≡ true → drop (prefix_len is_white xs) xs ≡ []
 bare-drop [] = λ _. refl
 bare-drop (b ∷ xs) = bare_step b xs (is_white b) refl (bare-drop xs)
@@ -92,7 +92,7 @@ first_white : (b : ℕ) (ls : List (List ℕ)) → is_white b ≡ true → IsWri
 first_white b [] h w = absurd w
 first_white b (line ∷ ls) h w = ap (λ v. v && is_blank line) h ∙ w
 
--- whatever comes behind it
+-- a line that isn't blank is a first line that isn't blank, whatever comes after it
 pub IsWritten-front : (line more : List ℕ) → HasNoEnd line → is_blank line ≡ false → IsWritten (lines_of (line ++ more))
 IsWritten-front [] more none h = cc
 IsWritten-front (b ∷ line) more none h =

@@ -26,7 +26,7 @@ use Rattle.fts_script.specs.session.Replies.{number_reply, Outcome, replied, ans
 use Rattle.fts_script.specs.session.Replies.{reply_on, replies_on, output_on}
 use Rattle.fts_script.specs.command.AnswerData.{answer_data}
 
--- what one carrier holds stands, by a map, for what the other does
+-- a map leads from what one carrier holds to what another holds, step by step
 pub record Simulates {S T : Type 0} (from : Carrier S) (to : Carrier T) (f : S → T) : Type 0 where
   pub opened : (schema : List Field) → f (from.opened schema) ≡ to.opened schema
   pub submitted : (op : Op) (s : S) → f (from.submitted op s) ≡ to.submitted op (f s)
@@ -37,11 +37,11 @@ pub record Simulates {S T : Type 0} (from : Carrier S) (to : Carrier T) (f : S �
   pub commit_stamp : (s : S) → to.commit_stamp (f s) ≡ from.commit_stamp s
   pub uncommitted : (s : S) → to.uncommitted (f s) ≡ from.uncommitted s
 
--- a step's outcome, command_value by a map
+-- the outcome of a step, with a map applied to the carrier
 abbrev step_seen : {S T X : Type 0} → (S → T) → Result (S × X) Refusal → Result (T × X) Refusal
 step_seen f = result_map (λ done. (f done.0, done.1))
 
--- an outcome, command_value by a map
+-- an outcome, with a map applied to the carrier
 abbrev outcome_seen : {S T : Type 0} → (S → T) → Outcome S → Outcome T
 outcome_seen f o = record { index = option_map f o.index; reply = o.reply }
 

@@ -1,4 +1,4 @@
--- An index stands for the commands that were accepted.
+-- The index of the commands that were accepted.
 use Rattle.std.proofs.Common.{◌≡◌, ℕ, ◌+◌, ◌||◌, Bool, true, false, not, cond, List, [], ◌∷◌, ◌++◌, length, refl, sym, ap, ◌∙◌, add-zero, arith, length-append}
 use Rattle.std.proofs.lemmas.List.{append-nil}
 use Rattle.std.specs.List.{list_any}
@@ -14,7 +14,7 @@ use Rattle.fts_engine.specs.Histories.{Accepted, Submitted, Committed, RolledBac
 use Rattle.fts_engine.specs.Histories.{since_commit, stamped_from, History, and_then, histories}
 use Rattle.fts_script.proofs.CarrierLemmas.{Simulates}
 
--- ---- commits among what is kept
+-- ---- commits among the members of `kept`
 
 any-Operation : (cs : List Kept) (op : Op) → list_any is_commit (cs ++ Operation op ∷ []) ≡ list_any is_commit cs
 any-Operation [] op = refl
@@ -90,7 +90,7 @@ since-up_to [] = refl
 since-up_to (c ∷ cs) =
     none_left (is_commit c || list_any is_commit cs) c (up_to_commit cs) (ap (λ x. is_commit c || x) (any-up_to cs)) (since-up_to cs)
 
--- ---- what is kept
+-- ---- the members of `kept`
 
 abbrev is_committed : Accepted → Bool
 is_committed (Submitted op) = false
@@ -147,7 +147,7 @@ any-kept (Submitted op ∷ cs) = one_commit (take_back cs) op (kept cs) ∙ any-
 any-kept (Committed ∷ cs) = refl
 any-kept (RolledBack ∷ cs) = any-kept cs
 
--- no commit, nothing up to one
+-- without a commit there is nothing up to one
 up_to-none : (ks : List Kept) → list_any is_commit ks ≡ false → up_to_commit ks ≡ []
 up_to-none [] h = refl
 up_to-none (k ∷ ks) h = ap (λ b. cond b (k ∷ up_to_commit ks) []) h
@@ -192,7 +192,7 @@ length-stamped n (CommitPoint ∷ ks) h = cc
 
 -- ---- the index of a history
 
--- the index that was kept up to a commit and since make
+-- the index that the commands up to the last commit and those since make
 abbrev index_by : List Field → List Kept → List Kept → Index
 index_by schema us bs = record {
   schema = schema;
@@ -207,7 +207,7 @@ index_of h = index_by h.schema (up_to_commit (kept h.accepted)) (since_commit (k
 stamp_by : (schema : List Field) (ks us bs : List Kept) → ks ≡ us ++ bs → list_any is_commit bs ≡ false → stamp_after (index_by schema us bs) ≡ length ks + 1
 stamp_by schema ks us bs e h = omega (arith, length-stamped (length us + 1) bs h, ap length e, length-append us bs)
 
--- a history whose kept commands are these
+-- the index of a history whose `kept` is this list
 index_kept : (schema : List Field) (ks ls : List Kept) → ks ≡ ls → index_by schema (up_to_commit ks) (since_commit ks)
     ≡ index_by schema (up_to_commit ls) (since_commit ls)
 index_kept schema ks ls e = ap (λ xs. index_by schema (up_to_commit xs) (since_commit xs)) e

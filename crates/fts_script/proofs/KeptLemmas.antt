@@ -1,4 +1,4 @@
--- What is kept of a line is enough for its reply, and grows with it.
+-- What is stored of a line is enough for its reply, and grows with the line.
 use Rattle.std.proofs.Common.{◌≡◌, ◌<◌, ◌≤◌, ◌+◌, ◌-◌, ℕ, suc, Bool, true, false, cond, ltb, List, [], ◌∷◌, ◌++◌, length, take, drop, refl, sym, ap, ◌∙◌}
 use Rattle.std.proofs.Common.{append_assoc, take-append-drop, zero-add, arith, Option, Some, None, ◌&&◌}
 use Rattle.std.specs.List.{prefix_len}
@@ -14,7 +14,7 @@ use Rattle.fts_script.specs.session.KeptLines.{KeptLine, Short, TooLong, indente
 use Rattle.fts_script.specs.session.KeptLines.{too_long_in, bytes_in}
 use Rattle.fts_script.proofs.BlankLemmas.{is_blank-front, reply_to-blank, after_line-blank}
 
--- one more space, tab or CR
+-- one more space, tab or CR is counted
 indented-white : (w b : ℕ) (rest : List ℕ) → is_white b ≡ true → indented w (b ∷ rest) ≡ indented (w + 1) rest
 indented-white w b rest h =
     let n = prefix_len is_white rest in
@@ -25,7 +25,7 @@ indented-white w b rest h =
     let left : drop (prefix_len is_white (b ∷ rest)) (b ∷ rest) ≡ drop n rest = ap (λ k. drop k (b ∷ rest)) more in
     cc
 
--- as much of it as there is
+-- white space is counted, however much there is
 indented-blank : (w : ℕ) (white rest : List ℕ) → is_blank white ≡ true → indented w (white ++ rest) ≡ indented (w + length white) rest
 indented-blank w [] rest h = ap (λ n. indented n rest) (omega arith)
 indented-blank w (b ∷ white) rest h =
@@ -47,7 +47,7 @@ is_blank_kept-by false w line = is_blank-rest line
 pub is_blank_kept-indented : (w : ℕ) (line : List ℕ) → is_blank_kept (indented w line) ≡ is_blank line
 is_blank_kept-indented w line = is_blank_kept-by (ltb longest (w + length line)) w line
 
--- what is kept grows with the line
+-- what is stored of a line grows with it
 pub grown-kept_line : (line piece : List ℕ) → grown (kept_line line) piece ≡ kept_line (line ++ piece)
 grown-kept_line line piece = by (ltb longest (0 + length line)) refl
   where
@@ -64,7 +64,7 @@ grown-kept_line line piece = by (ltb longest (0 + length line)) refl
         ∙ sym (indented-blank 0 (take n line) (drop n line ++ piece) (is_blank-front line))
         ∙ ap kept_line (sym (append_assoc (take n line) (drop n line) piece) ∙ ap (λ v. v ++ piece) (take-append-drop n line))
 
--- a line that is too long
+-- a line that is too long is refused, unless it is blank
 reply_to-long : (s : SessionValue) (line : List ℕ) (blank : Bool) → ltb longest (length line) ≡ true → is_blank line ≡ blank →
     reply_to_kept s (TooLong blank) ≡ reply_to s line
 unfolding reply_on
@@ -77,7 +77,7 @@ unfolding carried_over
 after_line-long s line true long e = rw e refl
 after_line-long s line false long e = rw (e, long) refl
 
--- what is kept of a line is enough for its reply
+-- what is stored of a line is enough for its reply
 pub reply_to_kept-kept_line : (s : SessionValue) (line : List ℕ) → reply_to_kept s (kept_line line) ≡ reply_to s line
 reply_to_kept-kept_line s line = by (ltb longest (0 + length line)) refl
   where
@@ -100,7 +100,7 @@ after_kept-kept_line s line = by (ltb longest (0 + length line)) refl
         let short : length (take k line ++ drop k line) ≤ longest = grind (arith, nat_tests, ap length (take-append-drop k line)) in
         sym (after_line-blank s (take k line) (drop k line) (is_blank-front line) short) ∙ ap (after_line s) (take-append-drop k line)
 
--- nothing is kept of no line alone
+-- only an empty line stores nothing
 pub kept_line-nothing : (line : List ℕ) → kept_line line ≡ kept_line [] → line ≡ []
 kept_line-nothing line = by (ltb longest (0 + length line))
   where
@@ -113,12 +113,12 @@ kept_line-nothing line = by (ltb longest (0 + length line))
         let left : drop k line ≡ [] = cc in
         nil_from_length line (omega (arith, length-drop k line, ap length left))
 
--- a line that isn't blank, by what is kept of its beginning
+-- a line isn't blank if what is stored of its beginning, grown by a piece, isn't
 pub not_blank-kept : (p : KeptLine) (start piece : List ℕ) → p ≡ kept_line start → is_blank_kept (grown p piece) ≡ false → is_blank (start ++ piece) ≡ false
 not_blank-kept p start piece held h =
     sym (is_blank_kept-indented 0 (start ++ piece)) ∙ ap is_blank_kept (sym (ap (λ v. grown v piece) held ∙ grown-kept_line start piece)) ∙ h
 
--- a line that comes whole
+-- a line that comes in one piece
 grown-nothing : (p : KeptLine) (piece : List ℕ) → p ≡ kept_line [] → grown p piece ≡ kept_line piece
 grown-nothing p piece none = ap (λ v. grown v piece) none ∙ grown-kept_line [] piece
 
@@ -131,7 +131,7 @@ after_kept-whole s p piece none = ap (after_kept s) (grown-nothing p piece none)
 pub not_blank-whole : (p : KeptLine) (piece : List ℕ) → p ≡ kept_line [] → is_blank piece ≡ false → is_blank_kept (grown p piece) ≡ false
 not_blank-whole p piece none h = ap is_blank_kept (grown-nothing p piece none) ∙ is_blank_kept-indented 0 piece ∙ h
 
--- ---- what is read of what is kept
+-- ---- what the code reads of the stored beginning
 
 pub too_long-some : (p : KeptLine) (blank : Bool) → too_long_in p ≡ Some blank → p ≡ TooLong blank
 too_long-some (Short white bytes) blank e = cc
@@ -162,7 +162,7 @@ unindented-drop (b ∷ xs) = by (is_white b) refl (unindented-drop xs)
         let more : 1 + prefix_len is_white xs ≡ suc (prefix_len is_white xs) = omega arith in rw more h
     by false e h = ap (λ t. cond t (1 + prefix_len is_white xs) 0) e
 
--- nor with more behind it
+-- nor does it with more after it
 pub unindented-append : (bytes more : List ℕ) → prefix_len is_white bytes ≡ 0 → 0 < length bytes → prefix_len is_white (bytes ++ more) ≡ 0
 unindented-append [] more h some = absurd (omega (arith, some))
 unindented-append (b ∷ bytes) more h some = by (is_white b) refl h
@@ -190,7 +190,7 @@ indented-long w line h =
     let long : ltb longest (w + length line) ≡ true = grind (arith, nat_tests) in
     ap (λ t. cond t (TooLong (is_blank line)) (Short (w + prefix_len is_white line) (drop (prefix_len is_white line) line))) long
 
--- what is left of a piece behind its white space
+-- the rest of a piece after its white space
 pub rest_is : (bytes kept_bytes piece : List ℕ) (k : ℕ) → length bytes ≡ 0 → k ≡ prefix_len is_white piece →
     kept_bytes ≡ bytes ++ take (length piece - k) (drop k piece) → kept_bytes ≡ drop (prefix_len is_white piece) piece
 rest_is bytes kept_bytes piece k none k-is e =
@@ -198,7 +198,7 @@ rest_is bytes kept_bytes piece k none k-is e =
     ∙ take_all (length piece - k) (drop k piece) (omega (arith, length-drop k piece))
     ∙ ap (λ n. drop n piece) k-is
 
--- where white space alone was there, a piece's is counted
+-- if there was only white space, that of a piece is counted
 pub grown-white : (t : Option Bool) (white k : ℕ) (bytes after piece : List ℕ) → t ≡ None → length bytes ≡ 0 → k ≡ prefix_len is_white piece →
     after ≡ bytes ++ take (length piece - k) (drop k piece) → (white + length bytes) + length piece ≤ longest →
     kept_in t (white + k) after ≡ grown (kept_in t white bytes) piece
@@ -209,7 +209,7 @@ grown-white None white k bytes after piece e none k-is is short =
     ap (λ n. Short (white + n) after) k-is ∙ ap (λ v. Short (white + prefix_len is_white piece) v) (rest_is bytes after piece k none k-is is)
     ∙ sym (indented-short white piece fits) ∙ ap (indented white) (sym nothing)
 
--- behind another byte all of a piece is kept
+-- after another byte, all of a piece is stored
 pub grown-behind : (t : Option Bool) (white : ℕ) (bytes after piece : List ℕ) → t ≡ None → prefix_len is_white bytes ≡ 0 → 0 < length bytes →
     after ≡ bytes ++ piece → (white + length bytes) + length piece ≤ longest → kept_in t white after ≡ grown (kept_in t white bytes) piece
 grown-behind (Some blank) white bytes after piece e bare some is short = cc
@@ -221,7 +221,7 @@ grown-behind None white bytes after piece e bare some is short =
     ap (λ n. Short (white + n) (drop n (bytes ++ piece))) none in
     ap (Short white) is ∙ ap (λ n. Short n (bytes ++ piece)) (omega arith) ∙ sym same ∙ sym (indented-short white (bytes ++ piece) fits)
 
--- of a line that becomes too long, whether it is blank is kept
+-- once a line is too long, only whether it is blank is stored
 pub grown-long : (t : Option Bool) (white : ℕ) (bytes piece : List ℕ) → t ≡ None → longest < (white + length bytes) + length piece →
     TooLong (is_blank bytes && is_blank piece) ≡ grown (kept_in t white bytes) piece
 grown-long (Some blank) white bytes piece e long = cc
@@ -229,7 +229,7 @@ grown-long None white bytes piece e long =
     let over : longest < white + length (bytes ++ piece) = omega (arith, long, length-append bytes piece) in
     ap TooLong (sym (list_all-append is_white bytes piece)) ∙ sym (indented-long white (bytes ++ piece) over)
 
--- it isn't blank if a piece isn't, or if what was kept isn't
+-- it isn't blank if a piece isn't, or if what was stored isn't
 pub not_blank-grown : (t : Option Bool) (white : ℕ) (bytes piece : List ℕ) → t ≡ None → is_blank (bytes ++ piece) ≡ false →
     is_blank_kept (grown (kept_in t white bytes) piece) ≡ false
 not_blank-grown (Some blank) white bytes piece e h = cc

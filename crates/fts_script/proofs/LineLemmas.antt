@@ -28,7 +28,7 @@ first_of_two : (t : Bool) (b : ℕ) (ls ms : List (List ℕ)) → 0 < length ls 
 first_of_two true b ls ms h = refl
 first_of_two false b ls ms h = onto_first-append b ls ms h
 
--- the lines up to an LF, and those behind it
+-- the lines up to an LF, and those after it
 lines_of-cut : (xs ys : List ℕ) → lines_of (xs ++ 10 ∷ ys) ≡ lines_of (xs ++ 10 ∷ []) ++ lines_of ys
 lines_of-cut [] ys = refl
 lines_of-cut (x ∷ xs) ys =
@@ -96,7 +96,7 @@ HasNoEnd-front line more zero h none = tt
 HasNoEnd-front [] more (suc k) h none = absurd (omega (arith, h))
 HasNoEnd-front (x ∷ line) more (suc k) h none = (none.0, HasNoEnd-front line more k (omega (arith, h)) none.1)
 
--- a line and no more than n bytes behind it
+-- a line and no more than n bytes after it
 pub HasNoEnd-late : (line more : List ℕ) (n : ℕ) → length more ≤ n → HasNoEnd line → HasNoEnd (take (length (line ++ more) - n) (line ++ more))
 HasNoEnd-late line more n h none =
     HasNoEnd-front line more (length (line ++ more) - n) (omega (arith, h, length-append line more)) none

@@ -1,4 +1,4 @@
--- What a step of a run keeps.
+-- What stays true in a step of a run.
 use Rattle.std.proofs.Common.{inl, ltb, lt-ltb, IfOk, Result, Ok, Err, OnErr, OnOk, ◌≡◌, ◌<◌, ◌≤◌, ◌-◌, Bool, true, false, cond, eqb, ◌&&◌, ℕ, ◌+◌, List, []}
 use Rattle.std.proofs.Common.{◌∷◌, ◌++◌, length, take, drop, refl, ap, sym, ◌∙◌, append_assoc, append-nil, take-append-drop, subst, arith, rules, tests}
 use Rattle.std.proofs.lemmas.List.{length-drop, length-append, length-take-le, take_rest}
@@ -25,13 +25,13 @@ after_lines-append : (s : SessionValue) (xs ys : List (List ℕ)) → after_line
 after_lines-append s [] ys = refl
 after_lines-append s (x ∷ xs) ys = after_lines-append (after_line s x) xs ys
 
--- the output of whole lines and what comes behind them
+-- the output of whole lines and what comes after them
 output-append : (done more : List ℕ) → IsWhole done →
     output (done ++ more) ≡ output done ++ replies (after_lines start (lines_of done)) (lines_of more)
 output-append done more h =
     ap (replies start) (lines_of-append done more h) ∙ replies-append start (lines_of done) (lines_of more)
 
--- one more line, of which these are the lines
+-- one more line adds its reply to the output
 output-line : (done more line : List ℕ) → IsWhole done → lines_of more ≡ line ∷ [] →
     output (done ++ more) ≡ output done ++ reply_to (after_lines start (lines_of done)) line
 output-line done more line w is =
@@ -94,7 +94,7 @@ Advances-then s t u p q r xs ys a b c first second = record {
       subst (λ v. Answered u r v (out ++ c)) (append_assoc input xs ys) (second.leads (input ++ xs) out (first.leads input out from));
 }
 
--- whatever comes behind them
+-- first lines were answered, whatever bytes come later
 abbrev answers_first : (t : SessionValue) (q : KeptLine) (input xs more out : List ℕ) → Answered t q (input ++ xs) out →
     AnswersFirst (length (xs ++ more)) (input ++ (xs ++ more)) out
 answers_first t q input xs more out r = record {
@@ -274,7 +274,7 @@ Wrote-reached before now s p input r = record {
   };
 }
 
--- whatever comes behind the input
+-- what was written is the replies to first lines, whatever comes after the input
 pub Wrote-more : (before now : List ℕ) (s : SessionValue) (p : KeptLine) (input more : List ℕ) →
     RunState before now s p input → Wrote before now (AnswersFirst (length more) (input ++ more))
 Wrote-more before now s p input more r = record {
@@ -295,7 +295,7 @@ pub Wrote-same : (before now : List ℕ) (s : SessionValue) (p : KeptLine) (inpu
 Wrote-same before now s p input r =
     subst (λ v. Wrote before now (AnswersFirst 0 v)) (append-nil input) (Wrote-more before now s p input [] r)
 
--- the input ended behind an LF
+-- the input ended with an LF
 pub Finishes-nothing : (s : SessionValue) (p : KeptLine) → p ≡ kept_line [] → Finishes s p []
 Finishes-nothing s p none = record {
   ends = λ input out r.
@@ -371,7 +371,7 @@ AdvancesFirst-either (Ok n) s t p q bytes a b ok err =
     subst (λ v. AdvancesFirst s p v a b) (take-append-drop n bytes) (AdvancesFirst-leads s t p q (take n bytes) (drop n bytes) a b ok)
 AdvancesFirst-either (Err e) s t p q bytes a b ok err = record { leads = λ input out from. (err.leads input out from).0 }
 
--- the bytes up to a place, and those behind it
+-- the bytes up to a place, and those after it
 pub whole_is : (input bytes : List ℕ) (i : ℕ) →
     (input ++ take i bytes) ++ take (length bytes - i) (drop i bytes) ≡ input ++ bytes
 whole_is input bytes i =
@@ -410,16 +410,16 @@ given_none a b c input buffer n z e f = f ∙ ap (λ k. b ++ take k buffer) z �
 not_zero : (n : ℕ) → (n ≡ 0 → ⊥) → eqb n 0 ≡ false
 not_zero n h = search (rules, tests)
 
--- a read that gave something told no end
+-- a read that gave something didn't report the end
 pub not_counted : (n e h : ℕ) (t : Bool) → (n ≡ 0 → ⊥) → h ≡ cond (eqb n 0 && t) (e + 1) e → h ≡ e
 not_counted n e h t ne k = k ∙ ap (λ v. cond (v && t) (e + 1) e) (not_zero n ne)
 
--- a read that gave nothing, with room, told the end
+-- a read that gave nothing, although it could have, reported the end
 pub counted_end : (e h n m : ℕ) → n ≡ 0 → 0 < m → h ≡ cond (eqb n 0 && ltb 0 m) (e + 1) e → e < h
 counted_end e h n m z room k =
     let some : ltb 0 m ≡ true = lt-ltb 0 m room in
     let one : h ≡ e + 1 = k ∙ ap (λ v. cond (eqb v 0 && ltb 0 m) (e + 1) e) z ∙ ap (λ v. cond v (e + 1) e) some in omega arith
 
--- so many bytes were read
+-- n bytes were read
 pub length_more : (input buffer : List ℕ) (n m : ℕ) → n ≤ length buffer → m ≡ length input → m + n ≡ length (input ++ take n buffer)
 length_more input buffer n m h e = omega (arith, length-append input (take n buffer), length-take-le n buffer h)

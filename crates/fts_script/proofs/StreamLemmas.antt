@@ -5,7 +5,7 @@ use Rattle.std.proofs.KnownBytes.{Appends-nil, Appends-trans, Appends-kept, Cons
 use Rattle.std.specs.Io.KnownBytes.{Keeps, ReadConsumes, WriteAppends}
 use Rattle.fts_script.specs.Streams.{bytes_moved, GainsTaken, LosesGiven}
 
--- two lists behind one another are a list behind the first
+-- two lists appended to a first one are one list appended to it
 pub append_more : (a b c bs cs : List ℕ) → b ≡ a ++ bs → c ≡ b ++ cs → c ≡ a ++ (bs ++ cs)
 append_more a b c bs cs e f = f ∙ ap (λ v. v ++ cs) e ∙ append_assoc a bs cs
 

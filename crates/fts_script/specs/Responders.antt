@@ -1,11 +1,11 @@
--- How far a script has come: the lines that were answered, and the line in hand.
+-- How far a script has come: the lines that were answered, and the current line.
 use Rattle.std.specs.Prelude.{ℕ, ◌≡◌, List, ◌++◌, length}
 use Rattle.fts_script.specs.session.Text.{lines_of, IsWhole, HasNoEnd}
 use Rattle.fts_script.specs.session.Outputs.{SessionValue, start, after_lines, output}
 use Rattle.fts_script.specs.Stops.{AnswersFirst, StopsFirst}
 use Rattle.fts_script.specs.session.KeptLines.{KeptLine, kept_line}
 
--- After this input the lines that have ended were answered by `out`, and the rest of it is the line in hand.
+-- After this input the lines that have ended were answered by `out`, and the rest of it is the current line.
 pub record Answered (s : SessionValue) (p : KeptLine) (input out : List ℕ) : Type 0 where
   pub done : List ℕ
   pub line : List ℕ
@@ -25,7 +25,7 @@ pub record AdvancesFirst (s : SessionValue) (p : KeptLine) (bytes a b : List ℕ
   pub leads : (input out : List ℕ) → Answered s p input (out ++ a) →
       AnswersFirst (length bytes) (input ++ bytes) (out ++ b)
 
--- The same, and memory ran out at a line that isn't blank.
+-- As `AdvancesFirst`, and memory ran out at a line that isn't blank.
 pub record AdvancesToStop (s : SessionValue) (p : KeptLine) (bytes a b : List ℕ) : Type 0 where
   pub leads : (input out : List ℕ) → Answered s p input (out ++ a) →
       StopsFirst (length bytes) (input ++ bytes) (out ++ b)
@@ -34,7 +34,7 @@ pub record AdvancesToStop (s : SessionValue) (p : KeptLine) (bytes a b : List �
 pub record Finishes (s : SessionValue) (p : KeptLine) (replies : List ℕ) : Type 0 where
   pub ends : (input out : List ℕ) → Answered s p input out → out ++ replies ≡ output input
 
--- The same of what is written: no reply waits.
+-- As `Answered` for a writer that took the replies: no reply waits.
 pub record RunState (before now : List ℕ) (s : SessionValue) (p : KeptLine) (input : List ℕ) : Type 0 where
   pub out : List ℕ
   pub taken : now ≡ before ++ out

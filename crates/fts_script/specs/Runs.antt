@@ -1,16 +1,16 @@
--- What a run did to its streams: each tells one thing of the streams before it and after it.
+-- What a run did to its streams: each definition says one thing about the streams before it and after it.
 use Rattle.std.specs.Prelude.{ℕ, ◌≡◌, ◌+◌, ◌<◌, ◌^◌, List, ◌++◌, length}
 use Rattle.fts_script.specs.Streams.{StreamsValue, Wrote, LosesGiven, GainsTaken}
 use Rattle.fts_script.specs.session.Outputs.{output}
 use Rattle.fts_script.specs.Stops.{AnswersEnded, AnswersFirst, BeginsOutputUnless, StopsFirst}
 
--- What the run read, and what it wrote, are so.
+-- P holds of what the run read and what it wrote.
 pub record Moves (old new : StreamsValue) (P : List ℕ → List ℕ → Type 0) : Type 0 where
   pub input : List ℕ
   pub read : new.given ≡ old.given ++ input
   pub wrote : Wrote old.taken new.taken (P input)
 
--- A read told the end of the input.
+-- A read reported the end of the input.
 abbrev pub TellsEnd : StreamsValue → StreamsValue → Type 0
 TellsEnd old new = old.ends < new.ends
 
@@ -34,11 +34,11 @@ FailsRead old new = (new.failed_reads ≡ old.failed_reads + 1) × (new.failed_w
 abbrev pub FailsWrite : StreamsValue → StreamsValue → Type 0
 FailsWrite old new = (new.failed_reads ≡ old.failed_reads) × (new.failed_writes ≡ old.failed_writes + 1)
 
--- What was read is what the reader lost of the bytes that it tells.
+-- What was read is what the reader lost of its remaining bytes, if these are known.
 abbrev pub LosesRead : StreamsValue → StreamsValue → Type 0
 LosesRead old new = LosesGiven old.given new.given old.remaining new.remaining
 
--- What was written is what the writer gained of the bytes that it tells.
+-- What was written is what the writer gained in the bytes that it holds, if these are known.
 abbrev pub GainsWritten : StreamsValue → StreamsValue → Type 0
 GainsWritten old new = GainsTaken old.taken new.taken old.held new.held
 
@@ -59,7 +59,7 @@ StopsInLastRead old new = Moves old new (StopsFirst (length new.latest))
 abbrev pub WritesEnded : StreamsValue → StreamsValue → Type 0
 WritesEnded old new = Moves old new AnswersEnded
 
--- Over 2^61 bytes were read; what was written is the replies to first lines, to all at least that ended before the
+-- Over 2^61 bytes were read. What was written is the replies to the first lines, at least to all that ended before the
 -- last read.
 abbrev pub ReadsTooMuch : StreamsValue → StreamsValue → Type 0
 ReadsTooMuch old new = Moves old new (λ input out. AnswersFirst (length new.latest) input out × (2 ^ 61 < length input))

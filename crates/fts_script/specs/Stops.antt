@@ -1,4 +1,4 @@
--- What is written where a script stops before its end.
+-- What is written if a script stops before its end.
 use Rattle.std.specs.Prelude.{ℕ, ◌≡◌, ◌≢◌, ◌-◌, false, List, [], ◌∷◌, ◌++◌, length, take}
 use Rattle.fts_script.specs.session.Text.{lines_of, is_blank, IsWhole, HasNoEnd}
 use Rattle.fts_script.specs.session.Outputs.{output}
@@ -11,11 +11,11 @@ BeginsWith xs front = (rest : List ℕ) × (xs ≡ front ++ rest)
 abbrev pub BeginsOutput : List ℕ → List ℕ → Type 0
 BeginsOutput input out = (more : List ℕ) → BeginsWith (output (input ++ more)) out
 
--- the same; if the input has ended, it doesn't go on
+-- as `BeginsOutput`, but if the input has ended, it doesn't go on
 abbrev pub BeginsOutputUnless : Type 0 → List ℕ → List ℕ → Type 0
 BeginsOutputUnless ended input out = (more : List ℕ) → (ended → more ≡ []) → BeginsWith (output (input ++ more)) out
 
--- the replies to the first lines of the input, to each at least that ended before the last n bytes
+-- the replies to the first lines of the input, at least to each that ended before the last n bytes
 pub record AnswersFirst (n : ℕ) (input out : List ℕ) : Type 0 where
   pub done : List ℕ
   pub rest : List ℕ
@@ -29,7 +29,7 @@ abbrev pub IsWritten : List (List ℕ) → Type 0
 IsWritten [] = ⊥
 IsWritten (line ∷ lines) = is_blank line ≡ false
 
--- the same, and what isn't answered begins with a line that isn't blank, unless there was no input
+-- as `AnswersFirst`, and the next line isn't blank, unless there was no input
 abbrev pub StopsFirst : ℕ → List ℕ → List ℕ → Type 0
 StopsFirst n input out = (first : AnswersFirst n input out) × (input ≢ [] → IsWritten (lines_of first.rest))
 

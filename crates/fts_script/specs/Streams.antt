@@ -8,12 +8,12 @@ abbrev pub bytes_moved : {E : Type 0} → Result ℕ E → List ℕ → List ℕ
 bytes_moved (Ok n) buffer = take n buffer
 bytes_moved (Err e) buffer = []
 
--- there was room for a byte, and none came
+-- a read reports the end: its buffer wasn't empty, and it gave no byte
 abbrev pub tells_end : {E : Type 0} → Result ℕ E → ℕ → Bool
 tells_end (Ok n) room = n == 0 && nat_lt 0 room
 tells_end (Err e) room = false
 
--- an error; or there was a byte, and none was taken
+-- a call failed, or it was given a byte and took none
 abbrev pub takes_none : {E : Type 0} → Result ℕ E → ℕ → Bool
 takes_none (Ok n) given = n == 0 && nat_lt 0 given
 takes_none (Err e) given = true
@@ -22,37 +22,37 @@ takes_none (Err e) given = true
 pub record StreamsValue : Type 0 where
   -- the bytes that reads gave
   pub given : List ℕ
-  -- those that the latest read gave
+  -- the bytes that the latest read gave
   pub latest : List ℕ
-  -- those that are left to read, where the reader tells
+  -- the bytes that are left to read, if they are known
   pub remaining : Option (List ℕ)
-  -- how many reads told the end
+  -- how many reads reported the end
   pub ends : ℕ
   pub failed_reads : ℕ
   -- the bytes that writes took
   pub taken : List ℕ
-  -- those that the writer holds, if it tells
+  -- the bytes that the writer holds, if they are known
   pub held : Option (List ℕ)
   -- how many writes and flushes failed
   pub failed_writes : ℕ
   -- how many flushes succeeded
   pub flushes : ℕ
-  -- the bytes that writes had taken when the latest of these flushes did
+  -- the bytes that writes had taken when the latest successful flush was made
   pub flushed : List ℕ
 
--- A writer had taken `before` and has now taken `now`: what came after is so.
+-- A writer had taken `before` and has now taken `now`: P holds of what came after `before`.
 pub record Wrote (before now : List ℕ) (P : List ℕ → Type 0) : Type 0 where
   pub bytes : List ℕ
   pub taken : now ≡ before ++ bytes
   pub so : P bytes
 
--- What a reader gave is what it lost of the bytes that it tells.
+-- What a reader gave is what it lost of its remaining bytes, if these are known.
 pub record LosesGiven (before now : List ℕ) (unread left : Option (List ℕ)) : Type 0 where
   pub input : List ℕ
   pub given : now ≡ before ++ input
   pub lost : Consumes unread left input
 
--- What a writer took is what it gained of the bytes that it tells.
+-- What a writer took is what it gained in the bytes that it holds, if these are known.
 pub record GainsTaken (before now : List ℕ) (held holds : Option (List ℕ)) : Type 0 where
   pub out : List ℕ
   pub taken : now ≡ before ++ out

@@ -1,11 +1,11 @@
-//! Scripts: lines of JSON in, lines of replies out, over any engine that keeps an index.
+//! Scripts: lines of JSON in, lines of replies out, over any engine.
 //!
 //! [`run_script`] reads blocks of bytes, finds the lines in them, executes the command of each line over an
 //! [`Engine`], and writes the replies one after the other. What it writes is one stated function of what it read
 //! (`specs/Outputs`): no block, buffer, option or engine occurs in it.
 //!
 //! - An [`Engine`] is what a script needs of an index; each of its methods is one step of the definitions.
-//!   [`ListEngine`] keeps a plain list of documents. The engine over segments is in a crate above, so that this
+//!   [`ListEngine`] holds a plain list of documents. The engine over segments is in a crate above, so that this
 //!   one is proved beside the index.
 //! - A script's [`Streams`] are a [`ScriptIn`] and a [`ScriptOut`]; [`Plain`] makes one of a reader or writer of std.
 //!

@@ -1,4 +1,4 @@
-// The line in hand, where a block of the input has cut it.
+// The current line, if a block of the input ends within it.
 ghost use Rattle.std.specs.Prelude.{◌≡◌, ◌≤◌, ◌&&◌, ◌↔◌, false, None, [], length, IsTrue, OnOk, OnErr};
 ghost use Rattle.std.specs.List.{prefix_len};
 ghost use Rattle.fts_script.specs.session.Text.{is_white, is_blank};
@@ -20,21 +20,21 @@ fn count_white(line: &[u8]) -> usize
     line.iter().take_while(|byte| is_white(**byte)).count()
 }
 
-/// Whether a line that was blank so far is blank with a piece after it.
+/// Whether a line that was blank so far is still blank with this piece after it.
 fn stays_blank(blank: bool, piece: &[u8]) -> bool
     ensures { result ≡ (blank && is_blank piece.now) }
 {
     blank && is_blank(piece)
 }
 
-/// The beginning of a line, without its LF: what is kept of it. One buffer serves all lines.
+/// An unfinished line, without its LF. One buffer is reused for all lines.
 #[derive(Drop)]
 pub struct PartialLine {
-    /// How many spaces, tabs and CRs it begins with. They change no reply, and are not kept.
+    /// How many spaces, tabs and CRs it begins with. They have no effect on the reply, and aren't stored.
     white: usize,
-    /// What follows them, while it may still become a line.
+    /// What follows the white space, unless the line is too long.
     bytes: Vec<u8>,
-    /// Once it is longer than a line may be: whether it is blank so far.
+    /// Whether the line is blank so far, once it is longer than a line may be.
     too_long: Option<bool>,
 }
 
@@ -53,7 +53,7 @@ impl Model for PartialLine {
 }
 
 impl PartialLine {
-    /// Of a line of which nothing came yet.
+    /// An unfinished line without a byte.
     pub fn new(alloc: Global) -> PartialLine
         ensures { result ≡ kept_line [] }
     {
@@ -64,14 +64,14 @@ impl PartialLine {
         }
     }
 
-    /// Whether nothing of the line came yet.
+    /// Whether no byte of the line came yet.
     pub fn is_empty(&self) -> bool
         ensures { IsTrue result ↔ (self.now ≡ kept_line []) }
     {
         self.too_long.is_none() && self.white == 0 && self.bytes.is_empty()
     }
 
-    /// Takes more of the line.
+    /// Appends a piece of the line.
     pub fn grow(&mut self, piece: &[u8]) -> Result<(), AllocError>
         ensures ok { OnOk result (self.new ≡ grown self.old piece.now) }
         ensures not_blank { OnErr result (is_blank_kept (grown self.old piece.now) ≡ false) }
@@ -103,7 +103,7 @@ impl PartialLine {
         self.too_long
     }
 
-    /// What follows the white space that the line begins with.
+    /// The bytes after the white space that the line begins with.
     pub fn bytes(&self) -> &[u8]
         requires { too_long_in self.now ≡ None }
         ensures value { result.now ≡ bytes_in self.now }
@@ -112,7 +112,7 @@ impl PartialLine {
         self.bytes.as_slice()
     }
 
-    /// Begins the next line.
+    /// Empties it for the next line.
     pub fn clear(&mut self)
         ensures { self.new ≡ kept_line [] }
     {

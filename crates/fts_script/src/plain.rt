@@ -5,7 +5,7 @@ use crate::streams::{ScriptIn, ScriptOut, StreamError};
 use fts_base::{GhostBytes, GhostCount};
 use std::io::{Read, Write};
 
-/// A reader or writer of std, with the bytes and the counts of its calls for contracts alone.
+/// A reader or writer of std. Contracts see the bytes and the counts of its calls.
 #[derive(Drop)]
 pub struct Plain<T> {
     inner: T,
@@ -18,7 +18,7 @@ pub struct Plain<T> {
 }
 
 impl<T> Plain<T> {
-    /// No call was made yet.
+    /// A stream before its first call.
     pub fn new(inner: T) -> Self
         ensures inner { result.inner ≡ inner }
         ensures moved { result.moved.bytes ≡ [] }

@@ -1,4 +1,4 @@
-// A script on its way: the line in hand, the commands so far, and the replies that wait.
+// A script that is under way: the current line, the commands so far, and the replies that wait.
 ghost use Rattle.std.specs.Prelude.{ℕ, ◌≡◌, ◌+◌, ◌^◌, ◌<◌, ◌≤◌, ◌++◌, false, List, [], length, take, string_bytes};
 ghost use Rattle.std.specs.Prelude.{IfOk, OnOk, OnErr, IsErrOf};
 ghost use Rattle.fts_script.specs.Streams.{GainsTaken, Wrote};
@@ -17,10 +17,10 @@ use fts_engine::{Engine, EngineOver, Options};
 use memchr::memchr;
 use std::alloc::{AllocError, Global};
 
-/// How many bytes of unsent replies there may be before a line is answered.
+/// A line is answered only while fewer bytes of replies than this wait to be written.
 const MOST_UNSENT: usize = 65_536;
 
-/// Writes the replies that wait.
+/// Writes the replies that wait, and empties them.
 fn send<W: ScriptOut>(writer: &mut W, replies: &mut String) -> Result<(), Fault>
     ensures ok { OnOk result
         (W.taken writer.new ≡ W.taken writer.old ++ string_bytes replies.old) }
@@ -71,14 +71,14 @@ fn send_last<W: ScriptOut>(writer: &mut W, replies: &mut String) -> Result<(), F
 /// Answers a script that comes in pieces. It is ended by `end`, `close` or a fault.
 pub struct Responder<E: Engine> {
     session: Session<E>,
-    /// The line in hand.
+    /// The current line.
     line: PartialLine,
     /// The replies that wait to be written.
     replies: String,
 }
 
 impl<E: Engine> Responder<E> {
-    /// Before the first piece.
+    /// A responder before the first piece.
     pub fn new(alloc: Global, options: Options) -> Responder<E>
         ensures session { result.session ≡ start }
         ensures line { result.line ≡ kept_line [] }
@@ -91,7 +91,7 @@ impl<E: Engine> Responder<E> {
         }
     }
 
-    /// Replies to the line in hand, which is whole now, and begins the next.
+    /// Replies to the current line, which is complete now, and begins the next.
     fn answer<R: AllocGlobal + Sync>(&mut self, rt: &R) -> Result<(), AllocError>
     where
         E: EngineOver<R>,
@@ -134,14 +134,14 @@ impl<E: Engine> Responder<E> {
         ensures lines_counted { self.new.session.number ≤ self.old.session.number + 1 }
     {
         if self.line.is_empty() {
-            // The line lies whole in its block, and is read there.
+            // The line is complete in its block, and is read there.
             return self.session.answer(rt, piece, &mut self.replies);
         }
         self.line.grow(piece)?;
         self.answer(rt)
     }
 
-    /// Takes the bytes up to the end of a line, or all if none ends, and says how many.
+    /// Takes the bytes up to the end of a line, or all if none ends, and returns how many.
     fn take_line<R: AllocGlobal + Sync>(
         &mut self,
         rt: &R,
@@ -174,7 +174,7 @@ impl<E: Engine> Responder<E> {
         }
     }
 
-    /// Takes lines until the bytes are done or many replies wait, and says how many bytes it took.
+    /// Takes lines until the bytes are used up or many replies wait, and returns how many bytes it took.
     fn take_lines<R: AllocGlobal + Sync>(
         &mut self,
         rt: &R,
@@ -203,7 +203,7 @@ impl<E: Engine> Responder<E> {
         Ok(at)
     }
 
-    /// Replies to the lines of a piece. At a fault it is closed.
+    /// Replies to the lines of a piece. At a fault the responder is closed.
     pub fn feed<R: AllocGlobal + Sync, W: ScriptOut>(
         mut self,
         rt: &R,
@@ -239,7 +239,7 @@ impl<E: Engine> Responder<E> {
         let mut at = 0;
         while at < piece.len() {
             let taken = self.take_lines(rt, &piece[at..]);
-            // The replies go out before more is read, and if memory ran out too.
+            // The replies are written before more is read, and also if memory ran out.
             match send(writer, &mut self.replies) {
                 Ok(()) => {}
                 Err(fault) => {
@@ -258,7 +258,7 @@ impl<E: Engine> Responder<E> {
         Ok(self)
     }
 
-    /// Replies to the line that the end of the input ends, if there is one.
+    /// Replies to the last line, if the end of the input ends one.
     fn end_input<R: AllocGlobal + Sync>(&mut self, rt: &R) -> Result<(), AllocError>
     where
         E: EngineOver<R>,

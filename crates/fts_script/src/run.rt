@@ -19,14 +19,14 @@ const BLOCK: usize = 65_536;
 /// The most bytes that a run reads: as many as there may be lines.
 const MOST_BYTES: u64 = MOST_LINES;
 
-/// A block; its length stays a variable in the proof, which would write a list of 65,536 out.
+/// A block of zeros. Its length is a parameter, since the proof would write out a list of 65,536.
 fn zeros(alloc: Global, count: usize) -> Result<Vec<u8>, AllocError>
     ensures { IfOk result (λ block. vec_len block ≡ count) }
 {
     vec![in alloc; 0; count]
 }
 
-/// Reads a script to its end, and writes its replies, whatever the options, the engine and what this is given.
+/// Reads a script to its end, and writes its replies, whatever the options and the engine are.
 pub fn run_script<G: AllocGlobal + Sync, E: EngineOver<G>, R: ScriptIn, W: ScriptOut>(
     rt: &G,
     streams: &mut Streams<R, W>,
@@ -37,7 +37,8 @@ pub fn run_script<G: AllocGlobal + Sync, E: EngineOver<G>, R: ScriptIn, W: Scrip
     ensures flushed { OnOk result (Flushes streams.old streams.new) }
     ensures flushed_all { OnOk result (FlushesAll streams.new) }
 
-    // Where the reader tells what it has left, and the writer what it holds, it is the same bytes.
+    // If the bytes that the reader has left and those that the writer holds are known, they are what was read and
+    // written.
     ensures left { LosesRead streams.old streams.new }
     ensures held { GainsWritten streams.old streams.new }
     ensures nothing_left { TellsEnd streams.old streams.new → IsAtEnd streams.new.remaining }
@@ -46,7 +47,7 @@ pub fn run_script<G: AllocGlobal + Sync, E: EngineOver<G>, R: ScriptIn, W: Scrip
     ensures memory { IsErrOf result Fault.Memory → StopsInLastRead streams.old streams.new }
     ensures read { IsErrOf result Fault.Read → WritesEnded streams.old streams.new }
 
-    // A call that fails is the one that fails, and its fault is what the run answers.
+    // At most one call fails, and the run's fault names it.
     ensures none_failed { OnOk result (FailsNever streams.old streams.new) }
     ensures memory_alone { IsErrOf result Fault.Memory → FailsNever streams.old streams.new }
     ensures used_up_alone { IsErrOf result Fault.StampsUsedUp → FailsNever streams.old streams.new }

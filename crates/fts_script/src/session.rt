@@ -1,6 +1,6 @@
-//! A script line by line: what it has come to, and its replies.
+//! A script, line by line: its state, and its replies.
 //!
-//! A [`Session`] reads each line as a command, executes it over an `Engine` of `fts_engine`, and puts the reply after
+//! A [`Session`] reads each line as a command, executes it over an `Engine` of `fts_engine`, and appends the reply to
 //! those before it. It knows no block and no stream.
 
 mod commands;

@@ -46,7 +46,7 @@ pub trait ScriptIn {
     /// The bytes that are left to read, if they are known.
     ghost remaining: { Self → Option (List ℕ) };
 
-    /// How many calls told the end: they had room for a byte, and gave none.
+    /// How many calls reported the end: their buffer wasn't empty, and they gave no byte.
     ghost ends: { Self → ℕ };
 
     /// How many calls failed.
@@ -78,7 +78,7 @@ pub trait ScriptOut {
     /// How many calls of `flush` succeeded.
     ghost flushes: { Self → ℕ };
 
-    /// The bytes that calls had taken when the latest of these succeeded.
+    /// The bytes that calls had taken when the latest successful flush was made.
     ghost flushed: { Self → List ℕ };
 
     /// Writes some bytes from the front of `bytes`, and says how many.
@@ -91,7 +91,7 @@ pub trait ScriptOut {
         ensures flushes { flushes self.new ≡ flushes self.old }
         ensures flushed { flushed self.new ≡ flushed self.old };
 
-    /// Hands on what was written and waits.
+    /// Hands on what was written, and waits until that is done.
     fn flush(&mut self) -> Result<(), StreamError>
         ensures taken { taken self.new ≡ taken self.old }
         ensures held { Keeps (held self.old) (held self.new) }

@@ -9,21 +9,21 @@ use std::process::ExitCode;
 use std::rt::Files;
 use std::{fs, io};
 
-/// What a program that tries cases knows: the calls that each word of its cases stands for.
+/// A program that tries cases: it knows which calls each word of its cases means.
 pub trait Driver {
     /// Forgets what the cases of an earlier file made.
     fn begin(&mut self);
 
-    /// Gives what the public calls give at a case.
+    /// Makes the public calls of a case, and gives what they return.
     fn give(&mut self, case: &Value, trial: &mut Trial);
 }
 
-/// What is wanted of the cases of a file.
+/// What is expected of the cases of a file.
 #[derive(Clone, Copy, PartialEq)]
 pub enum Wanted {
     /// Each gives what it says.
     Fit,
-    /// None does.
+    /// No case gives what it says.
     Differ,
 }
 
@@ -35,7 +35,7 @@ pub struct Tally {
 }
 
 impl Tally {
-    /// None was tried yet.
+    /// The tally before the first case.
     pub fn new() -> Tally {
         Tally {
             cases: 0,
@@ -89,7 +89,7 @@ fn sentence_of(case: &Value) -> Option<&str> {
     case.get("case")?.as_str()
 }
 
-/// The case of a line, or else what the line lacks.
+/// The case of a line, or what the line lacks.
 fn case_of(alloc: Global, line: &str) -> Result<Value, &'static str> {
     match Value::from_str(alloc, line) {
         Ok(case) if sentence_of(&case).is_some() => Ok(case),
@@ -128,7 +128,7 @@ fn told(alloc: Global, trouble: Trouble) -> Result<String, AllocError> {
     format!(in alloc; "{before}{name}{behind}")
 }
 
-/// Nothing where a case gave what it says, else what it gave or why it gave nothing.
+/// `None` if a case gave what it says, otherwise what it gave or why it gave nothing.
 fn difference(
     alloc: Global,
     case: &Value,
@@ -140,7 +140,7 @@ fn difference(
     }
 }
 
-/// Whether a case gave what it says. Where it didn't, what it gave is printed.
+/// Whether a case gave what it says. If it didn't, what it gave is printed.
 pub fn judged<R: Print + AllocGlobal>(
     rt: &R,
     name: &str,
@@ -157,7 +157,7 @@ pub fn judged<R: Print + AllocGlobal>(
     }
 }
 
-/// Tries the case of a line, and answers whether it gives what it says.
+/// Tries the case of a line, and returns whether it gives what it says.
 fn holds<R: Print + AllocGlobal, D: Driver>(
     rt: &R,
     driver: &mut D,
@@ -189,7 +189,7 @@ fn file<R: Print + AllocGlobal + Files, D: Driver>(
 }
 
 /// Tries the cases of all files that the process's words name: those after `--wrong` must differ. The exit status is 1
-/// where a case failed, where a file has none, and where no file is named.
+/// if a case failed, if a file has none, or if no file is named.
 pub fn run<R: Print + AllocGlobal + Files + Env, D: Driver>(
     rt: &R,
     driver: &mut D,

@@ -18,7 +18,7 @@ fn kind_named(trial: &mut Trial, name: &str) -> Kind {
     }
 }
 
-/// Puts a field after others.
+/// Appends a field.
 fn push_field(trial: &mut Trial, fields: &mut Vec<Field>, name: &str, kind: Kind, default: bool) {
     let name = String::from_str(trial.alloc(), name);
     if let Some(name) = trial.kept(name) {
@@ -34,7 +34,7 @@ fn push_field(trial: &mut Trial, fields: &mut Vec<Field>, name: &str, kind: Kind
     }
 }
 
-/// Puts the field of an object after others.
+/// Appends the field of an object.
 fn push_read(trial: &mut Trial, fields: &mut Vec<Field>, json: &Value) {
     only(trial, json, &["name", "kind", "default"]);
     let kind = text(trial, json, "kind");

@@ -1,4 +1,4 @@
-// What a case says beside what was given.
+// Compares what a case says with what was given.
 use fts_model::Refusal;
 use serde_json::Value;
 
@@ -13,8 +13,8 @@ fn bound(says: &Value) -> Option<u64> {
     }
 }
 
-/// Whether what was given is what the case says: the same JSON value, but that `{"at_most":n}`, also within a list or
-/// an object, stands for each number up to n.
+/// Whether what was given is what the case says: the same JSON value, except that `{"at_most":n}`, also within a list
+/// or an object, matches each number up to n.
 pub fn fits(says: &Value, given: &Value) -> bool {
     if let Some(most) = bound(says) {
         return given.as_u64().is_some_and(|number| number <= most);
@@ -46,7 +46,7 @@ pub fn fits(says: &Value, given: &Value) -> bool {
     }
 }
 
-/// The number that a refusal has of a lane, an operation or a segment.
+/// The number of a lane, an operation or a segment that a refusal has.
 pub(crate) fn number_of(refusal: Refusal) -> Option<u64> {
     match refusal {
         Refusal::LaneMissing(lane) => Some(lane as u64),

@@ -7,22 +7,22 @@
 //! ```
 //!
 //! A driver is a program whose `args` name its files. It hands a [`Driver`] to [`run`], which has it make the public
-//! calls of each case and compares what they gave with what the case says under `gives`. A case more costs no proof. A
+//! calls of each case and compares what they gave with what the case says under `gives`. Another case costs no proof. A
 //! driver whose calls start threads goes over its files by itself, by [`case_on`], [`judged`] and [`Tally`]: what the
 //! runtime may do is known of a function's own parameters, and not after a trait.
 //!
 //! - [`run`] prints `DIFFERS: FILE: sentence: what was given` for each case that differs, `FILE: N cases` at the end of
-//!   each file and `N cases` at the end of all. The exit status is 1 where a case failed, and a file without a case
+//!   each file and `N cases` at the end of all. The exit status is 1 if a case failed, and a file without a case
 //!   fails. After the word `--wrong` each case of a file must differ: such a file shows that the driver sees faults.
 //! - A [`Trial`] takes what a case gives, as JSON, piece by piece, and keeps the first [`Trouble`], which fails this
-//!   case alone. So a function of a driver has no way out where a member is missing or a growth is refused, and no
-//!   values to let go there: it takes a fraction of the time to prove.
+//!   case alone. So a function of a driver has no way out if a member is missing or a growth is refused, and no values
+//!   to drop there: it takes a fraction of the time to prove.
 //! - [`text`], [`list`], [`number`] and their like read the members of a case. One that is missing, of another kind
 //!   or empty if it may not be is such a trouble, and read as empty. [`only`] refuses every member that the driver
 //!   doesn't know.
-//! - [`fits`] compares: `{"at_most":8}` stands for each number up to 8, and nothing else is loose.
+//! - [`fits`] compares: `{"at_most":8}` matches each number up to 8, and everything else must be equal.
 //! - A [`Refusal`](fts_model::Refusal) is given like other values, as `{"error":"StaleBatch"}`:
-//!   [`Trial::give_refusal`]. Where a call refused, it stands for all that the case, or a step of it, gave.
+//!   [`Trial::give_refusal`]. If a call refused, its refusal replaces all that the case, or a step of it, gave.
 #![tactic(auto)]
 
 mod answers;

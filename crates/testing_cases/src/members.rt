@@ -12,7 +12,7 @@ pub fn member<'a>(trial: &mut Trial, case: &'a Value, name: &'static str) -> Opt
     found
 }
 
-/// What was read of a member, or else something in its place.
+/// The value that was read of a member, or else `empty`.
 fn read<T: Copy>(trial: &mut Trial, found: Option<T>, name: &'static str, empty: T) -> T {
     match found {
         Some(found) => found,
@@ -57,7 +57,7 @@ pub fn list<'a>(trial: &mut Trial, case: &'a Value, name: &'static str) -> &'a [
     }
 }
 
-/// The list under a name, which has an item at least.
+/// The list under a name, which has at least one item.
 pub fn nonempty<'a>(trial: &mut Trial, case: &'a Value, name: &'static str) -> &'a [Value] {
     let items = list(trial, case, name);
     if items.is_empty() {
@@ -123,12 +123,12 @@ pub fn optional_list<'a>(
     }
 }
 
-/// Refuses each member of an object that isn't of these names.
+/// Refuses each member of an object whose name isn't one of these.
 pub fn only(trial: &mut Trial, object: &Value, names: &[&str]) {
     only_of(trial, object, &[], names);
 }
 
-/// Refuses each member of a case that isn't of these names, or its sentence, its word or what it gives.
+/// Refuses each member of a case whose name isn't one of these, and isn't its sentence, its word or what it gives.
 pub fn only_in_case(trial: &mut Trial, case: &Value, names: &[&str]) {
     only_of(trial, case, &["case", "do", "gives"], names);
 }

@@ -26,7 +26,7 @@ pub fn document_of(
     trial.kept(document)
 }
 
-/// The document that an operation adds, or the term of which it deletes all documents.
+/// The operation of an object: it adds a document, or deletes all documents with a term.
 fn named(trial: &mut Trial, schema: &Schema, json: &Value) -> Option<Op> {
     if has(json, "add") {
         only(trial, json, &["add"]);

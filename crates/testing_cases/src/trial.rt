@@ -8,10 +8,10 @@ use serde_json::Value;
 use std::alloc::{AllocError, Global};
 use std::fmt::Write;
 
-/// What a case gives, written as JSON piece by piece, and the first that went wrong.
+/// What a case gives, written as JSON piece by piece, and the first trouble.
 ///
-/// It is looked at once in the end, so neither what reads the members of a case nor what writes what it gives answers
-/// whether it could: a member that can't be read is empty, and nothing counts after the first trouble.
+/// It is looked at once in the end. So functions that read members or write what a case gives don't return whether they
+/// could: a member that can't be read is empty, and nothing counts after the first trouble.
 #[derive(Drop)]
 pub struct Trial {
     alloc: Global,
@@ -29,7 +29,7 @@ impl Trial {
         }
     }
 
-    /// The allocator of what it makes.
+    /// The allocator of everything that the trial makes.
     pub fn alloc(&self) -> Global {
         self.alloc
     }
@@ -46,7 +46,7 @@ impl Trial {
         }
     }
 
-    /// What a call gave, and nothing where it refused, which is noted.
+    /// The value of a call, or `None` if it refused. The refusal is noted.
     pub fn kept<T, E>(&mut self, outcome: Result<T, E>) -> Option<T>
     where
         Trouble: From<E>,
@@ -61,14 +61,14 @@ impl Trial {
         }
     }
 
-    /// Puts an item after others.
+    /// Appends an item.
     pub fn push<T: Drop>(&mut self, list: &mut Vec<T>, item: T) {
         if list.push(item).is_err() {
             self.fail(Trouble::Memory);
         }
     }
 
-    /// Notes where a piece couldn't be written.
+    /// Notes that memory ran out if a piece couldn't be written.
     fn note(&mut self, written: Result<(), AllocError>) {
         if written.is_err() {
             self.fail(Trouble::Memory);
@@ -80,7 +80,7 @@ impl Trial {
         self.note(written);
     }
 
-    /// Parts a value from one that comes before it.
+    /// Writes the comma that parts a value from the one before it.
     fn part(&mut self) {
         match self.text.as_bytes().last() {
             None | Some(b'[' | b'{' | b':') => {}
@@ -202,7 +202,7 @@ impl Trial {
 
     /// Gives a refusal: `{"error":"StaleBatch"}`, and one that has a number `{"error":"LaneMissing","number":1}`.
     ///
-    /// Up to which byte a query may still go on is not among them: a case that shows it says so by a word of its own.
+    /// The byte of a `Syntax` isn't among them: a case that shows it has a word of its own.
     pub fn give_refusal(&mut self, refusal: Refusal) {
         self.open_object();
         self.name("error");
@@ -214,7 +214,7 @@ impl Trial {
         self.close_object();
     }
 
-    /// How much was given so far.
+    /// The length of what was given so far.
     pub fn mark(&self) -> usize {
         self.text.len()
     }
@@ -227,7 +227,7 @@ impl Trial {
         }
     }
 
-    /// Where a call refused, gives that refusal in place of all that was given after a mark.
+    /// If a call refused, gives that refusal in place of all that was given after a mark.
     pub fn settle(&mut self, mark: usize) {
         if let Some(Trouble::Refused(refusal)) = self.trouble {
             self.trouble = None;
@@ -243,7 +243,7 @@ impl Trial {
         }
     }
 
-    /// What was given, a refusal too, or what went wrong.
+    /// What was given, which may be a refusal, or what went wrong.
     pub(crate) fn ended(&mut self) -> Result<Value, Trouble> {
         self.settle(0);
         if let Some(trouble) = self.trouble {

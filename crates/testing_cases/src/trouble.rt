@@ -1,4 +1,4 @@
-// Why a case gave nothing that could be compared.
+// Why a case gave no value that could be compared.
 use fts_model::Refusal;
 use std::alloc::{AllocError, AllocFailed};
 
@@ -26,7 +26,7 @@ pub enum Trouble {
 }
 
 impl Trouble {
-    /// What comes before the name of a member, that name, and what comes after it. Without a name all is in front.
+    /// The text before the name of a member, that name, and the text after it. Without a name all is in the first.
     pub(crate) fn words(self) -> (&'static str, &'static str, &'static str) {
         match self {
             Trouble::NoObject => ("no JSON object", "", ""),

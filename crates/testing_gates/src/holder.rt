@@ -3,7 +3,7 @@ use fts_pool::Gate;
 use std::sync::atomic::{AtomicU64, Ordering};
 use std::thread::yield_now;
 
-/// How often a held job looks whether the others have passed, before it is let go.
+/// How often a held job looks whether the others have passed, before it goes on anyway.
 const TURNS: u64 = 1_000_000_000;
 
 /// Holds one of up to three jobs back until the others have passed, and counts its calls.
@@ -46,7 +46,7 @@ impl Holder {
             .count()
     }
 
-    /// Whether the job was let go because the others had passed, and each job began and ended once.
+    /// Whether the job went on because the others had passed, and each job began and ended once.
     pub fn was_held(&self) -> bool {
         for job in 0..3usize {
             let wanted = u64::from(job < self.jobs);

@@ -7,7 +7,7 @@ use fts_index::{Batch, Lane, LaneEnd, Writer};
 use fts_model::{FieldValue, Op, Refusal, Schema, Term, Text};
 use std::alloc::Global;
 
-/// A document with this tag, and with no value where the tag is empty.
+/// The add of a document with this tag, or without a value if the tag is empty.
 pub fn add(alloc: Global, schema: &Schema, tag: &str) -> Result<Op, Refusal> {
     if tag.is_empty() {
         return Ok(Op::Add(document(alloc, schema, "{}")?));
@@ -46,7 +46,7 @@ pub fn batch_of(alloc: Global, writer: &mut Writer, ops: Vec<Op>) -> Result<Batc
     round.gather(alloc, ends).map_err(|e| e.2)
 }
 
-/// The operation of a tag: one after `+` is added, one after `-` is deleted, and all is deleted if it is empty.
+/// The operation of a tag: one after `+` is added, one after `-` is deleted, and an empty one deletes all.
 fn op_of(alloc: Global, schema: &Schema, tag: &str) -> Result<Op, Refusal> {
     match tag.split_at_checked(1) {
         Some(("+", tag)) => add(alloc, schema, tag),
@@ -55,7 +55,7 @@ fn op_of(alloc: Global, schema: &Schema, tag: &str) -> Result<Op, Refusal> {
     }
 }
 
-/// An operation a tag.
+/// The operation of each tag.
 fn ops_of(alloc: Global, schema: &Schema, tags: &[&str]) -> Result<Vec<Op>, Refusal> {
     let mut ops = Vec::new(alloc);
     for tag in tags {
@@ -64,7 +64,7 @@ fn ops_of(alloc: Global, schema: &Schema, tags: &[&str]) -> Result<Vec<Op>, Refu
     Ok(ops)
 }
 
-/// A round of one lane with such operations.
+/// A round of one lane with the operations of these tags.
 pub fn batch(alloc: Global, writer: &mut Writer, tags: &[&str]) -> Result<Batch, Refusal>
     ensures { writer.new.front ≡ writer.old.front }
 {

@@ -1,5 +1,5 @@
-//! What the tests and cases of an index of many segments share: a schema of four fields, rounds of one lane, and what
-//! is seen of a writer.
+//! What the tests and cases of an index of many segments share: a schema of four fields, rounds of one lane, and a
+//! listing of what a writer holds.
 #![tactic(auto)]
 
 mod batches;

@@ -1,10 +1,10 @@
-// What is seen of a writer, as text.
+// What a writer holds, as text.
 use fts_index::{Entry, Searcher, Writer};
 use fts_model::{Document, FieldValue, Refusal};
 use std::alloc::{AllocError, Global};
 use std::fmt::Write;
 
-/// The text of a value, and no text if it is a list or a number.
+/// The text of a value, and an empty text if it is a list or a number.
 pub fn text_of(value: &FieldValue) -> &str {
     match value {
         FieldValue::Text(text) => text.as_str(),
@@ -12,7 +12,7 @@ pub fn text_of(value: &FieldValue) -> &str {
     }
 }
 
-/// The text of a document's second field, and no text if it has none.
+/// The text of a document's second field, and an empty text if it has none.
 pub fn tag_of(document: &Document) -> &str {
     match document.value(1) {
         Some(tag) => text_of(tag),
@@ -41,8 +41,8 @@ fn list_found(list: &mut String, searcher: &Searcher) -> Result<(), AllocError> 
     Ok(())
 }
 
-/// What is seen of a writer, as `3: (0,1,1) (1,1,1) 1p 2q`: its stamp, the number, the documents and the live documents
-/// of each segment, and then the stamp and the tag of each live document.
+/// What a writer holds, as `3: (0,1,1) (1,1,1) 1p 2q`: its stamp; the number, the documents and the live documents of
+/// each segment; and then the stamp and the tag of each live document.
 pub fn seen(alloc: Global, writer: &Writer) -> Result<String, Refusal> {
     let mut list = format!(in alloc; "{}:", writer.commit_stamp())?;
     for info in writer.segments(alloc)? {

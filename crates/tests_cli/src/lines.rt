@@ -1,4 +1,4 @@
-// Command lines, each a text whose words stand one space apart, with what the program makes of them.
+// Command lines, each a text whose words are one space apart, with what the program makes of them.
 use dilforec::Cut;
 use dilforec::script::{ArgFault, Asked, Fault, Merge, arg_status, args, status};
 use std::alloc::Global;
@@ -84,7 +84,7 @@ static WRONG: [(&str, &str); 14] = [
         "fts run --runs 3 --deal 2",
         "error: the argument '--runs <N>' cannot be used with '--deal <M>'\n\nUsage: fts run",
     ),
-    // What clap finds is told first.
+    // A fault that clap finds is reported first.
     (
         "fts run --runs 3 --deal 2 --fast",
         "unexpected argument '--fast'",

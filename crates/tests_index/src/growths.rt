@@ -1,5 +1,5 @@
-// Whichever growth is refused to a commit, a reader, a query or a search, all is as before, and the second try
-// succeeds: what is expected of it ends by "again".
+// If any growth is refused to a commit, a reader, a query or a search, all is as before, and the second try succeeds.
+// The messages for the second try end with "again".
 ghost use Rattle.std.specs.Prelude.{◌≡◌, true};
 ghost use Rattle.dilforec.specs.Queries.{query_fits};
 ghost use Rattle.dilforec.specs.QueryValues.{query_value};
@@ -42,7 +42,7 @@ fn count<R: Threads + Wait + Sync + Abort>(rt: &R, alloc: Global, searcher: &Sea
     }
 }
 
-/// Whether this is seen of a writer, and this many documents are found.
+/// Asserts that a writer holds this, and that this many documents are found.
 fn shows<R: Threads + Wait + Sync + Abort>(
     rt: &R,
     alloc: Global,
@@ -103,14 +103,15 @@ fn stamp_found(rt: &impl Abort, reader: &mut Reader) -> Stamp
     }
 }
 
-/// Whether a reader finds this stamp.
+/// Asserts that a reader finds this stamp.
 fn finds(rt: &impl Abort, reader: &mut Reader, stamp: Stamp)
     ensures { reader.new.of ≡ reader.old.of }
 {
     assert_eq!(rt; stamp_found(rt, reader), stamp);
 }
 
-/// Tells a reader of a commit, which finds the one before where that is refused.
+/// Reports a commit to a reader. If that is refused, the reader finds the commit before it, and the second try
+/// succeeds.
 fn tell(rt: &impl Abort, reader: &mut Reader, seen: &CommitSeen, before: Stamp)
     requires { seen.now.of ≡ reader.old.of }
 {
@@ -128,8 +129,8 @@ fn commit_two<R: Threads + Wait + Sync + Abort>(rt: &R, alloc: Global, writer: &
     committed.expect(rt, "a commit");
 }
 
-/// Commits two documents, and then a delete and two documents without values. A reader that is told of neither commit
-/// finds each. The one that is answered knows the first.
+/// Commits two documents, and then a delete and two documents without values. A reader to which neither commit is
+/// reported finds each. The reader that is returned knows the first.
 fn committed<R: Threads + Wait + Sync + Abort>(
     rt: &R,
     alloc: Global,

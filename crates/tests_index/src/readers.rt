@@ -1,5 +1,5 @@
-// Readers in threads beside a writer, and how many there may be. The c-th commit adds one document, in a segment of
-// its own, and has stamp 2c.
+// Readers in threads beside a writer, and how many there may be. The c-th commit adds one document, in a segment of its
+// own, and has stamp 2c.
 ghost use Rattle.std.specs.Prelude.{◌≡◌};
 
 use dilforec::{CommitSeen, Cut, Gate, Open, Reader, Refusal, Stamp, Writer};
@@ -38,7 +38,7 @@ fn stamp_found<R: Threads + Wait + Sync + Abort>(
     (stamp % 2 == 0 && stamp / 2 == found).then_some(stamp)
 }
 
-/// Whether a reader finds this stamp.
+/// Asserts that a reader finds this stamp.
 fn finds<R: Threads + Wait + Sync + Abort>(rt: &R, alloc: Global, reader: &mut Reader, stamp: Stamp)
     ensures { reader.new.of ≡ reader.old.of }
 {
@@ -106,7 +106,7 @@ fn commit_and_find<R: Threads + Wait + Sync + Abort>(
     stamp
 }
 
-/// A reader finds the commit before, beside a commit that is held, and this one after it.
+/// A reader finds the commit before while a commit is held, and this one once it is done.
 fn held_commit<R: Threads + Wait + Sync + Abort>(
     rt: &R,
     alloc: Global,
@@ -133,7 +133,7 @@ fn a_reader_finds_the_commit_before_while_one_is_made(rt: HostRuntime) {
     assert_eq!(rt; gate.released.load(Ordering::SeqCst), 1);
 }
 
-/// Whether a reader that is told of a commit finds this.
+/// Asserts that a reader finds this stamp once a commit is reported to it.
 fn finds_told<R: Threads + Wait + Sync + Abort>(
     rt: &R,
     alloc: Global,
@@ -148,8 +148,8 @@ fn finds_told<R: Threads + Wait + Sync + Abort>(
     finds(rt, alloc, reader, stamp);
 }
 
-/// A commit of which one reader is told before a merge of all segments, and another one after it, which finds it
-/// untold.
+/// A commit that is reported to one reader before a merge of all segments, and to another one after the merge. The
+/// other reader finds it even before that.
 fn first_told<R: Threads + Wait + Sync + Abort>(
     rt: &R,
     alloc: Global,
@@ -174,7 +174,7 @@ fn first_told<R: Threads + Wait + Sync + Abort>(
     first
 }
 
-/// A second commit: a reader that is told of it, and then of the first one, finds it.
+/// A second commit. A reader to which it is reported, and then the first one, finds the second.
 fn second_told<R: Threads + Wait + Sync + Abort>(
     rt: &R,
     alloc: Global,
@@ -192,7 +192,7 @@ fn second_told<R: Threads + Wait + Sync + Abort>(
     second
 }
 
-/// A reader that was told of both commits, each time after the other reader.
+/// A reader to which both commits were reported, each time after they were to the other reader.
 fn told<R: Threads + Wait + Sync + Abort>(rt: &R, alloc: Global, writer: &mut Writer) -> Reader {
     let mut reader = writer.reader().expect(rt, "a reader");
     let mut other = writer.reader().expect(rt, "a reader");
@@ -202,7 +202,7 @@ fn told<R: Threads + Wait + Sync + Abort>(rt: &R, alloc: Global, writer: &mut Wr
     other
 }
 
-/// Also once the writer was closed.
+/// A reader keeps what was reported to it, also once the writer was closed.
 #[test]
 fn what_was_told_stays_known(rt: HostRuntime) {
     let mut writer = writer(&rt, rt.alloc()).expect(&rt, "a writer");
@@ -226,7 +226,7 @@ fn crowd(writer: &mut Writer, readers: &mut Vec<Reader>) -> (usize, Option<Refus
     (readers.len(), None)
 }
 
-/// Each reader finds this stamp, in a thread of its own.
+/// Asserts that each reader finds this stamp, in a thread of its own.
 fn all_find<R: Threads + Wait + Sync + Abort>(
     rt: &R,
     alloc: Global,
@@ -241,7 +241,7 @@ fn all_find<R: Threads + Wait + Sync + Abort>(
     );
 }
 
-/// A reader that is dropped makes room for another.
+/// Once a reader is dropped, there can be another.
 #[test]
 fn there_are_64_places(rt: HostRuntime) {
     let mut writer = writer(&rt, rt.alloc()).expect(&rt, "a writer");

@@ -1,5 +1,5 @@
-// Where one of two jobs of a commit or of a search is held back, another worker runs the other, and each is run once.
-// The writer may be closed by then.
+// If one of two jobs of a commit or of a search is held back, another worker runs the other, and each is run once. The
+// writer may be closed by then.
 use dilforec::{Cut, Refusal, Request, Searcher, Writer};
 use fts_model::Query;
 use std::alloc::Global;

@@ -21,7 +21,7 @@ fn log<R: Threads + Wait + Sync + Abort>(rt: &R, alloc: Global, writer: &mut Wri
     }
 }
 
-/// What a thread promises that runs a merge.
+/// The promise of a thread that runs a merge: it returns the merged segment, or a refusal.
 #[derive(Drop)]
 struct Merging(Snapshot<MergeJob>);
 
@@ -32,7 +32,7 @@ impl Promise<Result<MergedSegment, Refusal>> for Merging {
     ghost kept_by = { λ p r. IfOk r (λ merged. merged ≡ merged_of p.0.value) };
 }
 
-/// Such a thread.
+/// A thread that runs a merge.
 type Thread = PromisedHandle<Result<MergedSegment, Refusal>, Merging>;
 
 /// Runs a merge.
@@ -45,7 +45,7 @@ fn run(alloc: Global, job: MergeJob) -> Result<MergedSegment, Refusal>
     }
 }
 
-/// Begins a merge of segments, which is run in a thread of its own.
+/// Starts a merge of segments, which is run in a thread of its own.
 fn begun<R: Threads + Abort>(rt: &R, alloc: Global, writer: &Writer, ids: &[u64]) -> Thread
     ensures { Fits (merged_of result.promise.0.value) writer.now.front.snapshot }
 {
@@ -54,7 +54,7 @@ fn begun<R: Threads + Abort>(rt: &R, alloc: Global, writer: &Writer, ids: &[u64]
     spawn_with(rt, promise, move || run(alloc, job)).expect(rt, "a thread")
 }
 
-/// Ends what a thread merged, which isn't refused.
+/// Ends the merge that a thread ran; the end isn't refused.
 fn join_merge<R: Threads + Wait + Sync + Abort>(
     rt: &R,
     alloc: Global,
@@ -80,7 +80,7 @@ pub(crate) fn merge_beside<R: Threads + Wait + Sync + Abort>(
     join_merge(rt, alloc, writer, thread);
 }
 
-/// Merges four lines while others are logged, one of which strikes one that is being merged.
+/// Merges four lines while others are logged, one of which deletes a line that is being merged.
 fn merge_four<R: Threads + Wait + Sync + Abort>(rt: &R, alloc: Global, writer: &mut Writer) {
     commit(rt, alloc, writer, &["+a", "+b", "+c", "+d"]).expect(rt, "a commit");
     merge_beside(rt, alloc, writer, &[0, 1, 2, 3], &["+e", "+f", "-b", "+g"]);

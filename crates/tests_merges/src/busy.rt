@@ -1,5 +1,5 @@
-// Three readers beside a thousand commits, of which each hundred goes on beside a merge of all segments before it. The
-// commit of the nth document has stamp 2n, and no merge changes what is found.
+// Three readers beside a thousand commits. A merge of all earlier segments runs beside each hundred of them. The commit
+// of the nth document has stamp 2n, and no merge changes what is found.
 use crate::background::merge_beside;
 use crate::steps::commit;
 use dilforec::{Reader, Writer};
@@ -29,7 +29,7 @@ fn log_on<R: Threads + Wait + Sync + Abort>(rt: &R, alloc: Global, writer: &mut 
     }
 }
 
-/// How many documents a reader's searcher finds, which is of their commit.
+/// How many documents a reader's searcher finds. Asserts that they are those of its commit.
 fn found<R: Threads + Wait + Sync + Abort>(rt: &R, alloc: Global, reader: &mut Reader) -> u64 {
     let searcher = reader.searcher().expect(rt, "a searcher");
     let found = count(rt, alloc, &searcher, "*").expect(rt, "a count");
@@ -71,7 +71,7 @@ fn three(rt: &impl Abort, alloc: Global, writer: &mut Writer) -> Vec<Reader> {
     readers
 }
 
-/// Once the writer's thread was joined, readers that nobody told find the last commit.
+/// Once the writer's thread was joined, readers to which no commit was reported find the last one.
 fn side_by_side<R: Threads + Wait + Sync + Abort>(rt: &R, alloc: Global, writer: &mut Writer) {
     commit(rt, alloc, writer, &["+x"]).expect(rt, "a commit");
     let mut readers = three(rt, alloc, writer);

@@ -1,5 +1,5 @@
-// Whichever growth is refused to a merge that ends later, to one at once, or to a searcher, all is as before, and the
-// second try succeeds: what is expected of it ends by "again".
+// If any growth is refused to a merge that ends later, to one at once, or to a searcher, all is as before, and the
+// second try succeeds. The messages for the second try end with "again".
 ghost use Rattle.std.specs.Prelude.{◌≡◌};
 ghost use Rattle.dilforec.specs.MergedSegments.{merged_of};
 ghost use Rattle.dilforec.specs.Successors.{Fits};
@@ -12,12 +12,12 @@ use std::sync::Wait;
 use std::thread::Threads;
 use testing_writers::{seen, writer};
 
-/// Whether this is seen of a writer.
+/// Asserts that a writer holds this.
 fn shows(rt: &impl Abort, alloc: Global, writer: &Writer, wanted: &str) {
     assert_eq!(rt; seen(alloc, writer).expect(rt, "a list").as_str(), wanted);
 }
 
-/// Begins a merge of the first two segments.
+/// Starts a merge of the first two segments.
 fn begin(rt: &impl Abort, alloc: Global, writer: &Writer) -> MergeJob
     ensures { Fits (merged_of result) writer.now.front.snapshot }
 {
@@ -87,7 +87,7 @@ fn merge_later<R: Threads + Wait + Sync + Abort>(rt: &R, alloc: Global, writer: 
     shows(rt, alloc, writer, "4: (2,1,1) (3,2,2) 3r 1p 2q");
 }
 
-/// Merges what is left at once.
+/// Merges the rest at once.
 fn merge<R: Wait + Abort>(rt: &R, alloc: Global, writer: &mut Writer) {
     if let Err(refusal) = writer.merge(rt, alloc, &[2, 3]) {
         assert_eq!(rt; refusal, Refusal::Memory);
@@ -96,7 +96,7 @@ fn merge<R: Wait + Abort>(rt: &R, alloc: Global, writer: &mut Writer) {
     }
 }
 
-/// The last commit of a writer, to search.
+/// The last commit of a writer, to be searched.
 fn searcher(rt: &impl Abort, writer: &Writer) -> Searcher {
     match writer.searcher() {
         Ok(searcher) => searcher,

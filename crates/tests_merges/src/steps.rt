@@ -1,4 +1,4 @@
-// A commit, and the end of a merge, each followed by what is there then.
+// A commit, and the end of a merge, each of which leaves a snapshot that follows the one before.
 ghost use Rattle.dilforec.specs.Successors.{Follows, Fits};
 
 use dilforec::{Cut, MergedSegment, Open, Refusal, Writer};
@@ -23,7 +23,7 @@ pub(crate) fn commit<R: Threads + Wait + Sync>(
     }
 }
 
-/// Ends a merge, and answers why it was refused, if it was.
+/// Ends a merge, and returns why it was refused, if it was.
 pub(crate) fn end<R: Wait>(
     rt: &R,
     alloc: Global,

@@ -34,7 +34,7 @@ impl Job for Square {
     }
 }
 
-/// Each job was run as often.
+/// Asserts that each job was run this many times.
 fn each_ran(rt: &impl Abort, jobs: &[Square], times: u64) {
     for job in jobs {
         assert_eq!(rt; job.runs.load(Ordering::SeqCst), times);
@@ -62,7 +62,7 @@ fn thousand_jobs(rt: &(impl AllocGlobal + Abort)) -> Vec<Square> {
     jobs
 }
 
-/// These are the squares of the numbers below a thousand.
+/// Asserts that these are the squares of the numbers below a thousand.
 fn are_thousand_squares(rt: &impl Abort, squares: &[u64]) {
     assert_eq!(rt; squares.len(), 1000);
     let mut side = 0u64;
@@ -89,7 +89,7 @@ fn no_job(rt: HostRuntime) {
     assert!(rt; nothing.is_empty());
 }
 
-/// The squares of jobs. If a growth was refused, that was before a job ran, and a second try has them all.
+/// The squares of jobs. If a growth was refused, that was before a job ran, and a second try returns them all.
 fn squares<R: AllocGlobal + Threads + Wait + Sync + Abort>(rt: &R, jobs: &[Square]) -> Vec<u64> {
     match run_all(rt, rt.alloc(), jobs, 3, &Open) {
         Ok(squares) => squares,

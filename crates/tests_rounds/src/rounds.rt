@@ -26,7 +26,7 @@ fn delete_price(price: u64) -> Op {
     })
 }
 
-/// The price that such a delete has.
+/// The price that a delete of `delete_price` has.
 fn deleted_price(op: &Op) -> Option<u64> {
     let Op::Delete(term) = op else {
         return None;
@@ -37,7 +37,7 @@ fn deleted_price(op: &Op) -> Option<u64> {
     }
 }
 
-/// Submits an operation, again if a growth was refused: no stamp where that is refused too.
+/// Submits an operation, and again if a growth was refused. No stamp if that is refused too.
 fn submit(lane: &mut Lane, op: Op) -> Option<Stamp>
     ensures { SameLane lane.old lane.new }
 {
@@ -63,7 +63,7 @@ fn price_of(op: &Op) -> Option<u64> {
     }
 }
 
-/// Submits this many documents, the price of each of which is the stamp of the lane's last one, and ends the lane.
+/// Submits this many documents and ends the lane. The price of each is the stamp of the lane's operation before it.
 fn filled(alloc: Global, schema: &Schema, lane: Lane, count: usize) -> LaneEnd
     ensures { SameLane lane result }
 {
@@ -131,7 +131,8 @@ fn gathered<R: Threads + Sync + Abort>(
     gather(rt, alloc, round, ends)
 }
 
-/// How many documents a searcher's reader finds, and the stamp of its commit, once the reader was told of a commit.
+/// The stamp of a commit that is reported to a reader, the stamp that the reader's searcher has, and how many documents
+/// it finds.
 fn told<R: Threads + Wait + Sync + Abort>(
     rt: &R,
     alloc: Global,
@@ -162,7 +163,8 @@ fn two_lanes<R: Threads + Wait + Sync + Abort>(
     (batch, told)
 }
 
-/// The stamps rise by one from 1 on, each price is a stamp before, and two documents have none before them.
+/// Asserts that the stamps rise by one from 1 on, that each price is the stamp of an earlier operation, and that two
+/// documents have none before them.
 fn each_drawn_once(rt: &impl Abort, ops: &[Stamped<Op>]) {
     let mut next = 1;
     let mut begun = 0u64;
@@ -213,7 +215,7 @@ fn a_full_lane_hands_the_operation_back(rt: HostRuntime) {
     fill(&rt, &mut lane, Op::DeleteAll, 5);
 }
 
-/// The first lane's end alone of two, then both.
+/// Gathers the first lane's end of two alone, which is refused, then both.
 fn one_of_two(rt: &impl Abort, alloc: Global) -> (Refusal, Batch) {
     let (round, mut lanes) = open_round(alloc, 0, 1, 2, 10).expect(rt, "a round");
     let mut second = lanes.pop().expect(rt, "a lane");
@@ -299,7 +301,7 @@ fn four_lanes_committed<R: Threads + Wait + Sync + Abort>(
     batch
 }
 
-/// Whether this is seen of a writer.
+/// Asserts that a writer holds this.
 fn shows(rt: &impl Abort, alloc: Global, writer: &Writer, wanted: &str) {
     assert_eq!(rt; seen(alloc, writer).expect(rt, "a list").as_str(), wanted);
 }

@@ -1,4 +1,4 @@
-//! Scripts over memory: readers and writers that are slow or fail, and what no reply shows.
+//! Scripts in memory: readers and writers that are slow or fail, and what no reply shows.
 #![tactic(auto)]
 
 #[cfg(test)]

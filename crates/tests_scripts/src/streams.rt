@@ -1,4 +1,4 @@
-// Scripts over memory, by readers and writers that are slow or fail.
+// Scripts in memory, with readers and writers that are slow or fail.
 use dilforec::script::{EngineOver, Fault, ListEngine, Options, Plain, Streams, run_script};
 use std::alloc::AllocError;
 use std::cell::Cell;
@@ -29,14 +29,14 @@ const SCHEMA: &str = concat!(
     r#"{"name":"price","kind":"u64"},{"name":"temp","kind":"i64"}]}"#,
 );
 
-/// Puts a line after others, with a begin before it.
+/// Appends a line, with `begin` before it.
 fn push_line(bytes: &mut Vec<u8>, begin: &str, line: &str) -> Result<(), AllocError> {
     bytes.extend_from_slice(begin.as_bytes())?;
     bytes.extend_from_slice(line.as_bytes())?;
     bytes.extend_from_slice(b"\n")
 }
 
-/// The lines of the script, each with a begin before it and an LF after it.
+/// The lines of the script, each with `begin` before it and an LF after it.
 fn lines_with(rt: &(impl AllocGlobal + Abort), begin: &str) -> Vec<u8> {
     let mut bytes = Vec::new(rt.alloc());
     for (line, _) in &SCRIPT {
@@ -85,7 +85,7 @@ fn run_over<G: AllocGlobal + Sync, E: EngineOver<G>, R: Read, W: Write>(
     (outcome, reader.into_inner(), writer.into_inner())
 }
 
-/// Gives at most `step` bytes per call, and fails once, at the call numbered `fails`.
+/// A reader that gives at most `step` bytes per call, and fails once, at the call numbered `fails`.
 #[derive(Drop)]
 struct Source<'a> {
     bytes: &'a [u8],
@@ -109,8 +109,8 @@ impl Read for Source<'_> {
     }
 }
 
-/// Takes at most `step` bytes per call; once, at the call numbered `fails`, it fails, or takes none where no kind is
-/// given.
+/// A writer that takes at most `step` bytes per call. Once, at the call numbered `fails`, it fails, or takes none if no
+/// kind of error is given.
 #[derive(Drop)]
 struct Sink {
     bytes: Vec<u8>,
@@ -198,7 +198,7 @@ fn whole_script(rt: HostRuntime) {
     replies_to::<_, ListEngine>(&rt, &script, &replies(&rt, script.len(), true));
 }
 
-/// White space at the beginning of a line changes no reply, wherever a read cuts it.
+/// White space at the beginning of a line has no effect on replies, wherever a read cuts it.
 #[test]
 fn lines_behind_white_space(rt: HostRuntime) {
     let script = lines_with(&rt, "  \t\r ");
@@ -272,7 +272,7 @@ fn each_write_fails(rt: HostRuntime) {
     }
 }
 
-/// Gives a line a call, and fails where the replies to the lines before are not written by then.
+/// A reader that gives one line per call, and fails if the replies to the lines before aren't written by then.
 #[derive(Drop)]
 struct Patient<'a> {
     line: usize,
@@ -300,7 +300,7 @@ impl Read for Patient<'_> {
     }
 }
 
-/// Counts the bytes that it takes.
+/// A writer that counts the bytes that it takes.
 #[derive(Drop)]
 struct Counter<'a> {
     written: &'a Cell<usize>,

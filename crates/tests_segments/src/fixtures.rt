@@ -1,4 +1,4 @@
-// What the tests of several files begin with.
+// The schema and the segment with which the tests of several files begin.
 ghost use Rattle.std.specs.Prelude.{◌≡◌};
 
 use fts_model::{Document, Field, Kind, MOST_MERGED, Refusal, Schema, Text};

@@ -1,5 +1,5 @@
-// Calls of segments, cursors, collectors and merges of which a growth was refused: nothing has changed, and the second
-// try succeeds.
+// Calls of segments, cursors, collectors and merges. If a growth is refused, nothing has changed, and the second try
+// succeeds.
 use crate::fixtures::example;
 use fts_collect::{Part, collect};
 use fts_cursor::{DocSet, cursor_of};
@@ -70,7 +70,7 @@ fn cursors(rt: HostRuntime) {
     }
 }
 
-/// What a segment tells of its documents that match.
+/// The part of a segment for the documents that match.
 fn part_of(
     rt: &impl Abort,
     alloc: Global,
@@ -92,7 +92,7 @@ fn part_of(
     }
 }
 
-/// What two parts tell together. If a growth was refused, they come back, and the second try succeeds.
+/// The answer of two joined parts. If a growth was refused, they come back, and the second try succeeds.
 fn joined(rt: &impl Abort, alloc: Global, parts: Vec<Part>, request: &Request) -> Answer {
     match Part::join(alloc, parts, request) {
         Ok(answer) => answer,

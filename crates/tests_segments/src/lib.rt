@@ -1,4 +1,4 @@
-//! What can't be a case of the crates up to one segment: growths that are refused, and blocks of every width.
+//! Tests that can't be cases, of the crates up to one segment: growths that are refused, and blocks of every width.
 #![tactic(auto)]
 
 #[cfg(test)]

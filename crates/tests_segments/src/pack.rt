@@ -1,4 +1,4 @@
-// fts_pack: what was packed is read, at every width and every number of numbers.
+// fts_pack: numbers are read as they were packed, at every width and in every count.
 ghost use Rattle.std.specs.Prelude.{◌≡◌, ◌+◌, ◌^◌, ◌<◌, ◌≤◌, length};
 
 use fts_model::Refusal;
@@ -33,7 +33,7 @@ fn every_width_and_count_comes_back(rt: HostRuntime) {
     }
 }
 
-/// `unpack` asks for no memory, so that it serves where no growth is granted.
+/// `unpack` asks for no memory, so that it works even if no growth is granted.
 #[test]
 fn a_refused_block_can_be_packed_again(rt: HostRuntime) {
     let numbers = [3, 1, 2];
@@ -49,7 +49,7 @@ fn a_refused_block_can_be_packed_again(rt: HostRuntime) {
     assert_eq!(rt; &out[..3], numbers.as_slice());
 }
 
-/// Each number by itself, and the blocks of them.
+/// Checks each number by itself, and the blocks of them.
 fn check_numbers(rt: &impl Abort, packed: &PackedNumbers, numbers: &[u32]) {
     assert_eq!(rt; packed.len(), numbers.len());
     for index in 0..packed.len() {
@@ -64,7 +64,7 @@ fn check_numbers(rt: &impl Abort, packed: &PackedNumbers, numbers: &[u32]) {
     }
 }
 
-/// Two blocks of a width with one of zeros between, and one of three numbers.
+/// A block of this width, one of zeros, another of this width, and one of three numbers.
 fn blocks_of(alloc: Global, width: u32) -> Result<Vec<u32>, AllocError> {
     let block = numbers_of(width);
     let mut numbers = Vec::new(alloc);
@@ -91,7 +91,7 @@ fn open_first<B: Blocks>(source: &mut B, out: &mut [u32; 128]) -> usize
     source.open(0, out)
 }
 
-/// What may go to another thread.
+/// Hands a value on that may go to another thread.
 fn carried<T: Send>(value: T) -> T
     ensures { result ≡ value }
 {
@@ -159,7 +159,7 @@ fn a_refused_list_can_be_built_again(rt: HostRuntime) {
     assert_eq!(rt; &out[..4], documents.as_slice());
 }
 
-/// 131 values of at most this many bits, of which each fifth is missing.
+/// 131 values of at most this many bits, each fifth of which is missing.
 fn values_of(width: u32) -> [Option<u64>; 131] {
     let greatest = u64::MAX
         .checked_shr(64u32.saturating_sub(width))
@@ -173,7 +173,7 @@ fn values_of(width: u32) -> [Option<u64>; 131] {
     values
 }
 
-/// Each value by itself, and the blocks of them.
+/// Checks each value by itself, and the blocks of them.
 fn check_values(rt: &impl Abort, column: &Column, values: &[Option<u64>; 131])
     requires { length column.now ≡ 131 }
 {

@@ -9,7 +9,7 @@ use Rattle.fts_segment.specs.Segments.{SegmentValue}
 use Rattle.fts_parts.specs.declared.seen.Seen.{Seen}
 use Rattle.fts_parts.specs.Collected.{HasSeen}
 
--- of all these documents some were seen, some are at hand and the others remain
+-- some of all these documents were looked at, some were taken and are looked at next, and the others remain
 pub record IsUnderWay
     (segment : SegmentValue) (request : Request) (all docs remaining : List ℕ) (seen : Seen) : Type 0 where
   pub before : List ℕ

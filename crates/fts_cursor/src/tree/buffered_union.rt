@@ -21,7 +21,7 @@ pub(crate) struct BufferedUnion<'a> {
     pub(crate) window: Window,
 }
 
-/// Passes what lies before the target, and gives the first document from there on.
+/// Passes the documents below the target, and returns the first document from there on.
 #[cycle(tree)]
 #[inline]
 pub(crate) fn gather(buffered: &mut BufferedUnion, target: u32) -> Option<u32>
@@ -37,7 +37,7 @@ pub(crate) fn gather(buffered: &mut BufferedUnion, target: u32) -> Option<u32>
     refill(buffered, target)
 }
 
-/// Takes the next 128 of what is at the document, and gives how many they are, and the next.
+/// Takes the next 128 documents, of which `doc` is the first. Returns how many they are, and the next document.
 pub(crate) fn fill_gathered(
     buffered: &mut BufferedUnion,
     doc: Option<u32>,
@@ -63,7 +63,7 @@ pub(crate) fn fill_gathered(
     (128, next)
 }
 
-/// How many documents remain of what is at the document, or the greatest `usize`. Passes all.
+/// How many documents remain, of which `doc` is the first, or the greatest `usize`. Passes all.
 pub(crate) fn count_gathered(buffered: &mut BufferedUnion, doc: Option<u32>) -> usize
     requires { StandsAt doc (Node.Or buffered.old) }
     ensures count { result ≡ min (2 ^ 64 - 1) (length (gathered buffered.old)) }
@@ -97,7 +97,7 @@ pub(crate) fn refill(buffered: &mut BufferedUnion, target: u32) -> Option<u32>
     Some(least)
 }
 
-/// Passes what lies before the target in each, and gives the first document of all.
+/// Passes the documents below the target in each part, and returns the first document of all.
 #[cycle(tree)]
 fn seek_each(parts: &mut [Tree], target: u32) -> Option<u32>
     ensures each { AllZip (Left target) parts.old parts.new }
@@ -160,7 +160,7 @@ fn mark_part(part: &mut Tree, window: &mut Window)
     }
 }
 
-/// The same, document by document.
+/// Marks the documents of a part that are in the window, one by one, and passes them.
 #[cycle(tree)]
 fn mark_any(part: &mut Tree, window: &mut Window)
     requires { part.old.remaining ≡ at_least window.old.from part.old.remaining }
@@ -177,7 +177,8 @@ fn mark_any(part: &mut Tree, window: &mut Window)
     }
 }
 
-/// The same for a list, a block at a time. Gives the first document after the window.
+/// Marks the documents of a list that are in the window, a block at a time. Returns the first document after the
+/// window.
 fn mark_postings(postings: &mut PostingCursor<ListSource>, window: &mut Window) -> Option<u32>
     requires { remaining_of postings.old ≡ at_least window.old.from (remaining_of postings.old) }
     ensures remaining { remaining_of postings.new

@@ -7,7 +7,7 @@ ghost use Rattle.fts_cursor.specs.Trees.{Met, meet, tree_value};
 
 use crate::tree::{Node, Tree};
 
-// What all have in common: one leads.
+// What all have in common. One leads.
 #[cycle(tree)]
 #[derive(Drop)]
 pub(crate) struct Intersection<'a> {
@@ -15,8 +15,8 @@ pub(crate) struct Intersection<'a> {
     pub(crate) others: Vec<Tree<'a>>,
 }
 
-/// Seeks the document with each in turn, and gives the first that all may have: that one, where all are at it, or a
-/// later one. `None` where one of them is at its end.
+/// Seeks the document with each in turn, and returns the first that all may have: that one, if all are at it, or a
+/// later one. `None` if one of them is at its end.
 #[cycle(tree)]
 fn bring(others: &mut [Tree], doc: u32) -> Option<u32>
     ensures each { AllZip (Narrowed doc) others.old others.new }
@@ -32,7 +32,7 @@ fn bring(others: &mut [Tree], doc: u32) -> Option<u32>
     Some(doc)
 }
 
-/// Brings all to the first document that they have in common, and gives it.
+/// Brings all to the first document that they have in common, and returns it.
 #[cycle(tree)]
 pub(crate) fn align(parts: &mut Intersection) -> Option<u32>
     ensures met { Met result (meet parts.old) (in_all (remains parts.new.others.items))

@@ -29,7 +29,7 @@ impl Tree<'_> {
     }
 }
 
-/// The same of a union, by the words of its windows.
+/// Counts the documents of a union that have a bit that is set, by the words of its windows.
 fn count_marked(buffered: &mut BufferedUnion, doc: Option<u32>, live: &Bits) -> usize
     requires { StandsAt doc (Node.Or buffered.old) }
     ensures count { result ≡ min (2 ^ 64 - 1) (length (filter (is_live live.now) (gathered buffered.old))) }
@@ -47,7 +47,7 @@ fn count_marked(buffered: &mut BufferedUnion, doc: Option<u32>, live: &Bits) -> 
     count
 }
 
-/// The same of any tree, 128 documents at a time.
+/// Counts the documents of any tree that have a bit that is set, 128 documents at a time.
 fn count_filled(tree: &mut Tree, live: &Bits) -> usize
     ensures count { result ≡ min (2 ^ 64 - 1) (length (filter (is_live live.now) tree.old.remaining)) }
     ensures none { tree.new.remaining ≡ [] }

@@ -1,5 +1,4 @@
-// A snapshot at its commit stamp, with the publications that were seen when it was taken: what publishers, readers and
-// searchers each hold.
+// A snapshot at its commit stamp, with the publications known so far: what publishers, readers and searchers each hold.
 ghost use Rattle.std.specs.Prelude.{◌≡◌, ◌<◌, ◌≤◌, ◌⊎◌, ◌↔◌, [], ◌∷◌, List, IsTrue, IfOk, IfSome};
 ghost use Rattle.std.specs.Prelude.{MatchOption, length};
 ghost use Rattle.std.specs.Arc.{arc_value};
@@ -20,7 +19,8 @@ use std::alloc::{AllocError, Global};
 use std::marker::Model;
 use std::sync::Arc;
 
-/// The list has no bytes, but for the number of its publications after the opening.
+/// A snapshot at its commit stamp, and what is known of the writer's publications. In memory the list of these is only
+/// the number of publications after the opening.
 #[derive(Drop)]
 pub struct Front {
     commit: Arc<CommitPoint>,
@@ -69,7 +69,7 @@ impl Front {
         Ok((front, head))
     }
 
-    /// A copy, by one counted growth.
+    /// A copy; one growth is counted.
     pub fn again(&self) -> Result<Front, AllocError>
         ensures copy { IfOk result (λ f. f ≡ self.now) }
         ensures front { IfOk result IsFront }
@@ -78,7 +78,7 @@ impl Front {
         Ok(self.over(commit))
     }
 
-    /// A copy, where this front has seen more than the other one.
+    /// A copy, if this front knows more publications than the other one.
     pub fn if_newer(&self, other: &Front) -> Result<Option<Front>, AllocError>
         ensures newer { IfOk result (λ found. MatchOption found
             (length self.now.seen.list ≤ length other.now.seen.list)
@@ -90,7 +90,7 @@ impl Front {
         Ok(Some(self.again()?))
     }
 
-    /// A copy, over a handle to the same commit.
+    /// A copy of this front, with a given handle to its commit.
     pub fn over(&self, commit: Arc<CommitPoint>) -> Front
         requires stamp { (arc_value commit).stamp ≡ self.now.stamp }
         requires snapshot { (arc_value commit).snapshot ≡ self.now.snapshot }
@@ -103,8 +103,8 @@ impl Front {
         }
     }
 
-    /// The front with one publication more, by the one step on the word. It takes no memory. `None` where more was
-    /// published than this front has seen, or 2^64 - 1 times, neither of which a publisher meets.
+    /// The front with one publication more, by one step on the word. It takes no memory. `None` if more was published
+    /// than this front knows, or 2^64 - 1 times; a publisher meets neither.
     pub fn with(&self, head: &PublicationCount, commit: Arc<CommitPoint>) -> Option<Front>
         requires head { head.now ≡ head_of self.now.seen.of }
         requires follows { Follows (publication self.now.stamp self.now.snapshot)
@@ -139,7 +139,7 @@ impl Front {
         })
     }
 
-    /// Keeps the one that has seen more.
+    /// Takes the other front if it knows more publications.
     pub fn keep_newer(&mut self, other: Front)
         requires { other.seen.of ≡ self.old.seen.of }
         ensures of { self.new.seen.of ≡ self.old.seen.of }
@@ -155,7 +155,7 @@ impl Front {
         }
     }
 
-    /// Whether both are of one commit, which one writer's stamps tell.
+    /// Whether both are of one commit. Both are of one writer, so their stamps decide it.
     pub fn is_of_commit(&self, other: &Front) -> bool
         requires { other.now.seen.of ≡ self.now.seen.of }
         ensures commit { IsTrue result ↔ IsOneCommit self.now other.now }

@@ -8,15 +8,16 @@ ghost use Rattle.fts_snapshots.specs.Snapshots.{content_of};
 ghost use Rattle.fts_index.specs.declared.publications.publication.Publication.{Publication};
 ghost use Rattle.fts_index.specs.Publications.{newest, ArePublications, Follows, FrontValue, IsFront, IsOneCommit};
 
-/// Who knows more is at no older commit, and at a commit of the same stamp finds the same content.
+/// If one knows at least the publications that another knows, its commit is no older, and at equal stamps finds the
+/// same content.
 pub fn newest_follows()
     ensures { (known more : List Publication) →
         IsPrefix known more → ArePublications known → ArePublications more →
         Follows (newest known) (newest more) }
 {}
 
-/// What two have seen of one writer, in whatever threads: at equal stamps it is one commit, of one schema and one
-/// content.
+/// Whatever two threads know of one writer's publications, at equal stamps they are at one commit, of one schema and
+/// one content.
 pub fn equal_stamps_are_one_commit()
     ensures { (a b : FrontValue) (all : List Publication) →
         IsPrefix a.seen.list all → IsPrefix b.seen.list all → IsFront a → IsFront b →

@@ -1,5 +1,5 @@
-// What readers are shown: the newest front, in two copies of which they read one while the publisher changes the other.
-// The rule says of which writer it is, and that each reader knows the writer.
+// What readers are shown: the newest front, in two copies, so that readers read one while the publisher changes the
+// other. The rule says whose front it is, and that each reader knows the writer.
 ghost use Rattle.std.specs.Prelude.{◌≡◌};
 
 use crate::publications::front::Front;
@@ -9,7 +9,7 @@ use crossbeam_utils::rule::{Outcome, Protocol};
 use left_right::Absorb;
 use std::alloc::AllocError;
 
-/// The rule. The view of a seat is the writer that it knows, once it was told.
+/// The rule of what readers are shown. The view of a seat is the writer that it knows, or none.
 pub struct OneWriter;
 
 impl Protocol<Front, Option<WriterId>> for OneWriter {
@@ -21,7 +21,7 @@ impl Protocol<Front, Option<WriterId>> for OneWriter {
     ghost first = { None };
 }
 
-/// What a publication and a look tell: of which writer the front is that is shown after it.
+/// What publishing and looking reveal: which writer the shown front belongs to.
 pub struct TellsWriter;
 
 impl Outcome<Front, Option<WriterId>> for TellsWriter {
@@ -47,7 +47,7 @@ impl Join<Option<WriterId>> for SameWriter {
     ghost spent = { None };
 }
 
-/// Each operation puts its own front in place of the one before.
+/// Each operation replaces the front by its own.
 impl Absorb<Front> for Front {
     type State = Front;
 
@@ -66,8 +66,8 @@ impl Absorb<Front> for Front {
     }
 }
 
-/// Where the publisher shows fronts.
+/// The publisher's side, which shows fronts.
 pub type FrontWriter = left_right::writer::Writer<Front, Front, Option<WriterId>, OneWriter>;
 
-/// Where a reader finds them.
+/// A reader's side, which finds the front that is shown.
 pub type FrontReader = left_right::reader::Reader<Front, Option<WriterId>, OneWriter>;

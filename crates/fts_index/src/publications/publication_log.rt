@@ -1,5 +1,5 @@
-// The book that holds the list of publications. It exists in proofs alone but for one word, the number of publications
-// after the opening, which only the publisher has.
+// The book that holds the list of publications. It exists in proofs alone, except for one word, the number of
+// publications after the opening, which only the publisher has.
 ghost use Rattle.std.specs.Prelude.{◌≡◌};
 
 use crate::publications::publication::Publication;
@@ -7,7 +7,7 @@ use fts_model::Schema;
 use fts_snapshots::CommitPoint;
 use logbook::{Gain, Opening, Plain, Play, Rule, Seen, Word};
 
-/// The rule of the book.
+/// The rule of the book: its one word is the number of publications after the opening.
 pub struct PublicationRule;
 
 impl Rule<Publication, u64> for PublicationRule {
@@ -40,7 +40,7 @@ impl Opening<Schema, Publication> for Opened {
     ghost log = { λ count schema. opening schema ∷ [] };
 }
 
-/// The publisher trades nothing.
+/// The publisher gains nothing by a step but the publication that it adds.
 pub struct NoTrade;
 
 impl Gain<Publication, u64> for NoTrade {
@@ -67,8 +67,8 @@ impl Plain<CommitPoint, Publication, u64> for Append {
     ghost state = { λ commit. None };
 }
 
-/// The word, which is the number of publications after the opening.
+/// The book's one word: the number of publications after the opening.
 pub type PublicationCount = Word<Publication, u64, PublicationRule>;
 
-/// A beginning of the list that was seen. It has no bytes.
+/// The publications known so far, a beginning of the list. It has no bytes.
 pub type SeenPublications = Seen<Publication, u64, PublicationRule>;

@@ -24,7 +24,7 @@ use std::sync::{Arc, Wait};
 const MOST_READERS: usize = 64;
 
 /// Publishes snapshots to readers. It isn't dropped but closed. Contracts see it as its newest snapshot at its commit
-/// stamp, with the whole list of its publications. What readers are shown is always that snapshot.
+/// stamp, with the whole list of its publications. Readers are always shown that snapshot.
 pub struct Publisher {
     desk: FrontWriter,
     head: PublicationCount,
@@ -61,7 +61,7 @@ impl Publisher {
     }
 
     /// Publishes what a commit left, at a stamp above all before and above the stamps of its documents. A refusal
-    /// publishes nothing, and the snapshot is let go.
+    /// publishes nothing, and the snapshot is dropped.
     pub fn publish<R: Wait>(
         &mut self,
         rt: &R,
@@ -81,7 +81,7 @@ impl Publisher {
     }
 
     /// Publishes what a merge left: another snapshot with the content of the one before, at the same stamp. A refusal
-    /// publishes nothing, and the snapshot is let go.
+    /// publishes nothing, and the snapshot is dropped.
     pub fn publish_again<R: Wait>(
         &mut self,
         rt: &R,
@@ -134,8 +134,8 @@ impl Publisher {
         searcher.front.is_of_commit(&self.front)
     }
 
-    /// A reader that knows all publications so far. `NoReader` if there are 64 already; one that is dropped makes
-    /// room for another.
+    /// A reader that knows all publications so far. `NoReader` if there are 64 already; once one is dropped, there can
+    /// be another.
     pub fn reader(&mut self) -> Result<Reader, Refusal>
         ensures same { self.new ≡ self.old }
         ensures reader { IfOk result (λ r. r ≡ self.old.seen) }
@@ -190,7 +190,7 @@ impl Publisher {
     }
 }
 
-/// A desk that shows a front, and has the room that each publication needs.
+/// A writer of fronts that shows this front and has the memory that each publication needs.
 fn desk_of<R: Wait>(rt: &R, alloc: Global, front: &Front) -> Result<FrontWriter, AllocError>
     ensures shown { IfOk result (λ d. d.desk.shown.value ≡ front.now) }
     ensures seat { IfOk result (λ d. told_name d.desk.place ≡ Some (name_of front.now.seen.of)) }
@@ -203,7 +203,8 @@ fn desk_of<R: Wait>(rt: &R, alloc: Global, front: &Front) -> Result<FrontWriter,
     Ok(desk)
 }
 
-/// The first time tells the seat which writer it is of, the second makes the room.
+/// Publishes twice: the first time records the writer in the seat, the second reserves the memory that later
+/// publications need.
 fn show_twice<R: Wait>(rt: &R, desk: &mut FrontWriter, front: &Front) -> Result<(), AllocError>
     requires { desk.old.desk.shown.value.seen.of ≡ front.now.seen.of }
     ensures shown { OnOk result (desk.new.desk.shown.value ≡ front.now) }
@@ -213,8 +214,8 @@ fn show_twice<R: Wait>(rt: &R, desk: &mut FrontWriter, front: &Front) -> Result<
     try_show(rt, desk, front)
 }
 
-/// Shows readers this front in place of the one before. The second time, the copy that they left takes it too, so that
-/// nothing holds what was published before but those who search it.
+/// Shows readers this front in place of the one before. The second time changes the copy that they left, so that only
+/// searchers still hold what was published before.
 fn show<R: Wait>(rt: &R, desk: &mut FrontWriter, front: &Front)
     requires { desk.old.desk.shown.value.seen.of ≡ front.now.seen.of }
     ensures shown { desk.new.desk.shown.value ≡ front.now }
@@ -224,7 +225,7 @@ fn show<R: Wait>(rt: &R, desk: &mut FrontWriter, front: &Front)
     show_once(rt, desk, front);
 }
 
-/// Shows readers this front. The room was made with the desk, so no try but the first is ever needed; no clause of
+/// Shows readers this front. The memory was reserved by `desk_of`, so only the first try is ever needed; no clause of
 /// `left_right` says so, and the list of publications has grown already.
 fn show_once<R: Wait>(rt: &R, desk: &mut FrontWriter, front: &Front)
     requires { desk.old.desk.shown.value.seen.of ≡ front.now.seen.of }
@@ -239,7 +240,7 @@ fn show_once<R: Wait>(rt: &R, desk: &mut FrontWriter, front: &Front)
     unreachable!()
 }
 
-/// Shows readers this front, or leaves what they are shown.
+/// Shows readers this front, or, if memory is refused, leaves what they are shown as it is.
 fn try_show<R: Wait>(rt: &R, desk: &mut FrontWriter, front: &Front) -> Result<(), AllocError>
     requires { desk.old.desk.shown.value.seen.of ≡ front.now.seen.of }
     ensures of { desk.new.desk.shown.value.seen.of ≡ front.now.seen.of }

@@ -12,8 +12,8 @@ use fts_model::Refusal;
 use std::alloc::AllocError;
 use std::marker::Model;
 
-/// Takes the newest snapshots of one writer, in a thread of its own. Contracts see it as the writer and what it knows
-/// of the writer's publications.
+/// Takes the newest snapshots of one writer, in a thread of its own. Contracts see it as the writer and the
+/// publications that it knows.
 #[derive(Drop)]
 pub struct Reader {
     handle: FrontReader,
@@ -33,7 +33,7 @@ impl Model for Reader {
 }
 
 impl Reader {
-    /// A reader that knows what the front has seen.
+    /// A reader that knows the publications that the front knows.
     pub(crate) fn at(handle: FrontReader, front: Front) -> Reader
         requires { told_name handle.place ≡ Some (name_of front.seen.of) }
         ensures { result ≡ front.seen }
@@ -41,9 +41,9 @@ impl Reader {
         Reader { handle, front }
     }
 
-    /// The newest snapshot that is shown, or the newest that this reader knows where that is newer or none is shown any
-    /// more: no searcher is older than the one before it, or than a commit that the reader was told of. `Memory` is the
-    /// one refusal, and what the reader has found by then it still knows.
+    /// The newest snapshot that is shown, or the newest that this reader knows, if that is newer or if none is shown
+    /// any more. No searcher is older than the one before it, or than a commit that was reported to the reader. The
+    /// only refusal is `Memory`; the reader still knows what it has found by then.
     pub fn searcher(&mut self) -> Result<Searcher, Refusal>
         ensures of { self.new.of ≡ self.old.of }
         ensures grows { IsPrefix self.old.list self.new.list }
@@ -58,7 +58,7 @@ impl Reader {
         Ok(Searcher { front })
     }
 
-    /// From now on this reader knows all that was seen there. Both are of one writer.
+    /// From now on this reader knows all publications that `seen` knows. Both are of one writer.
     pub fn told(&mut self, seen: &CommitSeen) -> Result<(), Refusal>
         requires { seen.now.of ≡ self.old.of }
         ensures of { self.new.of ≡ self.old.of }
@@ -96,7 +96,7 @@ fn look(handle: &mut FrontReader, known: &Front) -> Result<Option<Front>, AllocE
     replace_with(handle, known, |handle, known| enter(handle, known))
 }
 
-/// The one step of a reader. No front is shown once the writer was closed.
+/// Looks once at what is shown. No front is shown once the writer was closed.
 fn enter(handle: FrontReader, known: &Front) -> (FrontReader, Result<Option<Front>, AllocError>)
     ensures { Finds (told_name handle.place) (told_name result.0.place) result.1 }
 {

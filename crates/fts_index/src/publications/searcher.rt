@@ -1,4 +1,4 @@
-// What is handed out: a snapshot to search, and what a commit was seen to publish.
+// What publishers and readers hand out: a snapshot to search, and what a commit published.
 ghost use Rattle.std.specs.Prelude.{◌≡◌, ◌≤◌, ◌↔◌, true, List, IsTrue, IfOk, IsOkUnless};
 ghost use mathlib.Core.List.{IsPrefix};
 ghost use Rattle.fts_model.specs.Queries.{query_fits, request_fits};
@@ -21,7 +21,7 @@ use std::sync::Wait;
 use std::thread::Threads;
 
 /// A snapshot to search, which it keeps whatever is published afterwards. Contracts see it with its commit stamp and
-/// with the publications that were seen when it was taken.
+/// with the publications known when it was taken.
 #[derive(Drop)]
 pub struct Searcher {
     pub(crate) front: Front,
@@ -44,7 +44,7 @@ impl Searcher {
         self.front.stamp()
     }
 
-    /// What is searched. Its content and the commit stamp are the last publication that was seen.
+    /// The snapshot that is searched. Its content and the commit stamp are those of the last known publication.
     pub fn snapshot(&self) -> &Snapshot
         ensures snapshot { result.now ≡ self.now.snapshot }
         ensures front { IsFront self.now }
@@ -52,8 +52,8 @@ impl Searcher {
         self.front.snapshot()
     }
 
-    /// Whether another searcher, which the same writer or a reader of it made, searches the same commit: whatever
-    /// readers they are of, both know beginnings of the one list that the writer published.
+    /// Whether another searcher, made by the same writer or a reader of it, searches the same commit. Whatever readers
+    /// made them, both know beginnings of the one list that the writer published.
     pub fn is_of_commit(&self, other: &Searcher) -> bool
         requires { other.now.seen.of ≡ self.now.seen.of }
         ensures commit { IsTrue result ↔ IsOneCommit self.now other.now }
@@ -66,10 +66,10 @@ impl Searcher {
     /// What a query finds among all documents of the commit. The segments are searched by up to this many threads, 1 to
     /// 64, the calling one among them: one job for each segment, in their order. The gate is called around each.
     ///
-    /// It also tells how many blocks of lists of documents were opened: what its parts opened together, one part for
-    /// each segment. That is each block once, of each segment, for a query of one term, no more than the bound of a
-    /// conjunction for one of several terms that all must be, and for every query no more than is said of it. The only
-    /// refusal is `Memory`.
+    /// The result also has the number of blocks of lists that were opened: the sum over the parts, of which there is
+    /// one for each segment. For a query of one term that is each block of its lists, once; for several terms that all
+    /// must match, at most the bound of a conjunction; and for every query at most what is said of it. The only refusal
+    /// is `Memory`.
     pub fn search<R: Threads + Wait + Sync, G: Gate>(
         &self,
         rt: &R,
@@ -100,8 +100,8 @@ impl Searcher {
     }
 }
 
-/// What a writer had published when it answered: readers are told of it, in any thread. Contracts see it as the writer
-/// and the list of its publications.
+/// What a writer had published when a call returned. It can be handed to readers in any thread. Contracts see it as the
+/// writer and the list of its publications.
 #[derive(Drop)]
 pub struct CommitSeen {
     pub(crate) front: Front,

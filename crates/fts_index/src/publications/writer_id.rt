@@ -1,6 +1,6 @@
-// Which list of publications it is, as the rule over what is shown keeps it.
+// Identifies a writer's list of publications in the rule over what is shown.
 
-/// The name of a book. No value of it is made.
+/// The identity of a book. No value of it is made.
 pub struct WriterId {
     pub number: u64,
     pub log_name: u64,

@@ -1,4 +1,4 @@
-// What a search answers.
+// What a search returns.
 use fts_model::Answer;
 
 /// What a search found.
@@ -6,6 +6,6 @@ use fts_model::Answer;
 pub struct Found {
     /// The answer over all documents of the commit.
     pub answer: Answer,
-    /// How many blocks of lists of documents were opened for it. A sum stays at the greatest `u64`.
+    /// How many blocks of lists of documents were opened for it. A sum past the greatest `u64` stays at it.
     pub openings: u64,
 }

@@ -1,4 +1,4 @@
-// The job of a search: what it does to one segment.
+// The job of a search: what it asks of one segment.
 ghost use Rattle.std.specs.Prelude.{◌≡◌, true};
 ghost use Rattle.fts_model.specs.Queries.{query_fits, request_fits};
 ghost use Rattle.fts_model.specs.QueryValues.{query_value};

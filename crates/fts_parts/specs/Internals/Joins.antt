@@ -50,6 +50,6 @@ first_of k order hits = take k (fold (put_hit order) [] hits)
 abbrev pub hits_in : PartValue → List Hit
 hits_in part = unwrap_or part.answer.top []
 
--- those of all parts
+-- the hits in the top lists of all parts
 abbrev pub all_hits : List PartValue → List Hit
 all_hits parts = flat_map hits_in parts

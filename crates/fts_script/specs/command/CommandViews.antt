@@ -14,7 +14,7 @@ search_value s = record {
   top = option_map (λ top. (top.0.now, top.1, top.2)) s.top;
 }
 
--- a command of the code, without where it is in memory
+-- the value of a command of the code
 abbrev pub command_value : code.Command → Command
 command_value (variants.Schema fields) = Schema fields.items
 command_value (variants.Add json) = Add (view json.now)

@@ -58,7 +58,7 @@ kind_named name =
     else if bytes_eq name (codes "i64") then Some kinds.I64
     else None
 
--- true or false where something is there; false where nothing is
+-- a flag: false if it isn't there
 abbrev pub flag_or_false : Option Data → Option Bool
 flag_or_false None = Some false
 flag_or_false (Some d) = as_bool d
@@ -93,7 +93,7 @@ abbrev pub only_member : Data → Option (List ℕ × Data)
 only_member (object (member name value no_members)) = Some (name, value)
 only_member d = None
 
--- what a value is, if it is there and is such a thing; nothing if it isn't there
+-- the value of an optional member: nothing if the member isn't there, and no value if it has the wrong form
 abbrev pub if_there : {X : Type 0} → (Data → Option X) → Option Data → Option (Option X)
 if_there f None = Some None
 if_there f (Some d) = option_map Some (f d)
@@ -158,7 +158,7 @@ command_if command None = None
 abbrev pub delete_in : Data → Option Command
 delete_in d = option_map (λ m. Delete m.0 m.1) (only_member d)
 
--- a command, where its member's value has the form that it asks for
+-- the command of a name, if its member's value has the form that it asks for
 abbrev pub command_named : List ℕ → Data → Option Command
 command_named name value =
     if bytes_eq name (codes "schema") then schema_in value

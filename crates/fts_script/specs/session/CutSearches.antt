@@ -1,4 +1,4 @@
--- A search whose reply shows some fields of the documents alone.
+-- A search whose reply shows only some fields of the documents.
 use Rattle.std.specs.Prelude.{ℕ, ◌+◌, List, Result, Ok, Err, Option, Some, None, is_some, if◌then◌else◌}
 use Rattle.std.specs.List.{list_all}
 use Rattle.fts_base.specs.declared.refusal.Refusal.{Refusal}
@@ -23,7 +23,7 @@ abbrev pub if_fields : List Field → List (List ℕ) → Result Request Refusal
 if_fields schema names asked = result_and_then (λ request.
     if list_all (λ name. is_some (field_named name schema)) names then Ok request else Err UnknownField) asked
 
--- The query is looked at first, then the groups and the top list, then the names: the answer is that of the search,
+-- The query is looked at first, then the groups and the top list, then the names. The answer is that of the search,
 -- with the documents of its hits cut to the fields of these names.
 abbrev pub answer_cut : {S : Type 0} → Carrier S → Search → List (List ℕ) → S → Result (Outcome S) Refusal
 answer_cut on asked names s =

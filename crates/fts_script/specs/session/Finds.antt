@@ -1,4 +1,4 @@
--- What is found where nothing but searches is taken.
+-- What a script replies if it takes nothing but searches.
 use Rattle.std.specs.Prelude.{ℕ, ◌+◌, List, Result, Err, Option, option_map}
 use Rattle.fts_base.specs.declared.refusal.Refusal.{Refusal}
 use Rattle.fts_base.specs.declared.refusal.Refusal.TheVariants.{BadCommand}
@@ -25,7 +25,7 @@ find on index Merge = Err BadCommand
 abbrev pub find_line : {S : Type 0} → Carrier S → Option S → List ℕ → Result (Outcome S) Refusal
 find_line on index line = result_and_then (find on index) (command line)
 
--- the reply to a line where only searches are taken, after which the script is as before
+-- the reply to a line if only searches are taken; the script is as before after it
 abbrev pub reply_to_search : SessionValue → List ℕ → List ℕ
 reply_to_search s line = text_of (s.number + 1) (find_line indexes s.index line)
 

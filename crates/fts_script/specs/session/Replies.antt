@@ -35,7 +35,7 @@ pub record Outcome (S : Type 0) : Type 0 where
   pub index : Option S
   pub reply : Data
 
--- a step whose answer is printed so
+-- the outcome of a step: its answer as the JSON that prints it
 abbrev pub replied : {S X : Type 0} → (X → Data) → Result (S × X) Refusal → Result (Outcome S) Refusal
 replied print step = result_map (λ done. record { index = Some done.0; reply = print done.1 }) step
 
@@ -74,7 +74,7 @@ execute on (Some s) (Find asked) = answer_search on asked s
 abbrev pub execute_line : {S : Type 0} → Carrier S → Option S → List ℕ → Result (Outcome S) Refusal
 execute_line on index line = result_and_then (execute on index) (command line)
 
--- the index that is left
+-- the index after a line
 abbrev pub index_after : {S : Type 0} → Option S → Result (Outcome S) Refusal → Option S
 index_after index (Ok done) = done.index
 index_after index (Err refusal) = index
@@ -108,6 +108,6 @@ abbrev pub replies_on : {S : Type 0} → Carrier S → Carried S → List (List 
 replies_on on s [] = []
 replies_on on s (line ∷ lines) = reply_on on s line ++ replies_on on (carried_over on s line) lines
 
--- what is written for a whole input, where an index is carried so
+-- what is written for a whole input, if an index is carried so
 abbrev pub output_on : {S : Type 0} → Carrier S → List ℕ → List ℕ
 output_on on input = replies_on on (record { number = 0; index = None }) (lines_of input)

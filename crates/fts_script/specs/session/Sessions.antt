@@ -1,4 +1,4 @@
--- What a session answers, against what a script does.
+-- What a session answers, compared with what a script does.
 use Rattle.std.specs.Prelude.{◌≡◌, ℕ, ◌+◌, ◌^◌, ◌≤◌, ◌⊎◌, ◌++◌, List, length, Option, MatchOption}
 use Rattle.std.specs.Prelude.{Result, Ok, Err, OnOk, OnErr, string_bytes}
 use Rattle.fts_base.specs.Results.{result_map}
@@ -14,8 +14,8 @@ use Rattle.fts_script.specs.declared.session.reply.Reply.{Reply}
 abbrev pub printed : Outcome Index → Option Index × List ℕ
 printed done = (done.index, line_of done.reply)
 
--- What was answered, and what an index came to, is the outcome that was wanted; at a refusal the index is as it was,
--- and the refusal is the one wanted, or memory ran out.
+-- What was answered and the index after it are the outcome that was wanted. At a refusal the index is as it was, and
+-- the refusal is the one wanted, or memory ran out.
 abbrev pub Executes : Result (Outcome Index) Refusal → Option Index → Option Index → Result Reply Refusal → Type 0
 Executes wanted old new (Ok reply) = result_map printed wanted ≡ Ok (new, string_bytes reply.line)
 Executes wanted old new (Err refusal) = (new ≡ old) × ((refusal ≡ Memory) ⊎ (wanted ≡ Err refusal))
@@ -24,16 +24,16 @@ Executes wanted old new (Err refusal) = (new ≡ old) × ((refusal ≡ Memory) �
 abbrev pub ChangesAtMost : {E : Type 0} → (E → ℕ) → ℕ → Option E → Type 0
 ChangesAtMost changes n index = MatchOption index (Unit {0}) (λ engine. changes engine ≤ n)
 
--- each bound before is one after, with one more
+-- each bound before, plus one, is a bound after
 abbrev pub ChangesOnce : {E : Type 0} → (E → ℕ) → Option E → Option E → Type 0
 ChangesOnce changes old new = (n : ℕ) → ChangesAtMost changes n old → ChangesAtMost changes (n + 1) new
 
--- a line that can be answered: its number has room, and it isn't longer than a line may be
+-- a line that can be answered: at most 2^61 lines came before it, and it isn't longer than a line may be
 pub record IsAnswerable (s : SessionValue) (line : List ℕ) : Type 0 where
   pub line_number_fits : s.number ≤ 2 ^ 61
   pub fits_line : length line ≤ longest
 
--- A call put these bytes after those that were there, or none if it failed.
+-- A call appended these bytes, or none if it failed.
 pub record Appends {X E : Type 0} (result : Result X E) (old new bytes : List ℕ) : Type 0 where
   pub ok : OnOk result (new ≡ old ++ bytes)
   pub err : OnErr result (new ≡ old)

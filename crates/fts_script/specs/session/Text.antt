@@ -19,7 +19,7 @@ is_blank line = list_all is_white line
 abbrev pub IsWhole : List ℕ → Type 0
 IsWhole bytes = (bytes ≡ []) ⊎ ((front : List ℕ) × (bytes ≡ front ++ 10 ∷ []))
 
--- no line ends in it
+-- text in which no line ends
 abbrev pub HasNoEnd : List ℕ → Type 0
 HasNoEnd [] = Unit {0}
 HasNoEnd (b ∷ bytes) = (b ≢ 10) × HasNoEnd bytes

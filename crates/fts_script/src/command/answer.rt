@@ -23,7 +23,7 @@ fn number_value(number: Number) -> Value
     }
 }
 
-/// The value of a group.
+/// The value of a group as JSON.
 fn value_of(alloc: Global, value: &GroupValue) -> Result<Value, AllocError>
     ensures { IfOk result (λ json. view json ≡ value_data value.now) }
 {
@@ -34,7 +34,7 @@ fn value_of(alloc: Global, value: &GroupValue) -> Result<Value, AllocError>
     })
 }
 
-/// A value and how many hits have it.
+/// A value and how many hits have it, as JSON.
 fn group_value(alloc: Global, group: &(GroupValue, u64)) -> Result<Value, AllocError>
     ensures { IfOk result (λ value. view value ≡ group_data group.now) }
 {
@@ -52,7 +52,7 @@ fn groups_value(alloc: Global, groups: &[(GroupValue, u64)]) -> Result<Value, Al
     Ok(Value::Array(list))
 }
 
-/// The document of a hit, cut to the fields of these names if there are names.
+/// The document of a hit as JSON, cut to the fields of these names if there are names.
 fn document_value(alloc: Global, hit: &Hit, names: Option<&[Text]>) -> Result<Value, AllocError>
     ensures { IfOk result (λ value. view value ≡ json_of (cut_hit (option_copied names.entry) hit.now).document) }
 {
@@ -61,7 +61,7 @@ fn document_value(alloc: Global, hit: &Hit, names: Option<&[Text]>) -> Result<Va
     }
     match hit.document.to_json(alloc) {
         Ok(value) => Ok(value),
-        // The one refusal of `to_json` is a lack of memory.
+        // The only refusal of `to_json` is `Memory`.
         Err(_) => Err(AllocError),
     }
 }
@@ -131,8 +131,8 @@ fn object_of(alloc: Global, answer: &Answer, names: Option<&[Text]>) -> Result<V
     Ok(Value::Object(members))
 }
 
-/// An answer as JSON: the count, and what else was asked for. There is no float in it. If there are names, only
-/// their fields are in the documents of hits.
+/// An answer as JSON: the count, and what else was asked for. There is no float in it. If there are names, the
+/// documents of hits have only their fields.
 pub fn answer_json(
     alloc: Global,
     answer: &Answer,

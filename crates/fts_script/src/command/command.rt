@@ -105,7 +105,7 @@ fn field_of(alloc: Global, json: &Value) -> Result<Option<Field>, AllocError>
     }))
 }
 
-/// Puts the field that a value is after others, and says whether it is one.
+/// Appends the field that a value is, and returns whether it is one.
 fn push_field(alloc: Global, fields: &mut Vec<Field>, json: &Value) -> Result<bool, AllocError>
     ensures is_one { IfOk result (λ is_one.
         option_map (λ field. fields.old.items ++ field ∷ []) (field_in (view json.now))
@@ -250,7 +250,7 @@ fn command_if<'a>(command: Command<'a>, json: &Value) -> Option<Command<'a>>
     }
 }
 
-/// The command of this name, where its value has the form that it asks for.
+/// The command of this name, if its value has the form that it asks for.
 fn command_named<'a>(
     alloc: Global,
     name: &str,

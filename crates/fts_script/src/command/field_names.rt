@@ -18,7 +18,7 @@ fn name_of(alloc: Global, json: &Value) -> Result<Option<Text>, AllocError>
     Ok(Some(Text::new(String::from_str(alloc, name)?)))
 }
 
-/// Puts the text that a value is after others, and says whether it is one.
+/// Appends the text that a value is, and returns whether it is one.
 fn push_name(alloc: Global, names: &mut Vec<Text>, json: &Value) -> Result<bool, AllocError>
     ensures is_one { IfOk result (λ is_one.
         option_map (λ name. names.old.items ++ name ∷ []) (as_str (view json.now))

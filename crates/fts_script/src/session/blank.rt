@@ -1,4 +1,4 @@
-// The first line of a text, and what of a line is blank.
+// The first line of a text, and which lines are blank.
 ghost use Rattle.std.specs.Prelude.{◌≡◌, ◌<◌, ◌∷◌, length};
 ghost use Rattle.fts_script.specs.session.Text.{is_white, is_blank, lines_of};
 

@@ -1,4 +1,4 @@
-// Commands over an engine, with their replies.
+// Executes commands over an engine, and makes their replies.
 ghost use Rattle.std.specs.Prelude.{◌≡◌, ◌+◌, ◌^◌, ◌<◌, ◌≤◌, ◌++◌, ℕ, Option, Some, None, Ok, Err, true};
 ghost use Rattle.std.specs.Prelude.{IfOk, OnOk, OnErr, length, string_bytes, string_capacity, string_len, option_map};
 ghost use Rattle.std.specs.Prelude.{codes, is_ok, Result};
@@ -31,7 +31,7 @@ use fts_query::parse;
 use serde_json::Value;
 use std::alloc::{AllocError, Global};
 
-/// Takes a schema: a new index, and the reply.
+/// Takes a schema: makes a new index, and the reply.
 fn open<R: AllocGlobal + Sync, E: EngineOver<R>>(
     rt: &R,
     options: Options,
@@ -144,7 +144,7 @@ fn delete<E: Engine>(
     submit(alloc, engine, Op::Delete(term), out)
 }
 
-/// A refusal without the byte of a fault of syntax, which no reply shows.
+/// The refusal without its byte, if it is one of syntax: no reply shows the byte.
 fn without_byte(refusal: Refusal) -> Refusal
     ensures { result ≡ refusal_without_byte refusal }
 {
@@ -178,7 +178,7 @@ pub(crate) fn request_of(
     Request::new(schema, groups, top)
 }
 
-/// Answers a search for a query, with the fields of these names alone in the documents of its hits, if there are names.
+/// Answers a search for a query. If there are names, the documents of its hits show only the fields of these names.
 pub(crate) fn search_for<R: AllocGlobal + Sync, E: EngineOver<R>>(
     rt: &R,
     engine: &mut E,
@@ -222,7 +222,7 @@ fn search<R: AllocGlobal + Sync, E: EngineOver<R>>(
     search_for(rt, engine, query, request, None, out)
 }
 
-/// Executes a command that comes after the schema.
+/// Executes any command but the schema, once there is an index.
 fn execute_open<R: AllocGlobal + Sync, E: EngineOver<R>>(
     rt: &R,
     engine: &mut E,
@@ -325,8 +325,8 @@ fn execute_whole<R: AllocGlobal + Sync, E: EngineOver<R>>(
     }
 }
 
-/// The reply to the line of this number, of what it came to, and whether it was done: a refusal is a reply too, unless
-/// memory ran out.
+/// The reply to the line of this number, from its outcome, and whether the line was done. A refusal is a reply too,
+/// unless memory ran out.
 pub(crate) fn replied_line(
     alloc: Global,
     number: u64,

@@ -1,4 +1,4 @@
-// Searches whose replies show some fields of the documents alone.
+// Searches whose replies show only some fields of the documents.
 ghost use Rattle.std.specs.Prelude.{◌≡◌, ◌+◌, ◌≤◌, ◌++◌, ℕ, Option, Some, None, Ok, Err, is_some, true};
 ghost use Rattle.std.specs.Prelude.{IfOk, OnOk, OnErr, length, string_bytes, string_capacity, string_len, option_map};
 ghost use Rattle.std.specs.List.{list_all};
@@ -106,7 +106,7 @@ fn find_cut<R: AllocGlobal + Sync, E: EngineOver<R>>(
     }
 }
 
-/// The outcome of a search in a line that isn't too long, cut to the fields that another lists.
+/// The outcome of a search in a line that isn't too long, cut to the fields that another line lists.
 fn find_cut_whole<R: AllocGlobal + Sync, E: EngineOver<R>>(
     rt: &R,
     index: &mut Option<E>,

@@ -10,7 +10,8 @@ pub fn output_is_that_of_commands()
     ensures { (input : List ℕ) → output input ≡ output_by_commands input }
 {}
 
-/// A deletion and an addition that are done as one are done as two lines, one after the other; else nothing is done.
+/// A deletion and an addition that are done as one are done as two lines, one after the other; otherwise nothing is
+/// done.
 pub fn a_replacement_is_two_lines()
     ensures done { (s : SessionValue) → (delete : List ℕ) → (add : List ℕ) →
         OnOk (replace indexes s.index delete add) (AreDone s delete add) }

@@ -1,12 +1,12 @@
-// Work on how an index is kept, which no reply shows.
+// Maintenance of an engine, which no reply shows.
 ghost use Rattle.std.specs.Prelude.{◌≡◌, ◌+◌, ◌^◌, ◌≤◌};
 
 use fts_engine::Engine;
 
-/// Work on how an engine keeps its index. It changes nothing of what the index stands for, and nothing that is counted
-/// once 2^61 changes were.
+/// Maintenance of an engine. It doesn't change the index as the definitions have it, nor, once 2^61 changes were
+/// counted, any count.
 pub trait Maintenance<E: Engine> {
-    /// What the work came to.
+    /// What the work returns.
     type Done;
 
     /// Does the work.

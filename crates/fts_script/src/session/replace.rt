@@ -45,7 +45,7 @@ fn addition_in(alloc: Global, json: &Value) -> Result<&Value, Refusal>
     }
 }
 
-/// Whether no operation is taken before the next commit.
+/// Whether as many operations are uncommitted as there may be.
 fn is_full<E: Engine>(engine: &E) -> bool
     requires { E.changes engine.now ≤ 2 ^ 61 }
     ensures { result ≡ not (nat_lt (length (E.index engine.now).uncommitted) most_uncommitted) }
@@ -128,14 +128,14 @@ fn replace_whole<E: SubmitTwo>(
     }
 }
 
-/// How many lines two are that were done as one, or weren't.
+/// How many lines count as done: two, or none.
 fn lines_of(done: bool) -> u64
     ensures { result ≡ (if done then 2 else 0) }
 {
     if done { 2 } else { 0 }
 }
 
-/// Replies to a line that deletes and a line that adds, as one, and says how many lines were done: 2 or 0.
+/// Replies to a line that deletes and a line that adds, as one, and returns how many lines were done: 2 or 0.
 pub(crate) fn answer_replace<R: AllocGlobal + Sync, E: EngineOver<R> + SubmitTwo>(
     rt: &R,
     index: &mut Option<E>,

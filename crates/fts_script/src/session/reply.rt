@@ -1,4 +1,5 @@
-// Replies: made, with room for their lines, before anything changes, so that nothing is refused after a change.
+// Replies. Each is made, and the capacity for its line reserved, before anything changes, so that nothing is refused
+// after a change.
 ghost use Rattle.std.specs.Prelude.{◌≡◌, ◌+◌, ◌≤◌, ◌++◌, ◌∷◌, false, length, codes, decimal};
 ghost use Rattle.std.specs.Prelude.{string_bytes, string_len, string_capacity, IfOk};
 ghost use Rattle.json.specs.Print.{quoted};
@@ -27,13 +28,13 @@ fn number_line(alloc: Global, name: &str, n: u64) -> Result<String, AllocError>
     requires plain { quoted name.now ≡ codes "\"" ++ name.now ++ codes "\"" }
     ensures { IfOk result (λ line. string_bytes line ≡ line_of (number_reply name.now n)) }
 {
-    // Room for any name and number here.
+    // A capacity for any name and number here.
     let mut line = String::with_capacity(alloc, 48)?;
     writeln!(line, "{{\"{name}\":{n}}}")?;
     Ok(line)
 }
 
-/// The value that tells a refusal in the line of this number.
+/// The JSON value that reports a refusal in the line of this number.
 fn refusal_value(alloc: Global, refusal: Refusal, line: u64) -> Result<Value, AllocError>
     ensures value { IfOk result (λ value. view value ≡ refusal_reply refusal line) }
 {
@@ -41,7 +42,7 @@ fn refusal_value(alloc: Global, refusal: Refusal, line: u64) -> Result<Value, Al
 }
 
 impl Reply {
-    /// The reply of a line, with room for it after others.
+    /// The reply that is this line. Reserves the capacity for it in `out`.
     fn of_line(line: String, out: &mut String) -> Result<Reply, AllocError>
         ensures line { IfOk result (λ reply. string_bytes reply.line ≡ string_bytes line) }
         ensures out { string_bytes out.new ≡ string_bytes out.old }
@@ -51,7 +52,7 @@ impl Reply {
         Ok(Reply { line })
     }
 
-    /// The reply that a value is, and room for its line after others.
+    /// The reply that a value is. Reserves the capacity for its line in `out`.
     pub fn new(alloc: Global, value: &Value, out: &mut String) -> Result<Reply, AllocError>
         requires { has_float (view value.now) ≡ false }
         ensures line { IfOk result (λ reply. string_bytes reply.line ≡ line_of (view value.now)) }
@@ -63,8 +64,8 @@ impl Reply {
         Reply::of_line(line, out)
     }
 
-    /// The reply that an answer is, with the fields of these names alone in the documents of its hits, if there are
-    /// names, and room for its line after others.
+    /// The reply that an answer is. If there are names, the documents of its hits show only the fields of these names.
+    /// Reserves the capacity for its line in `out`.
     pub fn of_answer(
         alloc: Global,
         answer: &Answer,
@@ -80,7 +81,7 @@ impl Reply {
         Reply::new(alloc, &value, out)
     }
 
-    /// An object of a name, which needs no escapes, and a number.
+    /// The reply that is an object of a name, which needs no escapes, and a number.
     pub fn of_number(
         alloc: Global,
         name: &str,
@@ -95,7 +96,7 @@ impl Reply {
         Reply::of_line(number_line(alloc, name, n)?, out)
     }
 
-    /// A refusal in the line of this number.
+    /// The reply that reports a refusal in the line of this number.
     pub fn of_refusal(
         alloc: Global,
         refusal: Refusal,
@@ -110,7 +111,7 @@ impl Reply {
         Reply::new(alloc, &value, out)
     }
 
-    /// Puts the line after others, if there is room for it.
+    /// Appends the line to `out`, whose capacity was reserved.
     pub fn push(self, out: &mut String)
         requires { string_len out.old + string_len self.line ≤ string_capacity out.old }
         ensures { string_bytes out.new ≡ string_bytes out.old ++ string_bytes self.line }

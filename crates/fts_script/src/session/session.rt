@@ -1,4 +1,4 @@
-// A script line by line: what it has come to, and its replies.
+// A script, line by line: its state, and its replies.
 ghost use Rattle.std.specs.Prelude.{◌≡◌, ◌+◌, ◌^◌, ◌<◌, ◌≤◌, false, length, IfOk, OnOk, OnErr, is_none, option_map};
 ghost use Rattle.std.specs.Prelude.{string_bytes};
 ghost use Rattle.fts_script.specs.session.Text.{is_blank};
@@ -21,17 +21,16 @@ use fts_model::Refusal;
 use std::alloc::{AllocError, Global};
 use std::marker::Model;
 
-/// How many lines there may be. Those that aren't blank count as often as they are tried.
+/// How many lines there may be. A line that isn't blank counts each time it is tried.
 pub const MOST_LINES: u64 = 1 << 61;
 
-/// What is carried from line to line. It is ended by `close`, or let go where its engine may be.
+/// The state that is carried from line to line. `close` ends it; it may be dropped if its engine may be.
 #[derive(Drop)]
 pub struct Session<E: Engine> {
     options: Options,
     /// How many lines there were.
     number: u64,
-    /// How many lines that aren't blank were tried, with those that were refused for memory: what an engine counts
-    /// goes on at these too.
+    /// The number of non-blank lines tried, refused ones included. It bounds what engines count.
     tries: u64,
     /// The index, once a schema was taken.
     index: Option<E>,
@@ -50,7 +49,7 @@ impl<E: Engine> Model for Session<E> {
 }
 
 impl<E: Engine> Session<E> {
-    /// Before the first line, without a schema.
+    /// A session before its first line, without a schema.
     pub fn new(options: Options) -> Self
         ensures { result ≡ start }
     {
@@ -62,8 +61,8 @@ impl<E: Engine> Session<E> {
         }
     }
 
-    /// Replies to a line. At an `Err` the replies and the script are as they were, so that the line may come again. It
-    /// is if memory runs out, or where 2^61 lines were tried.
+    /// Replies to a line. At an `Err` the replies and the script are as they were, so that the line may come again.
+    /// There is an `Err` if memory runs out or 2^61 lines were tried.
     #[tactic(auto, unfolding(crate::specs::session::Replies::reply_on, crate::specs::session::Replies::carried_over))]
     pub fn answer<R: AllocGlobal + Sync>(
         &mut self,
@@ -92,7 +91,7 @@ impl<E: Engine> Session<E> {
         Ok(())
     }
 
-    /// Replies to a line that is longer than a line may be, of which it is known whether it is blank.
+    /// Replies to a line that is longer than a line may be, if it is known whether it is blank.
     pub fn answer_too_long(
         &mut self,
         alloc: Global,
@@ -134,7 +133,7 @@ impl<E: Engine> Session<E> {
     }
 
     /// Replies to a line that deletes and a line that adds, as one: both are done, or neither. At a refusal, and at an
-    /// `Err`, the script is as it was. An `Err` is if memory runs out, or where 2^61 lines were tried.
+    /// `Err`, the script is as it was. There is an `Err` if memory runs out or 2^61 lines were tried.
     pub fn replace<R: AllocGlobal + Sync>(
         &mut self,
         rt: &R,
@@ -163,8 +162,8 @@ impl<E: Engine> Session<E> {
         Ok(())
     }
 
-    /// Replies to a search, as `find` does, with the documents of its hits cut to the fields that another line lists.
-    /// An unknown name is refused as `UnknownField`.
+    /// Replies to a search as `find` does, with the documents of its hits cut to the fields that another line lists. An
+    /// unknown name is refused as `UnknownField`.
     pub fn find_fields<R: AllocGlobal + Sync>(
         &mut self,
         rt: &R,
@@ -200,7 +199,7 @@ impl<E: Engine> Session<E> {
         })
     }
 
-    /// Has work done on how the index is kept, if there is one. The script goes on as if it hadn't been.
+    /// Runs maintenance work on the index, if there is one. It changes no reply.
     pub fn maintain<W: Maintenance<E> + Drop>(&mut self, work: W) -> Option<W::Done>
         ensures same { self.new ≡ self.old }
         ensures done { is_none result ≡ is_none self.old.index }

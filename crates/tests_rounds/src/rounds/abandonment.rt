@@ -22,7 +22,7 @@ fn full_round(rt: &impl Abort, alloc: Global, writer: &mut Writer) -> Batch {
     gather(rt, alloc, round, ends)
 }
 
-/// A round of two lanes without an operation, of which one is missing at first.
+/// A round of two lanes without an operation. The end of one is missing at first.
 fn empty_round(rt: &impl Abort, alloc: Global, writer: &mut Writer) -> Batch {
     let (round, mut lanes) = writer.open_round(alloc, 2, 1).expect(rt, "a round");
     let second = lanes.pop().expect(rt, "a lane");
@@ -47,7 +47,7 @@ fn committed<R: Threads + Wait + Sync>(
     Ok(committed.stamp)
 }
 
-/// Commits a batch, which has that stamp, and not again.
+/// Commits a batch, which gets this stamp, and can't be committed again.
 fn committed_once<R: Threads + Wait + Sync + Abort>(
     rt: &R,
     alloc: Global,

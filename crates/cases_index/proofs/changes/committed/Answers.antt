@@ -1,4 +1,4 @@
--- A commit is followed.
+-- The snapshot after a commit follows the one before it.
 use Rattle.std.proofs.Common.{sym, subst}
 use Rattle.dilforec.specs.Successors.{Follows}
 use Rattle.dilforec.proofs.FollowLemmas.{follows_commit}

@@ -1,4 +1,4 @@
--- A merge is followed.
+-- The snapshot after a merge follows the one before it.
 use Rattle.std.proofs.Common.{sym, subst}
 use Rattle.dilforec.specs.Merges.{entries_at}
 use Rattle.dilforec.specs.MergedSegments.{merged_of}

@@ -1,4 +1,4 @@
--- What is left fits what the end leaves, and what is handed back fits as before.
+-- The merges that are left fit what the end leaves, and what is handed back fits as before.
 use Rattle.std.proofs.Common.{List, sym, subst, arith}
 use Rattle.dilforec.specs.MergedSegments.{MergedSegmentValue}
 use Rattle.dilforec.specs.Successors.{Fits}

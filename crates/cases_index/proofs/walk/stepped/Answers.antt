@@ -1,4 +1,4 @@
--- What was merged fits what follows.
+-- The merged segments fit the snapshots that follow.
 use Rattle.cases_index.proofs.LateLemmas.{all_further}
 use Rattle.cases_index.proofs.walk.stepped.Goals as goal
 

@@ -1,4 +1,4 @@
--- What was merged fits, step by step.
+-- The merged segments fit, step by step.
 use Rattle.cases_index.specs.Late.{AllFit}
 use Rattle.cases_index.proofs.walk.walked.Given as goal
 

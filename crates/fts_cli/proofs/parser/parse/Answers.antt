@@ -36,7 +36,7 @@ returns c =
           parse.ensures.matches,
     )
 
--- where memory ran out, any places serve
+-- if memory ran out, any places will do
 pub returns-in_err-run : goal.returns-in_err-run
 returns-in_err-run c =
     let places : Places = record { values = (0, 0); off = (0, 0); policy = (0, 0) } in

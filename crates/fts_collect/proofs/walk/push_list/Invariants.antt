@@ -1,4 +1,4 @@
--- Of the blocks so far, those whose bits are set are added.
+-- The documents of the blocks so far whose bits are set are added.
 use Rattle.std.proofs.Common.{◌≡◌, ◌++◌, filter, take}
 use Rattle.std.specs.List.{flat_map}
 use Rattle.fts_pack.specs.Documents.{blocks_of}

@@ -8,7 +8,7 @@ use Rattle.fts_engine_index.specs.declared.uncommitted.Uncommitted.{Uncommitted}
 use Rattle.fts_engine_index.specs.UncommittedOperations.{StayUncommitted, IsOpen, IsUncommittedIn}
 use Rattle.fts_engine_index.proofs.uncommitted.gather.Goals as goal
 
--- what stays uncommitted in an open round is of it
+-- what stays uncommitted in an open round belongs to that round
 kept_uncommitted : (w : WriterValue) (round : Opened) (ops : List (Stamped Op)) (r : Result Gathered (Uncommitted × Refusal)) → IsOpen w round →
     IfErr r (λ e. StayUncommitted round ops e.0) → IfErr r (λ e. IsUncommittedIn w e.0)
 kept_uncommitted w round ops (Ok batch) o h = tt

@@ -1,4 +1,4 @@
--- What is left of the proof of `begun::ended`.
+-- What is left of the proof of `begun_merge::ended`.
 use Rattle.std.proofs.Common.{subst}
 use Rattle.fts_base.specs.Results.{Gives, ok_unless}
 use Rattle.fts_snapshots.specs.LateMerges.{after_end, end_fault}

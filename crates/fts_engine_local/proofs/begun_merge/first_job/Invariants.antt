@@ -1,4 +1,4 @@
--- What stays true in the loop of `begun::first_job`.
+-- What stays true in the loop of `begun_merge::first_job`.
 use Rattle.std.proofs.Common.{◌≡◌, drop, map}
 use Rattle.fts_engine_local.specs.BegunMerges.{first_job}
 use Rattle.fts_engine_local.proofs.begun_merge.first_job.Given as goal

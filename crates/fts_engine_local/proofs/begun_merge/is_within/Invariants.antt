@@ -1,4 +1,4 @@
--- What stays true in the loop of `begun::is_within`.
+-- What stays true in the loop of `begun_merge::is_within`.
 use Rattle.std.proofs.Common.{◌≡◌, ◌≤◌, take, sum_by}
 use Rattle.fts_snapshots.specs.Entries.{live_count}
 use Rattle.fts_engine_local.proofs.begun_merge.is_within.Given as goal

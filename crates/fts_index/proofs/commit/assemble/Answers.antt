@@ -1,4 +1,4 @@
--- What is left of the proof of `commits::assemble`.
+-- What is left of the proof of `commit::assemble`.
 use Rattle.std.proofs.Common.{◌≡◌, ◌<◌, length, get_or, map, filter, take, sym, ap, ◌∙◌, rules}
 use Rattle.std.proofs.lemmas.List.{length_push}
 use Rattle.std.proofs.lemmas.Iterator.Adapters.{YieldsList-from_vec}

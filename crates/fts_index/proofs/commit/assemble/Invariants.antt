@@ -1,4 +1,4 @@
--- What stays true in the loop of `commits::assemble`.
+-- What stays true in the loop of `commit::assemble`.
 use Rattle.std.proofs.Common.{◌≡◌, List, length, map, filter, take}
 use Rattle.fts_snapshots.specs.Entries.{has_live}
 use Rattle.fts_snapshots.specs.Jobs.{entry_of}

@@ -1,4 +1,4 @@
--- What is left of the proof of `commits::entries_of_jobs`.
+-- What is left of the proof of `commit::entries_of_jobs`.
 use Rattle.std.proofs.lemmas.Result.{IfOk-weaker}
 use Rattle.fts_snapshots.proofs.JobLemmas.{for_memory_alone}
 use Rattle.fts_index.proofs.CommitJobLemmas.{answers_of_all}

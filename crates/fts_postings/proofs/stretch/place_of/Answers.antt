@@ -1,4 +1,4 @@
--- Of 16 numbers the first that is reached, or none.
+-- 16 numbers are compared at once; the first that reaches the target is found, or none.
 use Rattle.std.proofs.Common.{drop, take, arith}
 use Rattle.std.proofs.lemmas.List.{length-drop, length-take-le}
 use Rattle.fts_postings.proofs.PlacesLemmas.{none_reached, reached-are, reached_place}

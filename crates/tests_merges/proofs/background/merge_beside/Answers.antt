@@ -1,4 +1,4 @@
--- What was begun fits what the log left.
+-- What was started fits what the log left.
 use Rattle.dilforec.specs.MergedSegments.{merged_of}
 use Rattle.dilforec.proofs.FollowLemmas.{fits_further}
 use Rattle.tests_merges.proofs.background.merge_beside.Goals as goal

@@ -1,4 +1,4 @@
--- Each add counts one call at most.
+-- Each add counts as one call at most.
 use Rattle.std.proofs.Common.{◌≤◌}
 use Rattle.tests_scripts.proofs.segments.commit_eight.Given as goal
 

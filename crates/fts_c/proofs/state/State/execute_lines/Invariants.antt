@@ -2,7 +2,7 @@ use Rattle.std.proofs.Common.{length}
 use Rattle.fts_c.proofs.BlockLemmas.{Reached}
 use Rattle.fts_c.proofs.state.State.execute_lines.Given as goal
 
--- so many lines were done
+-- this many lines were done
 abbrev pub invariant-loop-rest : goal.invariant-loop-rest
 invariant-loop-rest l = Reached l.fn.self l.block l.rest l.self l.done
 

@@ -1,4 +1,4 @@
--- Of what is left those that are live stay.
+-- The live documents of those left stay.
 use Rattle.std.proofs.Common.{◌≡◌, ◌-◌, drop, ap, sym, ◌∙◌, arith}
 use Rattle.std.specs.List.{filter, range_with_len}
 use Rattle.fts_cursor.specs.Hits.{is_live}

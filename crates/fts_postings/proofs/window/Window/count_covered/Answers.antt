@@ -1,4 +1,4 @@
--- Where the last has a place, all have, and else those before the first that has none.
+-- If the last has a place, all have; otherwise those before the first that has none.
 use Rattle.std.proofs.Common.{length, arith}
 use Rattle.fts_postings.proofs.MarkingLemmas.{places_first}
 use Rattle.fts_postings.proofs.window.Window.count_covered.Goals as goal

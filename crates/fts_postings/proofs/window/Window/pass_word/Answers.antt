@@ -1,4 +1,4 @@
--- A word without marks is passed over, and else what lies before its lowest.
+-- A word without marks is passed over, and otherwise the places before its lowest mark.
 use Rattle.std.proofs.Common.{◌≡◌, ◌+◌, ◌-◌, ◌*◌, ◌%◌, ◌^◌, ◌<◌, ap, sym, arith}
 use Rattle.std.proofs.lemmas.Nat.{and_le_r}
 use Rattle.std.specs.Int.RustNames.{bit_and}

@@ -1,4 +1,4 @@
--- The parts that the segments told make the answer over the content.
+-- The parts of the segments make the answer over the content.
 use Rattle.std.proofs.Common.{◌-◌, ◌^◌, List, min, sum_by, subst, ap, ◌∙◌, arith}
 use Rattle.fts_model.specs.Queries.{hits}
 use Rattle.fts_model.specs.QueryValues.{query_value}
