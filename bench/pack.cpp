@@ -216,7 +216,8 @@ static void times(u32 width) {
         u64 out[128], sum = 0;
         for (int block = 0; block < BLOCKS; block++) {
             each(column, u64(block) * 128, out);
-            sum += out[5] + out[127] + __builtin_popcountll(column.present[2 * block]) + __builtin_popcountll(column.present[2 * block + 1]);
+            for (int i = 0; i < 128; i++)
+                if (column.present[2 * block + i / 64] >> i % 64 & 1) sum += out[i];
         }
         return sum;
     };

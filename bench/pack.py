@@ -5,7 +5,7 @@
 
 The program is in bench/pack, the loops in bench/pack.cpp. Nanoseconds a number, the fastest of many rounds by the thread's processor time. The
 kernel in C++ works the same way as the proved one, the plain loop takes one number after the other; all print a sum of what they read, and the
-sums have to agree.
+sums have to agree. `values` adds up a column's values: by `Column::get` here, by unpacking 128 at a time in C++.
 """
 from __future__ import annotations
 

@@ -4,7 +4,7 @@ ghost use Rattle.std.specs.Prelude.{◌≡◌, All, IfSome};
 use crate::bench::{Bench, segment_with};
 use crate::merges::give_merged;
 use crate::numbers::all_bits;
-use fts_merge::{Merged, LiveSegment, merge};
+use fts_merge::{LiveSegment, Merged, merge};
 use fts_model::{Document, Schema, Stamped};
 use fts_pack::bits::Bits;
 use fts_segment::Segment;

@@ -6,7 +6,7 @@ ghost use Rattle.fts_model.specs.Limits.{most_merged};
 use crate::bench::Bench;
 use crate::lookups::{column, postings};
 use crate::numbers::{all_bits, turn};
-use fts_merge::{MergePolicy, Merged, SegmentSize, LiveSegment, merge, plan, plan_by, strike};
+use fts_merge::{LiveSegment, MergePolicy, Merged, SegmentSize, merge, plan, plan_by, strike};
 use fts_model::{MOST_MERGED, Op, Schema, Stamped};
 use fts_pack::bits::Bits;
 use fts_segment::Segment;
@@ -72,7 +72,10 @@ fn merged(trial: &mut Trial, segment: &Segment, first: &Bits, second: &Bits) -> 
         trial.fail(Trouble::Impossible("not one bit a document"));
         return None;
     }
-    let sources = [LiveSegment::new(segment, first), LiveSegment::new(segment, second)];
+    let sources = [
+        LiveSegment::new(segment, first),
+        LiveSegment::new(segment, second),
+    ];
     let merged = merge(trial.alloc(), &sources);
     trial.kept(merged)
 }

@@ -21,12 +21,6 @@ pub by_kind : (P : List (Option ℕ) → Type 0) (segment : SegmentValue) (field
     (is_number_field segment.schema field ≡ false → P (ordinals segment field)) → P (values_of segment field)
 by_kind P segment field = of_two P (is_number_field segment.schema field) (column segment field) (ordinals segment field)
 
-pub values_are_numbers : (segment : SegmentValue) (field : ℕ) → is_number_field segment.schema field ≡ true → column segment field ≡ values_of segment field
-values_are_numbers segment field is = ap (λ b. if b then column segment field else ordinals segment field) (sym is)
-
-pub values_are_ordinals : (segment : SegmentValue) (field : ℕ) → is_number_field segment.schema field ≡ false → ordinals segment field ≡ values_of segment field
-values_are_ordinals segment field is = ap (λ b. if b then column segment field else ordinals segment field) (sym is)
-
 -- there is one for each document
 pub length-values : (segment : SegmentValue) (field : ℕ) → is_ordered_field segment.schema field ≡ true →
     length (values_of segment field) ≡ length segment.documents

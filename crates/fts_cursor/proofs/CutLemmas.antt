@@ -41,16 +41,6 @@ and_last true true false false = refl
 and_last true false n l = refl
 and_last false a n l = refl
 
--- bits that all are to have, one list of them more
-pub dense_more : (dense : Dense) (all : List (Bor (List Bool))) (live : Bor (List Bool)) (doc : ℕ) → all ≡ dense.all.items ++ live ∷ [] →
-    ((in_one dense.some.items doc && in_each all doc) && not (in_one dense.none.items doc)) ≡ (is_dense dense doc && is_live live.now doc)
-dense_more dense all live doc is =
-    let some = in_one dense.some.items doc in
-    let none = in_one dense.none.items doc in
-    ap (λ xs. (some && in_each xs doc) && not none) is
-    ∙ ap (λ b. (some && b) && not none) (list_all-append (λ (b : Bor (List Bool)). is_live b.now doc) dense.all.items (live ∷ []))
-    ∙ and_last some (in_each dense.all.items doc) none (is_live live.now doc)
-
 -- whether the document's bit is set in each, one list of bits more
 pub each_more : (before all : List (Bor (List Bool))) (live : Bor (List Bool)) (doc : ℕ) → all ≡ before ++ live ∷ [] →
     in_each all doc ≡ (in_each before doc && is_live live.now doc)

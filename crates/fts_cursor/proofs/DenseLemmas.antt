@@ -7,7 +7,7 @@ use Rattle.std.specs.Int.{bit_at, bit_not, w64}
 use Rattle.std.proofs.lemmas.Bool.{cases_lt}
 use Rattle.std.proofs.lemmas.List.{append-nil, get_or_past}
 use Rattle.std.proofs.lemmas.List.Folds.{list_all_more, list_any_more, list_any_none}
-use Rattle.std.proofs.lemmas.Nat.Bits.{bit_at_above, bit_at_and, bit_at_or, bit_at-lt, bit_at_not, bit_at_ones, bit_at-zero}
+use Rattle.std.proofs.lemmas.Nat.Bits.{bit_at_above, bit_at_and, bit_at_or, bit_at-lt, bit_at_not, bit_at_ones}
 use Rattle.fts_pack.specs.bits.Bits.{number_of}
 use Rattle.fts_pack.proofs.BitsLemmas.{word_bit}
 use Rattle.fts_cursor.specs.Hits.{is_live}
@@ -48,10 +48,6 @@ bit_of_and a b k = ap (λ n. n == 1) (bit_at_and a b k) ∙ and_one (bit_at a k)
 
 pub bit_of_not : (a k : ℕ) → a < 2 ^ 64 → k < 64 → (bit_at (bit_not w64 a) k == 1) ≡ not (bit_at a k == 1)
 bit_of_not a k fits inside = ap (λ n. n == 1) (bit_at_not w64 a k fits inside) ∙ not_one (bit_at a k) (bit_at-lt a k)
-
--- no bits, and one list of bits more
-pub Tells-none : (list : List (Bor (List Bool))) (from : ℕ) → Tells (in_one (take 0 list)) from 0
-Tells-none list from k inside = ap (λ n. n == 1) (bit_at-zero k)
 
 pub Tells-every : (list : List (Bor (List Bool))) (from : ℕ) → Tells (in_each (take 0 list)) from (2 ^ 64 - 1)
 Tells-every list from k inside = ap (λ n. n == 1) (bit_at_ones 64 k inside)

@@ -4,7 +4,7 @@ use Rattle.std.proofs.Common.{get_or, refl, sym, ap, ap₂, subst, ◌∙◌, in
 use Rattle.std.specs.Borrow.{Bor}
 use Rattle.std.specs.List.{All, AllZip, list_all, slice_get, sum_by}
 use Rattle.std.proofs.lemmas.Bool.{and_parts, cases_lt, false≢true, le-ltb, lt-ltb}
-use Rattle.std.proofs.lemmas.List.{length-append, length-map, map-append, take_more}
+use Rattle.std.proofs.lemmas.List.{length-append, map-append, take_more}
 use Rattle.std.proofs.lemmas.List.Elements.{All-cons, All-nil}
 use Rattle.std.proofs.lemmas.List.Folds.{list_all-append}
 use Rattle.std.proofs.lemmas.List.Sums.{fold-append, sum_by-cons}
@@ -165,29 +165,6 @@ length_lists : (ls : List (Bor (List ℕ))) → length (lists_of ls) ≡ length 
 length_lists [] = refl
 length_lists (l ∷ ls) = omega (arith, length_lists ls)
 
-pub is_fresh : (lists : List (List ℕ)) (shortest : List ℕ) (ls : List (Bor (List ℕ))) (lead : Posting) (ps : List Posting) →
-    IsLed lists shortest (lists_of ls) → IsOver lead shortest → AllZip (λ p l. IsOver p l.now) ps ls →
-    IsFresh lists shortest (lists_of ls) (record { lead = lead; others = ps })
-is_fresh lists shortest ls lead ps led over zip =
-    let rest = are_over ps ls zip in
-    let many : length ps ≡ length lists - 1 =
-    omega (arith, length_zip (λ (p : Posting) (l : Bor (List ℕ)). IsOver p l.now) ps ls zip, length_lists ls, led.count) in
-    let bound : List ℕ → ℕ → Bound = λ xs n. record { blocks = block_count (length xs); lead = xs; others = n } in
-    let lead_is : bound_of (record { lead = lead; others = ps }) ≡ bound shortest (length ps) =
-    ap (λ (bs : List (List ℕ)). bound_of (record { lead = record lead { blocks = bs }; others = ps })) over.blocks
-    ∙ ap₂ (λ (n : ℕ) (xs : List ℕ). let b : Bound = record { blocks = n; lead = xs; others = length ps } in b) (length-blocks_of shortest)
-    (blocks_joined shortest) in
-    record {
-      fresh = rest.opened;
-      tied = (over.tied, rest.tied);
-      remaining = ap₂ common over.remaining rest.remaining;
-      bound = lead_is ∙ ap₂ bound (sym led.least) many;
-      opened = λ some.
-          let found = first_in (common shortest (lists_of ls)) some in
-          let both = and_parts (has shortest found.0) (in_all (lists_of ls) found.0) (sym (has-filter (in_all (lists_of ls)) shortest found.0) ∙ found.1) in
-          omega (arith, over.enters (some_in shortest found.0 both.0), over.tied, rest.enters found.0 both.1, many, led.count);
-    }
-
 -- the lists of queries, one after the other
 pub led_first : (segment : SegmentValue) (queries : List Query) (q : Query) (xs : List ℕ) → 0 < length queries → q ≡ get_or queries 0 q →
     xs ≡ hits_of segment q → IsLed (map (hits_of segment) (take 1 queries)) xs []
@@ -213,29 +190,6 @@ none_in segment [] k q inside is none d = absurd (omega (arith, inside))
 none_in segment (w ∷ ws) zero q inside is none d = ap (λ xs. has xs d && in_all (map (hits_of segment) ws) d) (ap (hits_of segment) (sym is) ∙ none)
 none_in segment (w ∷ ws) (suc k) q inside is none d =
     ap (λ b. has (hits_of segment w) d && b) (none_in segment ws k q (omega (arith, inside)) is none d) ∙ and-false (has (hits_of segment w) d)
-
--- a conjunction of the cursors over the lists of terms, once it stands at its first document
-pub record Conjoins (segment : SegmentValue) (queries : List Query) (c : Conjoined) : Type 0 where
-  pub tied : AreTied c
-  pub hits : common_of c ≡ all_hits segment queries
-  pub bound : bound_of c ≡ bound_of_all (map (hits_of segment) queries)
-  pub opened : common_of c ≢ [] → length queries ≤ counts_of c
-
-pub conjoins : (segment : SegmentValue) (queries : List Query) (shortest : List ℕ) (ls : List (Bor (List ℕ))) (lead : Posting) (ps : List Posting)
-    (c : Conjoined) →
-    IsLed (map (hits_of segment) queries) shortest (lists_of ls) → IsOver lead shortest → AllZip (λ p l. IsOver p l.now) ps ls →
-    AllFollow (record { lead = lead; others = ps }) c → common_of c ≡ common (remaining_of lead) (each_remaining ps) → Conjoins segment queries c
-conjoins segment queries shortest ls lead ps c led over zip follows same =
-    let fresh = is_fresh (map (hits_of segment) queries) shortest ls lead ps led over zip in
-    let on = terms-continue (record { lead = lead; others = ps }) c follows fresh.tied in
-    let continues = on.0 [] [] in
-    let many : length (map (hits_of segment) queries) ≡ length queries = length-map queries (hits_of segment) in
-    record {
-      tied = on.1;
-      hits = same ∙ fresh.remaining ∙ led_hits segment queries shortest (lists_of ls) led;
-      bound = continues.bound ∙ fresh.bound;
-      opened = λ some. omega (arith, many, continues.more, fresh.opened (λ none. some (same ∙ fresh.remaining ∙ none)));
-    }
 
 -- a conjunction over a list and others, as it was made or later on
 pub record IsConjoinedOver (shortest : List ℕ) (others : List (List ℕ)) (c : Conjoined) : Type 0 where

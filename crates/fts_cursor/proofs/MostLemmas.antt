@@ -155,13 +155,6 @@ opens_column documents s many bound =
       least = rw test (omega arith);
     }
 
--- one where none does
-pub opens_nothing : (documents : ℕ) (s : Standing) → s.remaining ≡ [] → s.bound ≡ at_most 0 → OpensRange documents s
-opens_nothing documents s none bound = record {
-  most = rw bound (omega arith);
-  least = rw none (elim (nat_le 0 (documents / 256)) as (λ b. (if b then 0 else 0) ≤ s.openings) [ true ↦ omega arith | false ↦ omega arith ]);
-}
-
 -- what the cursor of a range opens
 module _ (segment : SegmentValue) (field : ℕ) (lower upper : Bound FieldValue) (s : Standing) where
   pub range_most : s.remaining ≡ segment_hits segment (range field lower upper) → OpensRange (length segment.documents) s →

@@ -31,41 +31,6 @@ use Rattle.fts_cursor.proofs.HitsLemmas.{hits_of}
 use Rattle.fts_cursor.proofs.LeadingLemmas.{all_hits}
 use Rattle.fts_cursor.proofs.MostLemmas.{all_most-for, are_all_terms, hits_are_each}
 
--- whether nothing is said of the openings of a query
-pub is_plain : QueryValue → Bool
-is_plain (term t) = false
-is_plain (boolean must must_not should) = false
-is_plain query = true
-
-pub opens_plain : (segment : SegmentValue) (query : QueryValue) (s : Standing) → is_plain query ≡ true → most_at s.bound None ≤ most_for segment query →
-    least_for segment query ≤ s.openings → Opens segment query s
-unfolding is_plain
-opens_plain segment query s plain most least = record {
-  most = most;
-  least = least;
-  one_term = λ t h. elim h [ inl e ↦ absurd (false≢true (ap is_plain (sym e) ∙ plain)) | inr e ↦ absurd (false≢true (ap is_plain (sym e) ∙ plain)) ];
-  list = λ t h. elim h [ inl e ↦ absurd (false≢true (ap is_plain (sym e) ∙ plain)) | inr e ↦ absurd (false≢true (ap is_plain (sym e) ∙ plain)) ];
-  musts = λ terms e doc. absurd (false≢true (ap is_plain (sym e) ∙ plain));
-  opened = λ terms e some. absurd (false≢true (ap is_plain (sym e) ∙ plain));
-}
-
-pub opens_term : (segment : SegmentValue) (query : QueryValue) (t : Term) (s : Standing) → query ≡ term t → s.whole ≡ true →
-    most_at s.bound None ≡ block_count (length (postings segment t)) → s.list ≡ Some (postings segment t) → Opens segment query s
-opens_term segment query t s is whole most list = record {
-  most = subst (λ q. most_at s.bound None ≤ most_for segment q) (sym is) (omega (arith, most));
-  least = subst (λ q. least_for segment q ≤ s.openings) (sym is) (omega arith);
-  one_term = λ u h. elim h [
-    | inl e ↦ let same : t ≡ u = cc in (whole, most ∙ ap (blocks_with segment) same)
-    | inr e ↦ absurd (cc)
-  ];
-  list = λ u h. elim h [
-    | inl e ↦ let same : t ≡ u = cc in list ∙ ap (λ v. Some (postings segment v)) same
-    | inr e ↦ absurd (cc)
-  ];
-  musts = λ terms e doc. absurd (cc);
-  opened = λ terms e some. absurd (cc);
-}
-
 -- one with must-nots
 pub opens_without : (segment : SegmentValue) (query : QueryValue) (must should : QueryValues) (dropped : List Query) (s : Standing) →
     query ≡ boolean must (query_list (map query_value dropped)) should → 0 < length dropped → most_at s.bound None ≤ most_for segment query →

@@ -222,13 +222,6 @@ there column d x is = elim (cases_lt d (length column)) [
   | inr past ↦ absurd (let e : None ≡ Some x = sym (get_or_past column d None past) ∙ is in cc)
 ]
 
-pub small_some : (column : List (Option ℕ)) (range : ℕ × ℕ) (d x : ℕ) → IsRangeOf column (Some range) → range.1 < 2 ^ 64 → get_or column d None ≡ Some x →
-    x < 2 ^ 64
-small_some column range d x is small at = omega (arith, within_range (get_or column d None) x range at (is.2 d None (there column d x at)), small)
-
-pub small_none : (column : List (Option ℕ)) (d x : ℕ) → IsRangeOf column None → get_or column d None ≡ Some x → x < 2 ^ 64
-small_none column d x is at = absurd (let e : None ≡ Some x = sym (is d None (there column d x at)) ∙ at in cc)
-
 pub small_of : (o : Option ℕ) → ((x : ℕ) → o ≡ Some x → x < 2 ^ 64) → IfSome o (λ x. x < 2 ^ 64)
 small_of None h = tt
 small_of (Some x) h = h x refl
@@ -262,13 +255,6 @@ open_hits documents field lower upper low high =
 pub kind_of : (o : Option Kind) (f : Kind → Bool) → option_map_or f o false ≡ true → (kind : Kind) × (o ≡ Some kind) × (f kind ≡ true)
 kind_of None f h = absurd (false≢true h)
 kind_of (Some kind) f h = (kind, refl, h)
-
--- a kind whose values have an order, and are no numbers, is that of keywords
-pub keyword_kind : (kind : Kind) → is_ordered kind ≡ true → holds_numbers kind ≡ false → kind ≡ kinds.Keyword
-keyword_kind kinds.Text ordered other = absurd (false≢true ordered)
-keyword_kind kinds.Keyword ordered other = refl
-keyword_kind kinds.U64 ordered other = absurd (false≢true (sym other))
-keyword_kind kinds.I64 ordered other = absurd (false≢true (sym other))
 
 -- what a range over documents is to their column
 pub record Bounded (segment : SegmentValue) (field : ℕ) (lower upper : Bound FieldValue) : Type 0 where

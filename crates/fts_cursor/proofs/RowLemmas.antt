@@ -2,8 +2,7 @@
 use Rattle.std.proofs.Common.{◌≡◌, ◌≢◌, ℕ, suc, ◌+◌, ◌-◌, ◌*◌, ◌^◌, ◌<◌, ◌≤◌, Bool, false, List, [], ◌++◌, length, min, get_or, set, count_ones, refl, sym, ap}
 use Rattle.std.proofs.Common.{◌∙◌, inl, inr, arith}
 use Rattle.std.proofs.lemmas.Bool.{cases_lt}
-use Rattle.std.proofs.lemmas.List.{append-nil, get_or-set_other, length-append, length-set}
-use Rattle.std.proofs.lemmas.Grind.{get_or-set_at}
+use Rattle.std.proofs.lemmas.List.{append-nil, length-append}
 use Rattle.fts_cursor.specs.Dense.{Tells}
 use Rattle.fts_postings.specs.Windows.{is_marked, passing}
 use Rattle.fts_postings.proofs.PassingLemmas.{passing-append}
@@ -15,23 +14,6 @@ pub record MadeUpTo (f : ℕ → ℕ → ℕ) (old row : List ℕ) (place : ℕ)
   pub done : (k : ℕ) → k < place → get_or row k 0 ≡ f k (get_or old k 0)
   pub left : (k : ℕ) → place ≤ k → get_or row k 0 ≡ get_or old k 0
   pub long : length row ≡ length old
-
-pub MadeUpTo-none : (f : ℕ → ℕ → ℕ) (old : List ℕ) → MadeUpTo f old old 0
-MadeUpTo-none f old = record { done = λ k low. absurd (omega (arith, low)); left = λ k up. refl; long = refl }
-
-pub MadeUpTo-more : (f : ℕ → ℕ → ℕ) (old row : List ℕ) (place v : ℕ) → MadeUpTo f old row place → place < length row → v ≡ f place (get_or row place 0) →
-    MadeUpTo f old (set row place v) (place + 1)
-MadeUpTo-more f old row place v h inside is = record {
-  done = λ k low. elim (cases_lt k place) [
-    | inl below ↦ let other : k ≢ place = omega (arith, below) in get_or-set_other row place k v 0 other ∙ h.done k below
-    | inr up ↦ (
-        let at : k ≡ place = omega (arith, low, up) in
-        get_or-set_at row place k v 0 at inside ∙ is ∙ ap (f place) (h.left place (omega arith)) ∙ ap (λ j. f j (get_or old j 0)) (sym at)
-        )
-  ];
-  left = λ k up. let other : k ≢ place = omega (arith, up) in get_or-set_other row place k v 0 other ∙ h.left k (omega (arith, up));
-  long = length-set row place v ∙ h.long;
-}
 
 -- a word has what 64 documents have
 pub length-word : (test : ℕ → Bool) (from word : ℕ) → Tells test from word → word < 2 ^ 64 → length (passing test from 64) ≡ count_ones word

@@ -27,9 +27,6 @@ pub record KeptUpTo (p : ℕ → Bool) (from : ℕ) (out : List ℕ) (place coun
   pub size : count ≡ length (passing p from place)
   pub behind : count ≤ place
 
-pub KeptUpTo-none : (p : ℕ → Bool) (from : ℕ) (out : List ℕ) → KeptUpTo p from out 0 0
-KeptUpTo-none p from out = record { front = refl; size = refl; behind = omega arith }
-
 one : (p : ℕ → Bool) (from place : ℕ) (b : Bool) → p (from + place) ≡ b → passing p from (place + 1) ≡ passing p from place ++ cond b ((from + place) ∷ []) []
 one p from place b is = passing-append p from place 1 ∙ ap (λ b. passing p from place ++ cond b ((from + place) ∷ []) []) is
 

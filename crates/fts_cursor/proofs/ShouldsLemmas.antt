@@ -20,13 +20,6 @@ use Rattle.fts_cursor.specs.Shoulds.{AreShoulds}
 use Rattle.fts_cursor.specs.TreeValues.{TreeValue, all_most, remains}
 use Rattle.fts_cursor.proofs.HitsLemmas.{hits_of, same_members}
 
-pub AreShoulds-none : (segment : SegmentValue) → AreShoulds segment [] [] []
-AreShoulds-none segment = record {
-  same = λ d. refl;
-  few = All-nil (λ (b : Bor (List Bool)). length b.now ≤ 2 ^ 32);
-  most = omega arith;
-}
-
 -- one query more
 hits_with : (segment : SegmentValue) (qs : List Query) (q : Query) (d : ℕ) →
     in_some (map (hits_of segment) (qs ++ q ∷ [])) d ≡ (in_some (map (hits_of segment) qs) d || has (hits_of segment q) d)

@@ -29,9 +29,6 @@ use Rattle.fts_postings.proofs.SetLemmas.{is_itself}
 use Rattle.fts_cursor.proofs.HitsLemmas.{Rises-numbers, at_all, has-all, hits_of, in_all-hits, has-filter, has-range, past-range, same_members}
 use Rattle.fts_cursor.proofs.LeadingLemmas.{IsConjoinedOver, all_hits, led_hits}
 
-pub IsSplit-none : IsSplit [] [] [] 0
-IsSplit-none = record { same = λ d. refl; count = refl; few = omega arith; enters = λ d h. omega arith }
-
 and_in : (a b c : Bool) → ((a && b) && (c && true)) ≡ ((a && (c && true)) && b)
 and_in true true true = refl
 and_in true true false = refl
@@ -94,11 +91,6 @@ told_one : (a b c : Bool) → ((((a || false) && b)) && true) ≡ (a && b)
 told_one true true c = refl
 told_one true false c = refl
 told_one false b c = refl
-
-told_twice : (a b : Bool) → (((a || false) && (a && b)) && true) ≡ (a && b)
-told_twice true true = refl
-told_twice true false = refl
-told_twice false b = refl
 
 -- by words: all lists have bits
 module _ (shortest : List ℕ) (lists : List (List ℕ)) (first : Bor (List Bool)) (bits : List (Bor (List Bool))) (opened one : ℕ) (rises : Rises 0 shortest)
@@ -204,12 +196,6 @@ all_three (Err e) P Q R S f p q r = tt
 pub both_of : {X Y : Type 0} (r : Result X Y) (P Q R : X → Type 0) → ((x : X) → P x → Q x → R x) → IfOk r P → IfOk r Q → IfOk r R
 both_of (Ok x) P Q R f p q = f x p q
 both_of (Err e) P Q R f p q = tt
-
--- by words: one of the lists has it
-or_behind : (a b : Bool) → ((a || (b || false)) ≡ (a || b))
-or_behind true b = refl
-or_behind false true = refl
-or_behind false false = refl
 
 pub AreToldBy-none : AreToldBy [] []
 AreToldBy-none = record { same = λ d. refl; each = λ d. refl; count = refl; few = All-nil (λ (b : Bor (List Bool)). length b.now ≤ 2 ^ 32) }

@@ -3,7 +3,6 @@ use Rattle.std.proofs.Common.{◌≡◌, ◌≢◌, false, Some, None, List, [],
 use Rattle.std.specs.Prelude.{◌⊎◌}
 use Rattle.std.specs.List.{slice_get}
 use Rattle.std.specs.Option.{option_map_or}
-use Rattle.std.proofs.Math.Bool.{or-false}
 use Rattle.fts_model.specs.Documents.{DocumentValue}
 use Rattle.fts_model.specs.Queries.{matches}
 use Rattle.fts_model.specs.QueryValues.{QueryValue, QueryValues, every, nothing, term, phrase, range, boolean, no_queries, queries, query_list, query_value}
@@ -13,49 +12,10 @@ use Rattle.fts_model.specs.declared.operation.Term.{Term}
 use Rattle.fts_segment.specs.Segments.{SegmentValue}
 use Rattle.fts_cursor.specs.Builds.{only_term_in, term_in}
 use Rattle.fts_cursor.specs.Hits.{segment_hits}
-use Rattle.fts_cursor.proofs.HitsLemmas.{Rises-numbers, has-all, numbers_are}
 
 -- a Boolean query whose only member is this term as a should
 abbrev alone : Term → QueryValue
 alone t = boolean no_queries no_queries (queries (term t) no_queries)
-
-only_is : (qs : QueryValues) (t : Term) → only_term_in qs ≡ Some t → qs ≡ queries (term t) no_queries
-only_is no_queries t is = absurd (cc)
-only_is (queries (term u) no_queries) t is = (let same : u ≡ t = cc in ap (λ v. queries (term v) no_queries) same)
-only_is (queries (term u) (queries q qs)) t is = absurd (cc)
-only_is (queries every qs) t is = absurd (cc)
-only_is (queries nothing qs) t is = absurd (cc)
-only_is (queries (phrase field pattern) qs) t is = absurd (cc)
-only_is (queries (range field lower upper) qs) t is = absurd (cc)
-only_is (queries (boolean must must_not should) qs) t is = absurd (cc)
-
-term_is : (query : QueryValue) (t : Term) → term_in query ≡ Some t → (query ≡ term t) ⊎ (query ≡ alone t)
-term_is (term u) t is = inl (let same : u ≡ t = cc in ap term same)
-term_is (boolean no_queries no_queries should) t is = inr (ap (boolean no_queries no_queries) (only_is should t is))
-term_is (boolean no_queries (queries q qs) should) t is = absurd (cc)
-term_is (boolean (queries q qs) must_not should) t is = absurd (cc)
-term_is every t is = absurd (cc)
-term_is nothing t is = absurd (cc)
-term_is (phrase field pattern) t is = absurd (cc)
-term_is (range field lower upper) t is = absurd (cc)
-
--- they find the documents with the term
-alone_hits : (segment : SegmentValue) (t : Term) → segment_hits segment (alone t) ≡ segment_hits segment (term t)
-alone_hits segment t =
-    let documents = segment.documents in
-    let here = λ (d : Stamped DocumentValue). matches segment.schema d.value (alone t) in
-    let there = λ (d : Stamped DocumentValue). matches segment.schema d.value (term t) in
-    numbers_are there documents (segment_hits segment (alone t)) (Rises-numbers here 0 documents)
-    (λ d. has-all here documents d ∙ elim (slice_get documents d) as (λ s. option_map_or here s false ≡ option_map_or there s false) [
-      | None ↦ refl
-      | Some e ↦ or-false (there e)
-    ])
-
-pub term_hits : (segment : SegmentValue) (query : QueryValue) (t : Term) → term_in query ≡ Some t → segment_hits segment query ≡ segment_hits segment (term t)
-term_hits segment query t is = elim (term_is query t is) [
-  | inl e ↦ ap (segment_hits segment) e
-  | inr e ↦ ap (segment_hits segment) e ∙ alone_hits segment t
-]
 
 -- where there isn't one query alone, or there are musts or must-nots, there is no term
 two_values : (q r : QueryValue) (qs : QueryValues) → only_term_in (queries q (queries r qs)) ≡ None

@@ -9,7 +9,7 @@ use Rattle.std.proofs.lemmas.Bool.{cases_lt, le-ltb, lt-ltb}
 use Rattle.std.proofs.lemmas.List.{get_or_past}
 use Rattle.std.proofs.lemmas.List.Folds.{list_any-append}
 use Rattle.std.proofs.lemmas.Option.{slice_get_past}
-use Rattle.std.proofs.Math.Bool.{or-false, or_assoc}
+use Rattle.std.proofs.Math.Bool.{or-false}
 use Rattle.fts_model.specs.declared.operation.Stamped.{Stamped}
 use Rattle.fts_model.specs.declared.query.Query.{Query}
 use Rattle.fts_model.specs.Documents.{DocumentValue}
@@ -19,13 +19,12 @@ use Rattle.fts_postings.specs.Sets.{has, in_all, in_some, lacks, union}
 use Rattle.fts_postings.specs.Windows.{passing}
 use Rattle.fts_postings.proofs.PassingLemmas.{Rises-passing}
 use Rattle.fts_postings.proofs.SetLemmas.{Rises-filter}
-use Rattle.fts_postings.proofs.UnionLemmas.{has-union, in_some-append}
+use Rattle.fts_postings.proofs.UnionLemmas.{has-union}
 use Rattle.fts_cursor.specs.declared.doc_test.DocTest.{DocTest}
 use Rattle.fts_cursor.specs.Hits.{is_live, live_hits, segment_hits}
 use Rattle.fts_cursor.specs.Tests.{HasMore, hits_of_each, is_kept, is_told, passes, passes_each, passes_one}
 use Rattle.fts_cursor.proofs.BoolHits.{IsBool, all_kept, bool_apart, bool_kept, kept_by, should_hits}
 use Rattle.fts_cursor.proofs.HitsLemmas.{Rises-hits, at_true, has-all, has-filter, has-range, hits_common, hits_of, past-range, same_members}
-use Rattle.fts_cursor.proofs.SplitLemmas.{hits_more}
 
 -- one test more
 pub HasMore-one : (test : ℕ → Bool) (tests : List DocTest) (t : DocTest) → ((d : ℕ) → passes t d ≡ test d) → HasMore test tests (tests ++ t ∷ [])
@@ -43,16 +42,6 @@ first_hits segment d =
       | inl inside ↦ sym (at_true segment.documents d inside) ∙ sym (lt-ltb d (length segment.documents) inside)
       | inr past ↦ ap (λ s. option_map_or p s false) (slice_get_past segment.documents d past) ∙ sym (le-ltb d (length segment.documents) past)
     ])
-
--- the tests of one query more
-pub HasMore-more : (segment : SegmentValue) (queries : List Query) (i : ℕ) (q : Query) (old now new : List DocTest) → i < length queries →
-    q ≡ get_or queries i q →
-    HasMore (in_some (hits_of_each segment (take i queries))) old now → HasMore (has (hits_of segment q)) now new →
-    HasMore (in_some (hits_of_each segment (take (i + 1) queries))) old new
-HasMore-more segment queries i q old now new inside is first second d =
-    let lists = hits_of_each segment (take i queries) in
-    second d ∙ ap (λ b. b || has (hits_of segment q) d) (first d) ∙ or_assoc (passes_one old d) (in_some lists d) (has (hits_of segment q) d)
-    ∙ ap (λ b. passes_one old d || b) (sym (in_some-append lists (hits_of segment q) d) ∙ ap (λ ls. in_some ls d) (hits_more segment queries i q inside is))
 
 -- a Boolean query with shoulds alone
 pub shoulds_are : (segment : SegmentValue) (query : Query) (must must_not should : List Query) → IsBool segment query must must_not should → must ≡ [] →

@@ -238,9 +238,6 @@ pub all_most-more : (parts : List TreeValue) (index : ℕ) (d : TreeValue) → i
     all_most (take (index + 1) parts) ≡ all_most (take index parts) + most_at (get_or parts index d).bound None
 all_most-more parts index d inside = ap (λ n. all_most (take n parts)) (add-one index) ∙ most-suc parts index d inside
 
-pub Walked-same : (s : Standing) → Walked s s
-Walked-same s = record { continues = record { bound = refl; list = refl; more = omega arith }; whole = λ h. h }
-
 pub Walked-trans : (s t u : Standing) → Walked s t → Walked t u → Walked s u
 Walked-trans s t u h k = record {
   continues = record {

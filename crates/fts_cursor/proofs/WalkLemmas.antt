@@ -91,14 +91,6 @@ sought-first position first old later h le =
 pub sought-end : (position : ℕ) (old : List ℕ) → Sought position old [] → Found position old [] false
 sought-end position old h = record { found_is = has-same position [] old h.same; left = h.same }
 
-same_sum : (q offset sum wanted : ℕ) → wanted + offset ≡ sum → (q + offset == sum) ≡ (q == wanted)
-same_sum q offset sum wanted is = grind (arith, nat_tests)
-
--- a position that makes a sum with an offset
-pub any-sum : (offset sum wanted : ℕ) (qs : List ℕ) → wanted + offset ≡ sum → list_any (λ q. q + offset == sum) qs ≡ has qs wanted
-any-sum offset sum wanted [] is = refl
-any-sum offset sum wanted (q ∷ qs) is = ap₂ (λ a b. a || b) (same_sum q offset sum wanted is) (any-sum offset sum wanted qs is)
-
 no_sum : (q offset sum : ℕ) → sum < offset → (q + offset == sum) ≡ false
 no_sum q offset sum below = grind (arith, nat_tests)
 

@@ -4,7 +4,7 @@ use Rattle.std.proofs.Common.{AllPairs, map, filter, length, drop, get_or, slice
 use Rattle.std.specs.List.{enumerate_from, list_any, sum_by}
 use Rattle.std.proofs.lemmas.Bool.Decides.{nat_tests}
 use Rattle.std.proofs.lemmas.Grind.{flat_map-append}
-use Rattle.std.proofs.lemmas.List.{append_assoc, append-nil, length-map}
+use Rattle.std.proofs.lemmas.List.{append-nil, length-map}
 use Rattle.std.proofs.lemmas.List.Elements.{All-nil, All-cons, All-append}
 use Rattle.std.proofs.lemmas.List.Folds.{list_any-append}
 use Rattle.std.proofs.lemmas.List.Sums.{sum_by-cons, sum_by-append}
@@ -12,7 +12,6 @@ use Rattle.fts_merge.specs.declared.merge_policy.MergePolicy.{MergePolicy}
 use Rattle.fts_merge.specs.declared.merge_policy.SegmentSize.{SegmentSize}
 use Rattle.fts_merge.specs.Levels.{is_mostly_dead, is_named, alone, together, live_sizes, candidates, candidates_by, usual}
 use Rattle.fts_merge.proofs.CandidatesLemmas.{named, once, pairs_apart, together-sum, together-within}
-use Rattle.fts_segment.proofs.SourceLemmas.{dropped}
 
 -- a segment is a candidate of its own
 abbrev pub is_alone : ℕ → List (List ℕ) → ℕ × SegmentSize → Bool
@@ -30,25 +29,6 @@ alone-cons percent found n s ss =
     let one : ℕ × SegmentSize → List ℕ = λ s. s.0 ∷ [] in
     elim (is_alone percent found (n, s)) as (λ b. map one (cond b ((n, s) ∷ rest) rest) ≡ cond b ((n ∷ []) ∷ map one rest) (map one rest))
     [ true ↦ refl | false ↦ refl ]
-
--- one more segment is a candidate of its own
-pub alone-more : (percent : ℕ) (found done all : List (List ℕ)) (ss : List SegmentSize) (i : ℕ) (s : SegmentSize) → i < length ss → s ≡ get_or ss i s →
-    is_alone percent found (i, s) ≡ true →
-    done ++ alone_from percent found i (drop i ss) ≡ all → (done ++ (i ∷ []) ∷ []) ++ alone_from percent found (i + 1) (drop (i + 1) ss) ≡ all
-alone-more percent found done all ss i s h e is old =
-    let rest = alone_from percent found (i + 1) (drop (i + 1) ss) in
-    append_assoc done ((i ∷ []) ∷ []) rest
-    ∙ ap (λ cs. done ++ cs) (sym (ap (alone_from percent found i) (dropped ss i s h e) ∙ alone-cons percent found i s (drop (i + 1) ss)
-    ∙ ap (λ b. cond b ((i ∷ []) ∷ rest) rest) is)) ∙ old
-
--- one more segment is no candidate of its own
-pub alone-less : (percent : ℕ) (found done all : List (List ℕ)) (ss : List SegmentSize) (i : ℕ) (s : SegmentSize) → i < length ss → s ≡ get_or ss i s →
-    is_alone percent found (i, s) ≡ false →
-    done ++ alone_from percent found i (drop i ss) ≡ all → done ++ alone_from percent found (i + 1) (drop (i + 1) ss) ≡ all
-alone-less percent found done all ss i s h e is old =
-    let rest = alone_from percent found (i + 1) (drop (i + 1) ss) in
-    ap (λ cs. done ++ cs) (sym (ap (alone_from percent found i) (dropped ss i s h e) ∙ alone-cons percent found i s (drop (i + 1) ss)
-    ∙ ap (λ b. cond b ((i ∷ []) ∷ rest) rest) is)) ∙ old
 
 -- a test of some list of indexes
 pub named_in : {X : Type 0} (items : X → List ℕ) (p : List ℕ → Bool) (xs : List X) → list_any (λ x. p (items x)) xs ≡ list_any p (map items xs)

@@ -42,10 +42,6 @@ length-bits_where p [] bits e = refl
 length-bits_where p (x ∷ xs) [] e = absurd (omega (arith, e))
 length-bits_where p (x ∷ xs) (bit ∷ bits) e = omega (arith, length-bits_where p xs bits (omega (arith, e)))
 
-or_moved : (a b c : Bool) → (a || (b || c)) ≡ ((a || b) || c)
-or_moved true b c = refl
-or_moved false b c = refl
-
 pub not_or : (a b : Bool) → not (a || b) ≡ (not a && not b)
 not_or true b = refl
 not_or false b = refl

@@ -24,27 +24,6 @@ considered-cons p n size sizes =
     elim (nat_le size p.most) as (λ b. map (as_counted p.floor) (cond b ((n, size) ∷ rest) rest)
     ≡ cond b (as_counted p.floor (n, size) ∷ considered_from p (n + 1) sizes) (considered_from p (n + 1) sizes)) [ true ↦ refl | false ↦ refl ]
 
--- one more size is considered
-pub considered-more : (p : MergePolicy) (done all : List LevelSize) (sizes : List ℕ) (i size : ℕ) → i < length sizes → size ≡ get_or sizes i size →
-    size ≤ p.most →
-    done ++ considered_from p i (drop i sizes) ≡ all → (done ++ as_counted p.floor (i, size) ∷ []) ++ considered_from p (i + 1) (drop (i + 1) sizes) ≡ all
-considered-more p done all sizes i size h e small old =
-    let is : nat_le size p.most ≡ true = grind (arith, nat_tests) in
-    let rest = considered_from p (i + 1) (drop (i + 1) sizes) in
-    append_assoc done (as_counted p.floor (i, size) ∷ []) rest
-    ∙ ap (λ cs. done ++ cs) (sym (ap (considered_from p i) (dropped sizes i size h e) ∙ considered-cons p i size (drop (i + 1) sizes)
-    ∙ ap (λ b. cond b (as_counted p.floor (i, size) ∷ rest) rest) is)) ∙ old
-
--- one more size is too large
-pub considered-less : (p : MergePolicy) (done all : List LevelSize) (sizes : List ℕ) (i size : ℕ) → i < length sizes → size ≡ get_or sizes i size →
-    p.most < size →
-    done ++ considered_from p i (drop i sizes) ≡ all → done ++ considered_from p (i + 1) (drop (i + 1) sizes) ≡ all
-considered-less p done all sizes i size h e great old =
-    let is : nat_le size p.most ≡ false = grind (arith, nat_tests) in
-    let rest = considered_from p (i + 1) (drop (i + 1) sizes) in
-    ap (λ cs. done ++ cs) (sym (ap (considered_from p i) (dropped sizes i size h e) ∙ considered-cons p i size (drop (i + 1) sizes)
-    ∙ ap (λ b. cond b (as_counted p.floor (i, size) ∷ rest) rest) is)) ∙ old
-
 -- sizes raised to the floor are at most the maximum
 pub considered-within : (p : MergePolicy) (n : ℕ) (sizes : List ℕ) → p.floor ≤ most_merged → p.most ≤ most_merged →
     All (λ c. c.size ≤ most_merged) (considered_from p n sizes)

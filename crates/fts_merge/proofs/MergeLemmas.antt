@@ -2,8 +2,7 @@
 use Rattle.std.proofs.Common.{◌≡◌, ◌+◌, ◌<◌, ◌≤◌, ℕ, Bool, true, false, cond, List, [], ◌∷◌, ◌++◌, Some, map, length, count_by, drop, get_or, refl, sym, ap}
 use Rattle.std.proofs.Common.{ap₂, ◌∙◌}
 use Rattle.std.specs.Prelude.{slice_get}
-use Rattle.std.proofs.lemmas.List.{append_assoc, drop_all}
-use Rattle.std.proofs.lemmas.List.Sums.{sum_by-cons}
+use Rattle.std.proofs.lemmas.List.{append_assoc}
 use Rattle.fts_segment.specs.Segments.{SegmentValue, numbers_where}
 use Rattle.fts_segment.specs.Sources.{SourceValue, joined_segment, live_count}
 use Rattle.fts_segment.proofs.MovingLemmas.{dropped_at}
@@ -15,13 +14,6 @@ use Rattle.fts_segment.proofs.HoldingLemmas.{numbers_where-cons}
 -- the number of set bits of a source
 abbrev pub count_of : SourceValue → ℕ
 count_of source = count_by (λ bit. bit) source.live
-
-pub live_count-dropped : (ss : List SourceValue) (i : ℕ) (s : SourceValue) → i < length ss → s ≡ get_or ss i s →
-    live_count (drop i ss) ≡ count_of s + live_count (drop (i + 1) ss)
-live_count-dropped ss i s h e = ap live_count (dropped ss i s h e) ∙ sum_by-cons count_of s (drop (i + 1) ss)
-
-pub live_count-end : (ss : List SourceValue) (i : ℕ) → length ss ≤ i → live_count (drop i ss) ≡ 0
-live_count-end ss i h = ap live_count (drop_all i ss h)
 
 -- the origins of the documents from a number
 abbrev pub origins_behind : ℕ → ℕ → List Bool → List Origin

@@ -16,19 +16,19 @@
 //! ```
 #![tactic(auto)]
 
-mod live_strike;
 pub mod laws;
+mod live_strike;
 mod merge_plan;
-mod term_delete;
-mod segment_merge;
-mod origin;
-mod merged;
 mod merge_policy;
+mod merged;
+mod origin;
+mod segment_merge;
+mod term_delete;
 
-pub use live_strike::strike;
 pub use fts_segment::LiveSegment;
+pub use live_strike::strike;
 pub use merge_plan::{plan, plan_by};
-pub use segment_merge::merge;
-pub use origin::Origin;
-pub use merged::Merged;
 pub use merge_policy::{MergePolicy, SegmentSize};
+pub use merged::Merged;
+pub use origin::Origin;
+pub use segment_merge::merge;

@@ -4,7 +4,7 @@ ghost use Rattle.fts_merge.specs.Strikes.{bits_where, bits_after};
 ghost use Rattle.fts_merge.specs.Internals.Deletes.{bound_by, bound_of, IsFound, strikes_found, survives_found};
 ghost use Rattle.fts_merge.specs.Internals.Deletes.{cleared};
 
-use crate::term_delete::{TermDelete, term_deletes, is_covered, compare_deletes};
+use crate::term_delete::{TermDelete, compare_deletes, is_covered, term_deletes};
 use fts_model::{Op, Refusal, Stamp, Stamped};
 use fts_pack::Blocks;
 use fts_pack::bits::Bits;

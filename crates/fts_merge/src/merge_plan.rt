@@ -21,7 +21,11 @@ pub(crate) struct LevelSize {
 }
 
 /// Sizes up to the policy's maximum, raised to its floor, each with its index.
-fn considered(alloc: Global, policy: MergePolicy, sizes: &[u32]) -> Result<Vec<LevelSize>, AllocError>
+fn considered(
+    alloc: Global,
+    policy: MergePolicy,
+    sizes: &[u32],
+) -> Result<Vec<LevelSize>, AllocError>
     ensures { IfOk result (λ counted. counted.items ≡ considered policy sizes.now) }
 {
     let mut counted = Vec::new(alloc);

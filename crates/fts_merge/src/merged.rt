@@ -72,17 +72,4 @@ impl Merged {
     {
         self.sources
     }
-
-    /// The segment alone.
-    pub fn into_segment(self) -> Segment
-        ensures { result ≡ self.segment }
-    {
-        let Merged {
-            segment,
-            origins,
-            sources: _,
-        } = self;
-        release(origins);
-        segment
-    }
 }

@@ -6,8 +6,8 @@ ghost use Rattle.fts_model.specs.Limits.{most_merged};
 ghost use Rattle.fts_merge.specs.Merges.{merge_of, origins_in, origins_from};
 ghost use Rattle.fts_segment.specs.Sources.{HasBits, live_count, AreOfOneSchema};
 
-use crate::origin::Origin;
 use crate::merged::Merged;
+use crate::origin::Origin;
 use fts_model::{MOST_MERGED, Refusal};
 use fts_pack::bits::Bits;
 use fts_segment::{LiveSegment, join};

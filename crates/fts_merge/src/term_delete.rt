@@ -112,56 +112,11 @@ fn order_of_terms(term: &Term, other: &Term) -> Ordering {
     })
 }
 
-/// Whether two numbers are one.
-fn is_same_number(number: Number, other: Number) -> bool
-    ensures { result ≡ true → number ≡ other }
-{
-    match number {
-        Number::U64(number) => match other {
-            Number::U64(other) => number == other,
-            Number::I64(_) => false,
-        },
-        Number::I64(number) => match other {
-            Number::I64(other) => number == other,
-            Number::U64(_) => false,
-        },
-    }
-}
-
-/// Whether two texts are one.
-fn is_same_text(text: &Text, other: &Text) -> bool
-    ensures { result ≡ true → text.now ≡ other.now }
-{
-    text.as_str() == other.as_str()
-}
-
-/// Whether two values are one. A list of texts is no term, and is told from all.
-fn is_same_value(value: &FieldValue, other: &FieldValue) -> bool
-    ensures { result ≡ true → value.now ≡ other.now }
-{
-    match value {
-        FieldValue::Text(text) => match other {
-            FieldValue::Text(other) => is_same_text(text, other),
-            FieldValue::Texts(_) => false,
-            FieldValue::Number(_) => false,
-        },
-        FieldValue::Number(number) => match other {
-            FieldValue::Number(other) => is_same_number(*number, *other),
-            FieldValue::Text(_) => false,
-            FieldValue::Texts(_) => false,
-        },
-        FieldValue::Texts(_) => false,
-    }
-}
-
-/// Whether two terms are one.
+/// Whether two terms are equal.
 fn is_same(term: &Term, other: &Term) -> bool
     ensures { result ≡ true → term.now ≡ other.now }
 {
-    if term.field != other.field {
-        return false;
-    }
-    is_same_value(&term.value, &other.value)
+    term == other
 }
 
 /// Whether a delete applies to each document that another one applies to: it has the same term, and isn't earlier.

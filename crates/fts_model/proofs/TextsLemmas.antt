@@ -43,11 +43,3 @@ pub pointwise-step : (xs ys : List (List ℕ)) (n : ℕ) → n < length xs → n
     pointwise bytes_eq (drop n xs) (drop n ys) ≡ bytes_eq (get_or xs n []) (get_or ys n []) && pointwise bytes_eq (drop (n + 1) xs) (drop (n + 1) ys)
 pointwise-step xs ys n h l = ap (λ us. pointwise bytes_eq us (drop n ys)) (drop_more xs n [] h) ∙ ap (pointwise bytes_eq (get_or xs n [] ∷ drop (n + 1) xs))
     (drop_more ys n [] l)
-
--- lists of different lengths differ
-pub pointwise-lengths : (xs ys : List (List ℕ)) → (length xs ≡ length ys → ⊥) → false ≡ pointwise bytes_eq xs ys
-pointwise-lengths [] [] h = absurd (h refl)
-pointwise-lengths [] (y ∷ ys) h = refl
-pointwise-lengths (x ∷ xs) [] h = refl
-pointwise-lengths (x ∷ xs) (y ∷ ys) h =
-    elim (bytes_eq x y) as (λ b. false ≡ b && pointwise bytes_eq xs ys) [ true ↦ pointwise-lengths xs ys (λ e. h (ap suc e)) | false ↦ refl ]

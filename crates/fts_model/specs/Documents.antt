@@ -22,6 +22,7 @@ use Rattle.fts_model.specs.declared.schema.Field.{Field}
 use Rattle.fts_model.specs.declared.value.FieldValue.{FieldValue}
 use Rattle.fts_model.specs.declared.value.FieldValue.TheVariants as values
 use Rattle.fts_base.specs.Results.{value_if_ok, error_if_err, ok_unless, first_of}
+use Rattle.fts_model.specs.Limits.{longest_keyword, longest_text, most_texts}
 use Rattle.fts_model.specs.Schemas.{schema_fault, is_named}
 
 -- a document: the fields of its schema, and a value or none for each
@@ -50,8 +51,9 @@ is_of_kind kinds.I64 value = is_term_of kinds.I64 value
 
 -- the value of a field of this kind for a JSON string: a text of at most 1,048,576 bytes, or a keyword of at most 256
 abbrev pub text_in : Kind → List ℕ → Result (Option FieldValue) Refusal
-text_in kinds.Text text = if nat_le (length text) 1048576 then Ok (Some (values.Text text)) else Err TextTooLong
-text_in kinds.Keyword text = if nat_le (length text) 256 then Ok (Some (values.Text text)) else Err KeywordTooLong
+text_in kinds.Text text = if nat_le (length text) longest_text then Ok (Some (values.Text text)) else Err TextTooLong
+text_in kinds.Keyword text =
+    if nat_le (length text) longest_keyword then Ok (Some (values.Text text)) else Err KeywordTooLong
 text_in kinds.U64 text = Err WrongKind
 text_in kinds.I64 text = Err WrongKind
 
@@ -80,8 +82,8 @@ some_texts (text ∷ texts) = Some (values.Texts (text ∷ texts))
 -- the value of a text field for a list of texts: at most 1,024 texts, of at most 1,048,576 bytes together
 abbrev pub texts_in : List (List ℕ) → Result (Option FieldValue) Refusal
 texts_in texts =
-    if nat_lt 1024 (length texts) then Err TooManyTexts
-    else if nat_le (bytes_of texts) 1048576 then Ok (some_texts texts) else Err TextTooLong
+    if nat_lt most_texts (length texts) then Err TooManyTexts
+    else if nat_le (bytes_of texts) longest_text then Ok (some_texts texts) else Err TextTooLong
 
 -- the value of a field of this kind for a JSON array
 abbrev pub list_in : Kind → Option (List (List ℕ)) → Result (Option FieldValue) Refusal
@@ -169,11 +171,11 @@ fits_i64 (negsuc n) = nat_lt n (2 ^ 63)
 
 -- whether a field of this kind can have the value
 abbrev pub is_value_of : Kind → FieldValue → Bool
-is_value_of kinds.Text (values.Text text) = nat_le (length text) 1048576
+is_value_of kinds.Text (values.Text text) = nat_le (length text) longest_text
 is_value_of kinds.Text (values.Texts []) = false
 is_value_of kinds.Text (values.Texts (text ∷ texts)) =
-    not (nat_lt 1024 (length (text ∷ texts))) && nat_le (bytes_of (text ∷ texts)) 1048576
-is_value_of kinds.Keyword (values.Text text) = nat_le (length text) 256
+    not (nat_lt most_texts (length (text ∷ texts))) && nat_le (bytes_of (text ∷ texts)) longest_text
+is_value_of kinds.Keyword (values.Text text) = nat_le (length text) longest_keyword
 is_value_of kinds.U64 (values.Number (numbers.U64 n)) = nat_lt n (2 ^ 64)
 is_value_of kinds.I64 (values.Number (numbers.I64 z)) = fits_i64 z
 is_value_of kinds.Text value = false

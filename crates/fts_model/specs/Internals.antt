@@ -1,4 +1,4 @@
 -- Definitions of the layout of private types; public contracts name none of them.
-pub mod Stored
+pub mod DocumentData
 pub mod Joined
 pub mod Lists

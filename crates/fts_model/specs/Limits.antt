@@ -1,5 +1,17 @@
--- The greatest numbers of documents of a segment.
+-- How long values are at most, and how many documents a segment has.
 use Rattle.std.specs.Prelude.{ℕ}
+
+-- the most bytes of a text, and of a list of texts together
+abbrev pub longest_text : ℕ
+longest_text = 1048576
+
+-- the most texts of a list
+abbrev pub most_texts : ℕ
+most_texts = 1024
+
+-- the most bytes of a keyword
+abbrev pub longest_keyword : ℕ
+longest_keyword = 256
 
 -- the most documents of a segment that is built of adds
 abbrev pub most_built : ℕ

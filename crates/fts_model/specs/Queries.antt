@@ -29,6 +29,13 @@ use Rattle.fts_model.specs.Operations.{has, kind_at, term_fits}
 use Rattle.fts_model.specs.QueryValues.{QueryValue, every, nothing, term, phrase, range, boolean, QueryValues}
 use Rattle.fts_model.specs.QueryValues.{no_queries, queries}
 
+-- A phrase occurs among tokens at some whole number, possibly below 0: each member of its pattern is a token whose
+-- position is that number plus the member's offset.
+abbrev pub PhraseIn : List (ℕ × List ℕ) → List (ℕ × List ℕ) → Type 0
+PhraseIn ts pattern =
+    (shift : ℤ) ×
+    All (λ m. (position : ℕ) × (pos position ≡ shift +ℤ pos m.0) × Contains ts (position, m.1)) pattern
+
 -- if one member of a pattern is a certain token, another member is a token as far after it as their offsets differ
 abbrev pub stands_with : List (ℕ × List ℕ) → ℕ × List ℕ → ℕ × List ℕ → ℕ × List ℕ → Bool
 stands_with ts member token other = list_any (λ t. (t.0 + member.0 == token.0 + other.0) && bytes_eq t.1 other.1) ts
@@ -37,17 +44,11 @@ stands_with ts member token other = list_any (λ t. (t.0 + member.0 == token.0 +
 abbrev pub leads : List (ℕ × List ℕ) → ℕ × List ℕ → List (ℕ × List ℕ) → ℕ × List ℕ → Bool
 leads ts first others token = bytes_eq token.1 first.1 && list_all (stands_with ts first token) others
 
--- a phrase occurs among tokens: some token is the first member of its pattern, and the others are at their offsets
+-- whether a phrase occurs among tokens: some token is the first member of its pattern, and the others are at their
+-- offsets. By the law `phrase_stands_at_its_offsets` this decides `PhraseIn`.
 abbrev pub phrase_in : List (ℕ × List ℕ) → List (ℕ × List ℕ) → Bool
 phrase_in ts [] = true
 phrase_in ts (first ∷ others) = list_any (leads ts first others) ts
-
--- a phrase occurs at some whole number, possibly below 0: each member is a token whose position is that number plus the
--- member's offset
-abbrev pub PhraseIn : List (ℕ × List ℕ) → List (ℕ × List ℕ) → Type 0
-PhraseIn ts pattern =
-    (shift : ℤ) ×
-    All (λ m. (position : ℕ) × (pos position ≡ shift +ℤ pos m.0) × Contains ts (position, m.1)) pattern
 
 -- a value contains a phrase
 abbrev pub value_has_phrase : List (ℕ × List ℕ) → FieldValue → Bool

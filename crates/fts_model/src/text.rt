@@ -29,13 +29,6 @@ impl Text {
         Text { string }
     }
 
-    /// The string that the text was made of, which isn't copied.
-    pub fn into_string(self) -> String
-        ensures { string_bytes result ≡ self }
-    {
-        self.string
-    }
-
     /// A borrowed view of the text.
     pub fn as_str(&self) -> &str
         ensures { result.now ≡ self.now }

@@ -5,8 +5,7 @@ use Rattle.std.proofs.Common.{mul-one, mod-eq_of_lt, suc-mul, lit<, cond, lt_of_
 use Rattle.std.proofs.lemmas.List.Folds.{sum_by-replicate}
 use Rattle.std.proofs.lemmas.List.Sums.{count_by-le-length, sum_by-cons, sum_by-set}
 use Rattle.std.specs.Int.{bit_at, w64}
-use Rattle.std.proofs.lemmas.Nat.{pow_pos, mod_below, shr_split, div-add-mod', pow-add, one_shl, pow_below, or_lt, and_le_l, mod_low, mod-pow-add, shr-shr}
-use Rattle.std.proofs.lemmas.Nat.{shl_whole, or_comm, or_shifted}
+use Rattle.std.proofs.lemmas.Nat.{pow_pos, mod_below, shr_split, div-add-mod', pow-add, one_shl, pow_below, or_lt, and_le_l, mod_low}
 use mir.Val.{bool_byte}
 use Rattle.std.proofs.lemmas.Nat.Bits.{same_from_bits, bit_at_above, bit_at_cat_low, bit_at_ones, bit_at-zero, bit_at_set_same, bit_at_set_other}
 use Rattle.std.proofs.lemmas.Nat.Bits.{bit_at_clear_same, bit_at_clear_other, shr_and_one, bit_at_lowest, bit_at-suc}
@@ -273,22 +272,6 @@ word_read len index words h =
     ∙ ap₂ (λ n b. n / 2 ^ b % 2 ^ 64) (number_of-flags len words h) turned
     ∙ ap (λ n. n % 2 ^ 64) at
     ∙ mod_low rest 64 (get_or words index 0) (h.fits index))
-
--- two adjacent words as one number
-pub words_side_by_side : (bits : List Bool) (start low high : ℕ) → low ≡ number_of (take 64 (drop start bits)) →
-    high ≡ number_of (take 64 (drop (start + 64) bits)) → bit_or low (high * 2 ^ 64 % 2 ^ 128) ≡ number_of (take 128 (drop start bits))
-words_side_by_side bits start low high low_is high_is =
-    let n = number_of bits in
-    let low' : low ≡ n / 2 ^ start % 2 ^ 64 = low_is ∙ number_of-part bits start 64 in
-    let high' : high ≡ n / 2 ^ start / 2 ^ 64 % 2 ^ 64 = high_is ∙ number_of-part bits (start + 64) 64 ∙ ap (λ m. m % 2 ^ 64) (sym (shr-shr n start 64)) in
-    let small : low < 2 ^ 64 = rw low' (mod_below (n / 2 ^ start) (2 ^ 64) (pow_pos 64)) in
-    let fits : high < 2 ^ 64 = rw high' (mod_below (n / 2 ^ start / 2 ^ 64) (2 ^ 64) (pow_pos 64)) in
-    ap (bit_or low) (shl_whole high 64 64 128 fits (omega arith))
-    ∙ or_comm low (high * 2 ^ 64)
-    ∙ or_shifted high 64 low small
-    ∙ ap₂ (λ a b. a * 2 ^ 64 + b) high' low'
-    ∙ sym (mod-pow-add (n / 2 ^ start) 64 64)
-    ∙ sym (number_of-part bits start 128)
 
 -- equal booleans are in equal words
 pub words-unique : (len : ℕ) (words others : List ℕ) → IsBits len words → IsBits len others →

@@ -107,13 +107,6 @@ block_taken values block end is =
       | inr long ↦ ap (λ n. take n rest) (let e : end - 128 * block ≡ 128 = omega (arith, is, size, long) in e)
     ]
 
--- if each value is at least some number, so is each of a block
-pub block_above : (values : List (Option ℕ)) (least block : ℕ) → All (λ v. IfSome v (λ x. least ≤ x)) values →
-    All (λ v. IfSome v (λ x. least ≤ x)) (block_of block values)
-block_above values least block h = λ k d inside.
-    let P : Option ℕ → Type 0 = λ v. IfSome v (λ x. least ≤ x) in
-    subst P (sym (in_block values block k d (omega (arith, length-block values block)))) (h (128 * block + k) d (omega (arith, length-block values block)))
-
 -- the offset ranges of the first blocks
 pub record AreFirstEnds (least : ℕ) (values : List (Option ℕ)) (count : ℕ) (ends : List (ℕ × ℕ)) : Type 0 where
   pub count_is : length ends ≡ count

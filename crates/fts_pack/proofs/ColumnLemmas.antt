@@ -3,8 +3,8 @@ use Rattle.std.proofs.Common.{◌≡◌, ℕ, zero, suc, ◌+◌, ◌-◌, ◌%�
 use Rattle.std.proofs.Common.{is_some, IfSome, All, Contains, map, replicate, length, get_or, take, drop, set, min, max, cond, refl, sym, ap, ap₂, ◌∙◌, subst}
 use Rattle.std.proofs.Common.{arith, unwrap_or, lit<, mod-eq_of_lt}
 use Rattle.std.specs.Option.{option_map_or}
-use Rattle.std.proofs.lemmas.List.{length-map, get_or-map, set_at, append_assoc, take_more, map_push, length-take-le, get_or_past, get_or_append_left}
-use Rattle.std.proofs.lemmas.List.{get_or-append_right, get_or-take, length-append}
+use Rattle.std.proofs.lemmas.List.{length-map, get_or-map, set_at, append_assoc, take_more, map_push, length-take-le, get_or_past}
+use Rattle.std.proofs.lemmas.List.{get_or-take}
 use Rattle.std.proofs.lemmas.List.Elements.{All-push, Contains-append_left, Contains-push}
 use Rattle.std.proofs.lemmas.Nat.{pow_pos}
 use Rattle.std.proofs.lemmas.Bool.{cases_lt}
@@ -139,15 +139,6 @@ spread_fits : (range : Option (ℕ × ℕ)) → IfSome range (λ r. r.1 < 2 ^ 64
 spread_fits None h = pow_pos 64
 spread_fits (Some range) h = omega (arith, h)
 
--- the least value is no greater than the greatest
-pub least_first : (values : List (Option ℕ)) (range : Option (ℕ × ℕ)) → IsRangeOf values range → (unwrap_or range (0, 0)).0 ≤ (unwrap_or range (0, 0)).1
-least_first values None h = omega arith
-least_first values (Some range) h =
-    let k = h.0.0 in
-    let bounds : IfSome (get_or values k (Some range.0)) (λ x. (range.0 ≤ x) × (x ≤ range.1)) = h.2 k (Some range.0) h.0.1 in
-    let at : IfSome (Some range.0) (λ x. (range.0 ≤ x) × (x ≤ range.1)) = subst (λ v. IfSome v (λ x. (range.0 ≤ x) × (x ≤ range.1))) h.0.2 bounds in
-    at.1
-
 -- a column's fields give back the packed values
 pub column_values : (values : List (Option ℕ)) (range : Option (ℕ × ℕ)) (present : List Bool) (width : ℕ) (words : List ℕ) → IsRangeOf values range →
     present ≡ map is_some values → spread_of range < 2 ^ width → words ≡ words_of 64 width (offsets (least_of range) values) →
@@ -166,13 +157,6 @@ pub length-values_at : (least : ℕ) (present : List Bool) (numbers : List ℕ) 
 length-values_at least [] numbers h = refl
 length-values_at least (bit ∷ present) [] h = absurd (omega (arith, h))
 length-values_at least (bit ∷ present) (x ∷ numbers) h = ap suc (length-values_at least present numbers (omega (arith, h)))
-
-pub get_or-values_at : (least : ℕ) (present : List Bool) (numbers : List ℕ) (i : ℕ) → length numbers ≡ length present → i < length present →
-    get_or (values_at least present numbers) i None ≡ cond (get_or present i false) (Some (least + get_or numbers i 0)) None
-get_or-values_at least [] numbers i h inside = absurd (omega arith)
-get_or-values_at least (bit ∷ present) [] i h inside = absurd (omega (arith, h))
-get_or-values_at least (bit ∷ present) (x ∷ numbers) zero h inside = refl
-get_or-values_at least (bit ∷ present) (x ∷ numbers) (suc i) h inside = get_or-values_at least present numbers i (omega (arith, h)) (omega (arith, inside))
 
 -- the presence bits of one more document
 pub presence_more : (values : List (Option ℕ)) (doc : ℕ) → doc < length values →
@@ -353,51 +337,3 @@ column_words values kept width words lanes h range other is wide =
     let same = range_unique values kept range h.range_is is in
     let one = width_unique (spread_of range ∷ []) width other (column_width values kept width words lanes h range is) wide in
     h.words_are ∙ ap₂ (λ w r. words_of 64 w (offsets (least_of r) values)) one same
-
-pub there_fits : (values : List (Option ℕ)) (range : Option (ℕ × ℕ)) (i x : ℕ) → IsRangeOf values range → IfSome range (λ r. r.1 < 2 ^ 64) → i < length values →
-    get_or values i None ≡ Some x → x < 2 ^ 64
-there_fits values None i x h fits inside at = absurd (none_is_some (get_or values i None) x (h i None inside) at)
-there_fits values (Some range) i x h fits inside at =
-    omega (arith, within_range values range i x h inside at, fits)
-
-presence-take : (count : ℕ) (values : List (Option ℕ)) → map is_some (take count values) ≡ take count (map is_some values)
-presence-take zero values = refl
-presence-take (suc count) [] = refl
-presence-take (suc count) (v ∷ values) = ap (λ bits. is_some v ∷ bits) (presence-take count values)
-
--- the presence bits of a range of a column
-pub presence-part : (start count : ℕ) (values : List (Option ℕ)) → map is_some (take count (drop start values)) ≡ take count (drop start (map is_some values))
-presence-part zero count values = presence-take count values
-presence-part (suc start) zero [] = refl
-presence-part (suc start) (suc count) [] = refl
-presence-part (suc start) count (v ∷ values) = presence-part start count values
-
--- two halves that are written, one after the other
-pub half_low : (a b out : List ℕ) (i : ℕ) → length a ≡ 64 → i < 64 → get_or (put_mid 64 64 (a ++ out) b) i 0 ≡ get_or a i 0
-half_low a b out i long small =
-    let size : length (take 64 (a ++ out)) ≡ 64 = length-take-le 64 (a ++ out) (omega (arith, length-append a out)) in
-    get_or_append_left (take 64 (a ++ out)) _ 0 i (omega arith) ∙ get_or-take 64 (a ++ out) i 0 small ∙ get_or_append_left a out 0 i (omega arith)
-
-pub half_high : (a b out : List ℕ) (i : ℕ) → length a ≡ 64 → length b ≡ 64 → 64 ≤ i → i < 128 → get_or (put_mid 64 64 (a ++ out) b) i 0 ≡ get_or b (i - 64) 0
-half_high a b out i long long' above small =
-    let size : length (take 64 (a ++ out)) ≡ 64 = length-take-le 64 (a ++ out) (omega (arith, length-append a out)) in
-    get_or-append_right (take 64 (a ++ out)) _ 64 i 0 size above ∙ get_or_append_left b _ 0 (i - 64) (omega arith)
-
--- a present value is the least plus its element
-lane_value : (v : Option ℕ) (least lane number x : ℕ) → IfSome v (λ y. (least ≤ y) × (least + lane ≡ y)) → v ≡ Some x → x < 2 ^ 64 →
-    number ≡ (least + lane) % 2 ^ 64 → number ≡ x
-lane_value None least lane number x h e fits is = absurd (cc)
-lane_value (Some y) least lane number x h e fits is =
-    let same : y ≡ x = cc in
-    is ∙ ap (λ n. n % 2 ^ 64) (h.1 ∙ same) ∙ mod-eq_of_lt fits
-
-pub lane_read : (values : List (Option ℕ)) (range : Option (ℕ × ℕ)) (width : ℕ) (words lanes : List ℕ) → IsColumn values range width words lanes →
-    (least i number x : ℕ) → least ≡ least_of range → number ≡ (least + get_or lanes i 0) % 2 ^ 64 → get_or values i None ≡ Some x → number ≡ x
-lane_read values range width words lanes h least i number x least_is is e = elim (cases_lt i (length values)) [
-  | inl inside ↦ lane_value (get_or values i None) (least_of range) (get_or lanes i 0) number x (lane_there values range width words lanes h i) e
-      (there_fits values range i x h.range_is h.range_fits inside e) (is ∙ ap (λ n. (n + get_or lanes i 0) % 2 ^ 64) least_is)
-  | inr past ↦ absurd (none_is_some (get_or values i None) x (get_or_past values i None past) e)
-]
-
-pub nothing_past : (values : List (Option ℕ)) (i x y z : ℕ) → length values ≤ i → get_or values i None ≡ Some x → y ≡ z
-nothing_past values i x y z past e = absurd (none_is_some (get_or values i None) x (get_or_past values i None past) e)

@@ -60,17 +60,6 @@ digits-joined width (x ∷ xs) h =
     rw (mod_low (joined width xs) width x (h 0), shr_high (joined width xs) width x (h 0))
     (ap (λ ys. x ∷ ys) (digits-joined width xs (Below-tail width x xs h)))
 
--- only the lowest bits matter
-pub digits-mod : (width count n : ℕ) → digits width count (n % 2 ^ (count * width)) ≡ digits width count n
-unfolding digits
-digits-mod width zero n = refl
-digits-mod width (suc count) n =
-    let e : n % 2 ^ (suc count * width) ≡ (n / 2 ^ width % 2 ^ (count * width)) * 2 ^ width + n % 2 ^ width =
-    ap (λ b. n % 2 ^ b) (suc-mul count width) ∙ mod-pow-add n (count * width) width in
-    let low : n % 2 ^ width < 2 ^ width = mod_below n (2 ^ width) (pow_pos width) in
-    rw (e, mod_low (n / 2 ^ width % 2 ^ (count * width)) width (n % 2 ^ width) low, shr_high (n / 2 ^ width % 2 ^ (count * width)) width (n % 2 ^ width) low)
-    (ap (λ ys. n % 2 ^ width ∷ ys) (digits-mod width count (n / 2 ^ width)))
-
 pub joined-digits : (width count n : ℕ) → joined width (digits width count n) ≡ n % 2 ^ (count * width)
 unfolding joined digits
 joined-digits width zero n = sym (ap (λ p. n % p) (pow_bits-zero width) ∙ mod-one n)
@@ -223,13 +212,3 @@ joined-take width (suc count) (x ∷ xs) h =
     ap (λ b. n % 2 ^ b) (suc-mul count width) ∙ mod-pow-add n (count * width) width in
     ap (λ m. m * 2 ^ width + x) (joined-take width count xs (Below-tail width x xs h))
     ∙ sym (split ∙ ap₂ (λ a b. (a % 2 ^ (count * width)) * 2 ^ width + b) high low)
-
-pub Below-digits : (width count n : ℕ) → Below width (digits width count n)
-unfolding digits
-Below-digits width zero n i = pow_pos width
-Below-digits width (suc count) n zero = mod_below n (2 ^ width) (pow_pos width)
-Below-digits width (suc count) n (suc i) = Below-digits width count (n / 2 ^ width) i
-
-pub Below-words_of : (word width : ℕ) (numbers : List ℕ) → Below word (words_of word width numbers)
-unfolding words_of
-Below-words_of word width numbers = Below-digits word (word_count word (length numbers * width)) (joined width numbers)

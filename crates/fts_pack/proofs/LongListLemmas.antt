@@ -177,9 +177,6 @@ pub record IsBuilt (documents : List ℕ) (block next : ℕ) (skips : List Skip)
   pub documents_are : kept_documents words 0 (min (block * 128) (length documents)) skips ≡ take (block * 128) documents
   pub next_is : next ≡ after 0 (take (block * 128) documents)
 
-pub IsBuilt-start : (documents : List ℕ) → IsBuilt documents 0 0 [] []
-IsBuilt-start documents = record { count = refl; kept = omega arith; documents_are = refl; next_is = refl }
-
 pub kept_block-added : (piece before words : List ℕ) (next : ℕ) (skip : Skip) → IsSkipAdded piece next before words skip → Rises next piece →
     length piece ≤ 128 → kept_block words next (length piece) skip ≡ piece
 kept_block-added piece before words next skip h rises few =

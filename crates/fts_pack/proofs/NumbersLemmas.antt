@@ -30,9 +30,6 @@ pub record AreBuilt (numbers : List ℕ) (block : ℕ) (blocks : List BlockMeta)
   pub within : All (IsWithin words) blocks
   pub same : (i : ℕ) → i < block * 128 → i < length numbers → number_kept blocks words i ≡ get_or numbers i 0
 
-pub AreBuilt-start : (numbers : List ℕ) → AreBuilt numbers 0 [] []
-AreBuilt-start numbers = record { count = refl; within = λ i d inside. absurd (omega arith); same = λ i near inside. absurd (omega arith) }
-
 pub AreBuilt-more : (numbers : List ℕ) (block : ℕ) (blocks : List BlockMeta) (before words : List ℕ) (added : BlockMeta) → AreBuilt numbers block blocks before →
     block < block_count (length numbers) →
     IsAdded (block_at numbers block) before words added → AreBuilt numbers (block + 1) (blocks ++ added ∷ []) words

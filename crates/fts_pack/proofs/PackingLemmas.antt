@@ -5,7 +5,6 @@ use Rattle.std.proofs.lemmas.Nat.{pow_pos, or_shifted, or_comm, and_mask, shl_wh
 use lib.Count.{count_leading_zeros}
 use Rattle.std.proofs.lemmas.List.{take_more, get_or_past, length_push, get_or_push, get_or_append_left}
 use Rattle.std.proofs.lemmas.List.Elements.{All-push}
-use Rattle.std.proofs.Math.Facts.{Fits-lt-pow}
 use Rattle.std.proofs.lemmas.Bool.{cases_lt}
 use Rattle.std.proofs.Math.Nat.{pow-le-pow_right}
 use Rattle.fts_pack.specs.bits.Digits.{joined, digits, word_count, words_of, numbers_in}
@@ -14,9 +13,6 @@ use Rattle.fts_pack.proofs.DigitsLemmas.{Below, IsWritten, IsWritten-short, IsWr
 pub Below-from_all : (width : ℕ) (xs : List ℕ) → All (λ x. x < 2 ^ width) xs → Below width xs
 Below-from_all width xs h i =
     elim (cases_lt i (length xs)) [ inl inside ↦ h i 0 inside | inr past ↦ (rw (get_or_past xs i 0 past) (pow_pos width)) ]
-
-pub Below-64 : (xs : List ℕ) → ((i : ℕ) → Fits w64 (get_or xs i 0)) → Below 64 xs
-Below-64 xs h = λ i. Fits-lt-pow (h i)
 
 -- the pending bits with one more number
 pending_with : (word width pending filled x : ℕ) → pending < 2 ^ filled → x < 2 ^ width → width + filled ≤ word + word →
@@ -111,12 +107,6 @@ width_least size n width h small =
 pub record HasBitsOf (numbers : List ℕ) (bits : ℕ) : Type 0 where
   pub holds : (width : ℕ) → bits < 2 ^ width → All (λ x. x < 2 ^ width) numbers
   pub least : (width : ℕ) → All (λ x. x < 2 ^ width) numbers → bits < 2 ^ width
-
-pub HasBitsOf-none : HasBitsOf [] 0
-HasBitsOf-none = record {
-  holds = λ width h k d inside. absurd (omega arith);
-  least = λ width h. pow_pos width;
-}
 
 pub HasBitsOf-push : (numbers : List ℕ) (bits x : ℕ) → HasBitsOf numbers bits → HasBitsOf (numbers ++ x ∷ []) (bit_or bits x)
 HasBitsOf-push numbers bits x h = record {

@@ -14,6 +14,8 @@ use std::marker::Model;
 pub const BLOCK: usize = 128;
 
 /// Up to 128 numbers, each in as few bits as the greatest of them needs: `width` bits, in `4 * width` words.
+///
+/// Only tests call it: lists and positions pack their blocks of the same layout into one vector each.
 #[derive(Drop)]
 pub struct Block {
     count: usize,

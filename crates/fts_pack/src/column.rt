@@ -2,10 +2,10 @@
 
 mod block_ranges;
 mod column;
-mod value_counts;
 mod last_within;
-mod offset_int;
-mod offset_array;
 pub mod laws;
+mod offset_array;
+mod offset_int;
+mod value_counts;
 
-pub use column::{Column, Stretch};
+pub use column::Column;

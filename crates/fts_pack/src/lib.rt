@@ -9,21 +9,21 @@
 
 pub mod bits;
 mod block;
+mod block_meta;
 mod blocks;
 pub mod column;
 mod dense_list;
 mod few;
-mod gaps;
 mod four_lanes;
+mod gaps;
 pub mod laws;
 mod list;
 mod list_source;
 mod long_list;
 mod packed_numbers;
-mod block_meta;
-mod plain;
-mod skip;
+mod plain_list;
 mod prefix_sums;
+mod skip;
 
 pub use bits::Bits;
 pub use block::{BLOCK, Block};

@@ -11,7 +11,7 @@ use crate::dense_list::DenseList;
 use crate::few::{FEW, Few};
 use crate::list_source::ListSource;
 use crate::long_list::LongList;
-use crate::plain::{MOST_PLAIN, Plain};
+use crate::plain_list::{MOST_PLAIN, PlainList};
 use fts_base::Refusal;
 use std::alloc::{AllocError, Global};
 use std::marker::Model;
@@ -19,7 +19,7 @@ use std::marker::Model;
 #[derive(Drop)]
 enum Repr {
     Short(Few),
-    Medium(Plain),
+    Medium(PlainList),
     Long(Box<LongList>),
     Dense(Box<DenseList>),
 }
@@ -43,7 +43,7 @@ impl Model for List {
 }
 
 impl List {
-    /// Packs the documents.
+    /// Packs the documents. A segment calls it for each term and for each number.
     pub fn build(alloc: Global, documents: &[u32]) -> Result<List, Refusal>
         requires { IsStrictlyIncreasing documents.now }
         ensures ok { IfOk result (λ list. list ≡ documents.now) }
@@ -58,7 +58,7 @@ impl List {
     {
         let repr = match documents.len() {
             1..=FEW => Repr::Short(Few::new(documents)),
-            1..=MOST_PLAIN => Repr::Medium(Plain::new(alloc, documents)?),
+            1..=MOST_PLAIN => Repr::Medium(PlainList::new(alloc, documents)?),
             _ if is_dense(documents) => Repr::Dense(Box::new(
                 alloc,
                 DenseList::build(alloc, documents)?,

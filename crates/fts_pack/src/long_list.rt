@@ -5,8 +5,8 @@ ghost use Rattle.fts_pack.specs.Documents.{after, block_at, block_count, last_of
 ghost use Rattle.fts_pack.specs.LongList.{IsLongList, IsSkipAdded, kept_documents};
 
 use crate::block::BLOCK;
-use crate::gaps::push_gaps;
 use crate::block_meta::{BlockMeta, add_block};
+use crate::gaps::push_gaps;
 use crate::skip::Skip;
 use crate::{four_lanes, prefix_sums};
 use fts_base::release;

@@ -3,8 +3,8 @@ ghost use Rattle.std.specs.Prelude.{◌≡◌, ◌<◌, IfOk, IsOkUnless, length
 ghost use Rattle.fts_pack.specs.Documents.{block_at, block_count};
 
 use crate::block::BLOCK;
-use crate::four_lanes;
 use crate::block_meta::{BlockMeta, add_block};
+use crate::four_lanes;
 use fts_base::{Refusal, release};
 use std::alloc::{AllocError, Global};
 use std::marker::Model;

@@ -85,12 +85,6 @@ may_be : {X : Type 0} (p : X → Bool) (o : Option X) → option_map_or p o true
 may_be p None h = tt
 may_be p (Some x) h = h
 
--- a request that fits has groups by a field whose values have an order, and a top list by a number field
-pub fits-groups : (schema : List Field) (request : Request) → request_fits schema request ≡ true → IfSome request.groups (λ f. is_ordered_field schema f ≡ true)
-fits-groups schema request fits =
-    may_be (is_ordered_field schema) request.groups (and_parts (option_map_or (is_ordered_field schema) request.groups true)
-    (option_map_or (λ top. is_number_field schema top.by && is_limit top.k) request.top true) fits).0
-
 top_field : (schema : List Field) (o : Option Top) → IfSome o (λ top. (is_number_field schema top.by && is_limit top.k) ≡ true) →
     IfSome o (λ t. is_number_field schema t.by ≡ true)
 top_field schema None h = tt

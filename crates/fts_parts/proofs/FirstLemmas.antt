@@ -180,12 +180,6 @@ second_front xs ys zs =
     let Q : List Hit → Type 0 = IsPermutation ((xs ++ ys) ++ zs) in
     subst P (append_assoc xs ys zs) (subst Q (append_assoc ys xs zs) (IsPermutation-append_left zs (xs ++ ys) (ys ++ xs) (IsPermutation-append_comm xs ys)))
 
--- what is apart is so without those in front
-apart-behind : (front hits : List Hit) → AreApart (front ++ hits) → AreApart hits
-apart-behind front hits apart =
-    once-from_times stamp_of hits (λ stamp.
-    omega (arith, sum_by-append (λ (h : Hit). cond (h.stamp == stamp) 1 0) front hits, times-once stamp_of stamp (front ++ hits) apart))
-
 -- and without those behind
 apart-front : (hits more : List Hit) → AreApart (hits ++ more) → AreApart hits
 apart-front hits more apart =

@@ -298,11 +298,6 @@ groups-alone field (hits ∷ []) part are =
     ap (λ o. unwrap_or o []) here ∙ ap (groups field) (sym (append-nil hits))
 groups-alone field (hits ∷ more ∷ lists) part are = cc
 
--- no part has groups
-pub groups-none : (field : ℕ) (lists : List (List (Stamped DocumentValue))) → AreGroupsOf field lists [] → groups field (joined lists) ≡ []
-groups-none field [] are = refl
-groups-none field (hits ∷ lists) are = cc
-
 -- a list of one element
 pub only_one : (parts : List PartValue) (part : PartValue) → part ≡ get_or parts 0 part → 1 ≤ length parts → length parts < 2 → parts ≡ part ∷ []
 only_one [] part is some few = absurd (omega (arith, some))

@@ -353,13 +353,6 @@ not_lt Less h = sym h
 not_lt Equal h = refl
 not_lt Greater h = refl
 
--- a bound is one of the first keys of what is kept of them
-pub top_k-again : (k : ℕ) (held kept : List Key) (bound : Option Key) → kept ≡ first_keys k held → IsTopK k held bound → IsTopK k kept bound
-top_k-again k held kept None is h = h
-top_k-again k held kept (Some bound) is h =
-    let P : List Key → Type 0 = λ ks. IsBound k ks bound in
-    subst P (sym (ap (first_keys k) is ∙ first_keys-again k held)) h
-
 -- the last key of a full list is a bound of it, or of none where the list is empty
 pub top_k-last : (k : ℕ) (held kept : List Key) (bound : Option Key) → kept ≡ first_keys k held → length kept ≡ k → bound ≡ slice_get kept (length kept - 1) →
     IsTopK k kept bound

@@ -19,9 +19,6 @@ once_more x n = grind (arith, nat_tests)
 pub below_once : (x n : ℕ) → 0 < once_below x n → x < n
 below_once x n h = grind (arith, nat_tests)
 
-pub once_here : (x n : ℕ) → x < n → 0 < once_below x n
-once_here x n h = grind (arith, nat_tests)
-
 -- if one view has all shares, another has none
 pub no_share : (views : List Known) (port : ℕ) (v : Known) → get_elem? views port ≡ some v → total (λ u. u.shares) views ≡ v.shares
     → (other : ℕ) (u : Known) → other ≢ port → get_elem? views other ≡ some u → u.shares ≡ 0

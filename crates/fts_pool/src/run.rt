@@ -6,7 +6,7 @@ ghost use Rattle.fts_pool.specs.Internals.Slots.{AreSlots, IsFilled};
 use crate::deque::JobWorker;
 use crate::gate::Gate;
 use crate::job::Job;
-use crate::slots::{into_results, empty_slots, run_from};
+use crate::slots::{empty_slots, into_results, run_from};
 use crate::workers::{pop_all, push_all, share_out};
 use fts_base::Refusal;
 use std::alloc::{AllocError, Global};

@@ -122,17 +122,6 @@ pub record IsTakenBehind (left next out written : List ℕ) (filled end : ℕ) :
   pub front : take end written ≡ take filled out ++ take (end - filled) left
   pub left_is : next ≡ drop (end - filled) left
 
-pub IsTakenBehind-none : (left out : List ℕ) (filled : ℕ) → filled < 128 → IsTakenBehind left left out out filled filled
-IsTakenBehind-none left out filled room =
-    let none : filled - filled ≡ 0 = omega arith in
-    record {
-      order = omega arith;
-      within = omega arith;
-      room = omega (arith, room);
-      front = sym (append-nil (take filled out)) ∙ sym (ap (λ n. take filled out ++ take n left) none);
-      left_is = sym (ap (λ n. drop n left) none);
-    }
-
 -- a stretch more
 pub IsTakenBehind-more : (left mid next out written later : List ℕ) (filled end count : ℕ) → IsTakenBehind left mid out written filled end →
     IsStretch mid next written later end count → IsTakenBehind left next out later filled (end + count)
@@ -149,29 +138,6 @@ IsTakenBehind-more left mid next out written later filled end count h s =
           ∙ ap (λ xs. take filled out ++ xs) (sym (take-add taken count left) ∙ sym (ap (λ n. take n left) more));
       left_is = s.left_is ∙ ap (drop count) h.left_is ∙ drop-drop count taken left ∙ ap (λ n. drop n left) (omega (arith, more));
     }
-
--- as many as fit, or all
-pub IsStretch-behind : (left next out written : List ℕ) (filled end count : ℕ) → IsTakenBehind left next out written filled end → count ≡ end - filled →
-    (0 < length left → filled < end) → IsStretch left next out written filled count
-IsStretch-behind left next out written filled end count h is some =
-    let whole : filled + count ≡ end = omega (arith, h.order, is) in
-    record {
-      some = λ there. omega (arith, some there, is);
-      within = omega (arith, h.within, is, h.order);
-      room = omega (arith, whole, h.room);
-      front = ap (λ n. take n written) whole ∙ h.front ∙ ap (λ n. take filled out ++ take n left) (sym is);
-      left_is = h.left_is ∙ ap (λ n. drop n left) (sym is);
-    }
-
--- if a stretch of nothing follows, something was taken if there was any
-pub behind_some : (left mid out written : List ℕ) (filled end : ℕ) → IsTakenBehind left mid out written filled end → (0 < length mid → ⊥) → 0 < length left →
-    filled < end
-behind_some left mid out written filled end h none some =
-    elim (cases_lt filled end) [
-      | inl more ↦ more
-      | inr all ↦ absurd (none (let none_taken : end - filled ≡ 0 = omega (arith, all) in
-          omega (arith, some, ap length h.left_is, length-drop (end - filled) left, none_taken)))
-    ]
 
 -- one document is a stretch
 pub stretch_of_one : (left next out : List ℕ) (filled d : ℕ) → Some d ≡ slice_get left 0 → filled < 128 → length out ≡ 128 → next ≡ drop 1 left →

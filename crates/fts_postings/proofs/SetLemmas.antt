@@ -177,16 +177,8 @@ pub dead_passed : (test : ℕ → Bool) (xs next : List ℕ) (doc : ℕ) → Som
     filter test next ≡ filter test xs
 dead_passed test xs next doc first fails is = ap (filter test) is ∙ filter-past test xs doc first fails
 
-pub FirstPasses-none : (test : ℕ → Bool) (xs : List ℕ) → None ≡ slice_get xs 0 → FirstPasses test xs
-FirstPasses-none test [] is = tt
-FirstPasses-none test (x ∷ xs) is = absurd (let e : None ≡ Some x = is in cc)
-
 -- where none passes, the first not even, there is none
 pub none_left : (test : ℕ → Bool) (xs : List ℕ) → FirstPasses test xs → filter test xs ≡ [] → xs ≡ []
 none_left test [] passes none = refl
 none_left test (x ∷ xs) passes none =
     absurd (let e : x ∷ filter test xs ≡ [] = sym (ap (λ b. cond b (x ∷ filter test xs) (filter test xs)) passes) ∙ none in cc)
-
-pub fewer_behind : (xs next : List ℕ) (doc : ℕ) → Some doc ≡ slice_get xs 0 → next ≡ drop 1 xs → length next < length xs
-fewer_behind [] next doc is step = absurd (let e : Some doc ≡ None = is in cc)
-fewer_behind (x ∷ xs) next doc is step = omega (arith, ap length step)

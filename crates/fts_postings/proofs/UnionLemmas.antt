@@ -159,7 +159,3 @@ IsLeast-some (Some a) lists xs first h rises is = elim (cases_lt a first) [
 pub with_one-front : (x : ℕ) (xs : List ℕ) → Rises (suc x) xs → with_one x xs ≡ x ∷ xs
 with_one-front x [] h = refl
 with_one-front x (y ∷ ys) h = below x y ys (omega (arith, h.0))
-
-pub with_all-nil : (next : ℕ) (xs : List ℕ) → Rises next xs → with_all xs [] ≡ xs
-with_all-nil next [] h = refl
-with_all-nil next (x ∷ xs) h = ap (with_one x) (with_all-nil (suc x) xs h.1) ∙ with_one-front x xs h.1

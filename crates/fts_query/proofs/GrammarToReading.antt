@@ -311,10 +311,6 @@ back_short d s w t l = omega (arith, simp length-append at l)
 enough : (s r : List ℕ) → length s ≤ suc (length (s ++ r))
 enough s r = omega (arith, length-append s r)
 
--- a parser reads the front of a text and leaves the rest
-record Again {A : Type 0} (p : Parser A) (x : List ℕ) (a : A) (r : List ℕ) : Type 0 where
-  reads : p (x ++ r) ≡ Some (a, r)
-
 -- `NOT` is a word
 not_word : list_all is_word_char (codes "NOT") ≡ true
 unfolding is_word_char

@@ -4,7 +4,7 @@ use Rattle.std.proofs.Common.{append_assoc, All, arith, Err, inl, inr, ◌*◌, 
 use Rattle.std.specs.List.{list_any, list_all}
 use Rattle.std.specs.Str.{IsUtf8}
 use Rattle.std.proofs.lemmas.Bool.{cases_Bool, le-ltb, lt-ltb, ltb-false, and_right, and_parts}
-use Rattle.std.proofs.lemmas.List.{append-nil, drop_all}
+use Rattle.std.proofs.lemmas.List.{drop_all}
 use Rattle.fts_text.specs.declared.tokenizer.Token.{Token}
 use Rattle.fts_text.specs.Tokens.{tokens}
 use Rattle.fts_text.specs.Places.{places, token_at, IsPlaceIn, IsPlaceFrom}
@@ -70,11 +70,6 @@ Gathers-next text from done more place left rest first e g = record {
   members = ap (λ (d : List (ℕ × List ℕ)). d ++ map (member text from) rest) e ∙ append_assoc done (member text from place ∷ []) (map (member text from) rest)
       ∙ ap (λ (l : List Token). done ++ map (member text from) l) (sym first) ∙ g.members;
 }
-
--- all members are gathered
-pub Gathers-none : (text : List ℕ) (from : ℕ) (done : List (ℕ × List ℕ)) (left : List Token) → left ≡ [] → Gathers text from done left →
-    done ≡ distances from (tokens text)
-Gathers-none text from done left none g = sym (append-nil done) ∙ ap (λ (l : List Token). done ++ map (member text from) l) (sym none) ∙ g.members
 
 -- a position in a text of a query fits 32 bits
 pub position_fits : (text : List ℕ) (place : Token) (from : ℕ) → length text ≤ 4096 → IsPlaceFrom 0 text place → place.position - from < 2 ^ 32

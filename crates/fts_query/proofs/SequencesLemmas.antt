@@ -10,7 +10,7 @@ use Rattle.fts_query.specs.declared.error.ParseError.TheVariants.{Memory, Syntax
 use Rattle.fts_query.specs.declared.reader.Level.{Level}
 use Rattle.fts_query.specs.Meanings.{Meaning, Factor, Clause, occur_in_conjunction, node, conjunction, disjunction, disjunction_clause, list_meaning}
 use Rattle.fts_query.specs.Gathering.{Gathered, gather, gather_all, gathered_node}
-use Rattle.fts_query.specs.Sequences.{Part, lone, several, clause_of, node_of, joined, separator_of, sequence_by, factor_part, item_of, sequence_of, following}
+use Rattle.fts_query.specs.Sequences.{SequenceItem, lone, several, clause_of, node_of, joined, separator_of, sequence_by, factor_part, item_of, sequence_of, following}
 use Rattle.fts_query.specs.Sequences.{then_gathered}
 use Rattle.fts_query.specs.Reading.{Parser, Read, onto, follow, seq_by, over, factor_of, conjunction_of, disjunction_of, list_of, meaning_of, unit_of}
 use Rattle.fts_query.specs.Steps.{Misses}
@@ -52,11 +52,11 @@ seq_by-over {A} {B} sep item h seen e (suc n) s =
     ]
 
 -- a conjunction as an item of the level above
-abbrev conjunction_part : List Factor → Part
+abbrev conjunction_part : List Factor → SequenceItem
 conjunction_part fs = joined levels.Conjunction (map lone fs)
 
 -- a disjunction as an item of the level above
-abbrev disjunction_part : List (List Factor) → Part
+abbrev disjunction_part : List (List Factor) → SequenceItem
 disjunction_part cs = joined levels.Disjunction (map conjunction_part cs)
 
 -- the clauses of a conjunction
@@ -182,7 +182,7 @@ module _ {A : Type 0} (level : Level) (item : Parser A) (item_shorter : IsShorte
       omega (arith, item_shorter s b.0 b.1, follow_shorter (separator_of level b.0.1) b.0.1 next q.0 refl (seq_by_shorter n) q.1, ap length q.3)
 
 -- a sequence of a level leaves no more than there was
-sequence_by_shorter : (level : Level) (item : Parser Part) → IsShorter item → IsShorter (sequence_by level item)
+sequence_by_shorter : (level : Level) (item : Parser SequenceItem) → IsShorter item → IsShorter (sequence_by level item)
 unfolding sequence_by
 sequence_by_shorter level item short s y e =
     over_shorter (joined level) (seq_by (suc (length s)) (separator_of level) item) (seq_by_shorter level item short (suc (length s))) s y e
@@ -212,17 +212,17 @@ module _ (schema : List Field) (depth : ℕ) where
       pub whole : then_gathered level g (following most level unit rest) ≡ total
 
     -- a first item is collected before the others
-    onto_gathered : (g : Gathered) (x : Part) (o : Option (List Part × List ℕ)) →
+    onto_gathered : (g : Gathered) (x : SequenceItem) (o : Option (List SequenceItem × List ℕ)) →
         then_gathered level g (onto x o) ≡ then_gathered level (gather g (clause_of level x)) o
     onto_gathered g x None = refl
     onto_gathered g x (Some y) = refl
 
     -- the total of an item and of those that follow it
-    abbrev pub total_of : ℕ → Part → List ℕ → Option (Gathered × List ℕ)
+    abbrev pub total_of : ℕ → SequenceItem → List ℕ → Option (Gathered × List ℕ)
     total_of n first text = then_gathered level nothing_gathered (onto first (following n level unit text))
 
     -- the first item is collected
-    pub Goes-start : (g : Gathered) (first : Part) (text : List ℕ) (n : ℕ) → g ≡ gather nothing_gathered (clause_of level first) → length text ≤ n →
+    pub Goes-start : (g : Gathered) (first : SequenceItem) (text : List ℕ) (n : ℕ) → g ≡ gather nothing_gathered (clause_of level first) → length text ≤ n →
         Goes g text (total_of n first text)
     Goes-start g first text n e l = record {
       most = n;
@@ -241,20 +241,20 @@ module _ (schema : List Field) (depth : ℕ) where
     following_last m rest e = ap (λ (o : Option (List ℕ)). follow o rest (λ t. seq_by m (separator_of level) (item_of level unit) t)) (sym e)
 
     -- a sequence after its first item
-    seq_by-item : (m : ℕ) (s left : List ℕ) (p : Part) → item_of level unit s ≡ Some (p, left) → seq_by (suc m) (separator_of level) (item_of level unit) s
+    seq_by-item : (m : ℕ) (s left : List ℕ) (p : SequenceItem) → item_of level unit s ≡ Some (p, left) → seq_by (suc m) (separator_of level) (item_of level unit) s
         ≡ onto p (following m level unit left)
     unfolding seq_by
     seq_by-item m s left p e =
-        ap (option_and_then (λ (x : Read Part). onto x.0 (follow (separator_of level x.1) x.1 (λ t. seq_by m (separator_of level) (item_of level unit) t)))) e
+        ap (option_and_then (λ (x : Read SequenceItem). onto x.0 (follow (separator_of level x.1) x.1 (λ t. seq_by m (separator_of level) (item_of level unit) t)))) e
 
     -- no sequence is read without a first item
     seq_by-none : (m : ℕ) (s : List ℕ) → item_of level unit s ≡ None → seq_by (suc m) (separator_of level) (item_of level unit) s ≡ None
     unfolding seq_by
     seq_by-none m s e = ap
-        (option_and_then (λ (x : Read Part). onto x.0 (follow (separator_of level x.1) x.1 (λ t. seq_by m (separator_of level) (item_of level unit) t)))) e
+        (option_and_then (λ (x : Read SequenceItem). onto x.0 (follow (separator_of level x.1) x.1 (λ t. seq_by m (separator_of level) (item_of level unit) t)))) e
 
     -- another item is collected, by the number that may follow
-    next_step : (m : ℕ) (g h : Gathered) (rest next left : List ℕ) (p : Part) (total : Option (Gathered × List ℕ)) → length rest ≤ m →
+    next_step : (m : ℕ) (g h : Gathered) (rest next left : List ℕ) (p : SequenceItem) (total : Option (Gathered × List ℕ)) → length rest ≤ m →
         then_gathered level g (following m level unit rest) ≡ total → Some next ≡ separator_of level rest → item_of level unit next ≡ Some (p, left) →
         h ≡ gather g (clause_of level p) → Goes h left total
     next_step zero g h rest next left p total l w e i k = absurd (let s = separator_shorter level rest next (sym e) in omega arith)
@@ -268,17 +268,17 @@ module _ (schema : List Field) (depth : ℕ) where
         }
 
     -- another item is collected
-    pub Goes-next : (g h : Gathered) (rest next left : List ℕ) (p : Part) (total : Option (Gathered × List ℕ)) → Some next ≡ separator_of level rest →
+    pub Goes-next : (g h : Gathered) (rest next left : List ℕ) (p : SequenceItem) (total : Option (Gathered × List ℕ)) → Some next ≡ separator_of level rest →
         item_of level unit next ≡ Some (p, left) → h ≡ gather g (clause_of level p) → Goes g rest total → Goes h left total
     Goes-next g h rest next left p total e i k goes = next_step goes.most g h rest next left p total goes.enough goes.whole e i k
 
     -- a separator and an item leave less than there was
-    pub Goes-smaller : (rest next left : List ℕ) (p : Part) → Some next ≡ separator_of level rest → item_of level unit next ≡ Some (p, left) →
+    pub Goes-smaller : (rest next left : List ℕ) (p : SequenceItem) → Some next ≡ separator_of level rest → item_of level unit next ≡ Some (p, left) →
         length left < length rest
     Goes-smaller rest next left p e i = let s = separator_shorter level rest next (sym e) in let r = item_shorter level next (p, left) i in omega arith
 
     -- the collected clauses are those of all items
-    gathered_is : (o : Option (List Part × List ℕ)) (g : Gathered) (rest : List ℕ) → then_gathered level nothing_gathered o ≡ Some (g, rest) →
+    gathered_is : (o : Option (List SequenceItem × List ℕ)) (g : Gathered) (rest : List ℕ) → then_gathered level nothing_gathered o ≡ Some (g, rest) →
         over (node_of level) o ≡ Some (gathered_node g, rest)
     gathered_is None g rest e = absurd (let k = e in cc)
     gathered_is (Some x) g rest e =
@@ -288,12 +288,12 @@ module _ (schema : List Field) (depth : ℕ) where
         ap (λ (m : Meaning). Some (m, x.1)) n ∙ ap (λ (p : Gathered × List ℕ). Some (gathered_node g, p.1)) k
 
     -- if nothing is collected, nothing is read
-    gathered_none : {C : Type 0} (view : List Part → C) (o : Option (List Part × List ℕ)) → then_gathered level nothing_gathered o ≡ None → over view o ≡ None
+    gathered_none : {C : Type 0} (view : List SequenceItem → C) (o : Option (List SequenceItem × List ℕ)) → then_gathered level nothing_gathered o ≡ None → over view o ≡ None
     gathered_none view None e = refl
     gathered_none view (Some x) e = absurd (let k = e in cc)
 
     -- the sequence ends if no separator follows
-    pub Goes-last : (n : ℕ) (first : Part) (text rest : List ℕ) (g : Gathered) (m : Meaning) → None ≡ separator_of level rest →
+    pub Goes-last : (n : ℕ) (first : SequenceItem) (text rest : List ℕ) (g : Gathered) (m : Meaning) → None ≡ separator_of level rest →
         Goes g rest (total_of n first text) → m ≡ gathered_node g → over (node_of level) (onto first (following n level unit text)) ≡ Some (m, rest)
     Goes-last n first text rest g m e goes k =
         gathered_is (onto first (following n level unit text)) g rest (sym goes.whole ∙ ap (then_gathered level g) (following_last goes.most rest e))
@@ -306,7 +306,7 @@ module _ (schema : List Field) (depth : ℕ) where
     fail_step (suc m) g rest next total l w e i = sym w ∙ ap (then_gathered level g) (following_next (suc m) rest next e ∙ seq_by-none m next i)
 
     -- a missing item ends the reading
-    pub Goes-fails : (error : ParseError) (n : ℕ) (first : Part) (text rest next : List ℕ) (g : Gathered) → Some next ≡ separator_of level rest →
+    pub Goes-fails : (error : ParseError) (n : ℕ) (first : SequenceItem) (text rest next : List ℕ) (g : Gathered) → Some next ≡ separator_of level rest →
         Misses error (item_of level unit next) → Goes g rest (total_of n first text) →
         Misses error (over (node_of level) (onto first (following n level unit text)))
     Goes-fails Memory n first text rest next g e i goes = tt
@@ -315,7 +315,7 @@ module _ (schema : List Field) (depth : ℕ) where
         e i)
 
     -- a sequence of one item is that item
-    pub sequence_lone : (s rest : List ℕ) (p : Part) → item_of level unit s ≡ Some (p, rest) → None ≡ separator_of level rest →
+    pub sequence_lone : (s rest : List ℕ) (p : SequenceItem) → item_of level unit s ≡ Some (p, rest) → None ≡ separator_of level rest →
         sequence_of level unit s ≡ Some (p, rest)
     unfolding sequence_by
     sequence_lone s rest p e f = ap (over (joined level)) (seq_by-item (length s) s rest p e ∙ ap (onto p) (following_last (length s) rest f))
@@ -331,14 +331,14 @@ module _ (schema : List Field) (depth : ℕ) where
     unfolding seq_by
     nonempty zero s t e = cc
     nonempty (suc n) s t e =
-        let next : Parser (List Part) = λ u. seq_by n (separator_of level) (item_of level unit) u in
-        let b = and_then_some (item_of level unit s) (λ (x : Read Part). onto x.0 (follow (separator_of level x.1) x.1 next)) ([], t) e in
+        let next : Parser (List SequenceItem) = λ u. seq_by n (separator_of level) (item_of level unit) u in
+        let b = and_then_some (item_of level unit s) (λ (x : Read SequenceItem). onto x.0 (follow (separator_of level x.1) x.1 next)) ([], t) e in
         let q = onto_some b.0.0 (follow (separator_of level b.0.1) b.0.1 next) ([], t) b.2 in
         let k : b.0.0 ∷ q.0.0 ≡ [] = q.2 in
         cc
 
     -- two or more items are joined to a node
-    joined_several : (p : Part) (o : Option (List Part × List ℕ)) (next : List ℕ) (n : ℕ) (m : Meaning) (rest : List ℕ) →
+    joined_several : (p : SequenceItem) (o : Option (List SequenceItem × List ℕ)) (next : List ℕ) (n : ℕ) (m : Meaning) (rest : List ℕ) →
         seq_by n (separator_of level) (item_of level unit) next ≡ o → over (node_of level) (onto p o) ≡ Some (m, rest) →
         over (joined level) (onto p o) ≡ Some (several m, rest)
     joined_several p None next n m rest e h = absurd (let k = h in cc)
@@ -348,7 +348,7 @@ module _ (schema : List Field) (depth : ℕ) where
         ap (λ (x : Meaning × List ℕ). Some (several x.0, x.1)) k
 
     -- a sequence of several items is their node
-    pub sequence_several : (s rest next left : List ℕ) (p : Part) (m : Meaning) → item_of level unit s ≡ Some (p, rest) → Some next ≡ separator_of level rest →
+    pub sequence_several : (s rest next left : List ℕ) (p : SequenceItem) (m : Meaning) → item_of level unit s ≡ Some (p, rest) → Some next ≡ separator_of level rest →
         over (node_of level) (onto p (following (length s) level unit rest)) ≡ Some (m, left) → sequence_of level unit s ≡ Some (several m, left)
     unfolding sequence_by
     sequence_several s rest next left p m e f h =
@@ -357,12 +357,12 @@ module _ (schema : List Field) (depth : ℕ) where
         ap (over (joined level)) (seq_by-item (length s) s rest p e) ∙ joined_several p (following (length s) level unit rest) next (length s) m left (sym k) h
 
     -- if nothing is read under one view, nothing is read under another
-    none_onto : {C D : Type 0} (view : List Part → C) (other : List Part → D) (o : Option (List Part × List ℕ)) → over view o ≡ None → over other o ≡ None
+    none_onto : {C D : Type 0} (view : List SequenceItem → C) (other : List SequenceItem → D) (o : Option (List SequenceItem × List ℕ)) → over view o ≡ None → over other o ≡ None
     none_onto view other None e = refl
     none_onto view other (Some x) e = absurd (let k = e in cc)
 
     -- no sequence is read if a later item is missing
-    pub sequence_stops : (error : ParseError) (s rest : List ℕ) (p : Part) → item_of level unit s ≡ Some (p, rest) →
+    pub sequence_stops : (error : ParseError) (s rest : List ℕ) (p : SequenceItem) → item_of level unit s ≡ Some (p, rest) →
         Misses error (over (node_of level) (onto p (following (length s) level unit rest))) → Misses error (sequence_of level unit s)
     unfolding sequence_by
     sequence_stops Memory s rest p e h = tt
@@ -371,7 +371,7 @@ module _ (schema : List Field) (depth : ℕ) where
         h
 
   -- a list after its first item
-  pub meaning_of-first : (s rest : List ℕ) (p : Part) → item_of levels.List unit s ≡ Some (p, rest) →
+  pub meaning_of-first : (s rest : List ℕ) (p : SequenceItem) → item_of levels.List unit s ≡ Some (p, rest) →
       meaning_of unit s ≡ over (node_of levels.List) (onto p (following (length s) levels.List unit rest))
   meaning_of-first s rest p e = meaning_of-items unit s ∙ ap (over (node_of levels.List)) (seq_by-item levels.List (length s) s rest p e)
 
@@ -381,5 +381,5 @@ module _ (schema : List Field) (depth : ℕ) where
   meaning_of_fails (Syntax left) s e = meaning_of-items unit s ∙ ap (over (node_of levels.List)) (seq_by-none levels.List (length s) s e)
 
   -- a list's first item leaves no more than there was
-  pub first_shorter : (level : Level) (s rest : List ℕ) (p : Part) → item_of level unit s ≡ Some (p, rest) → length rest ≤ length s
+  pub first_shorter : (level : Level) (s rest : List ℕ) (p : SequenceItem) → item_of level unit s ≡ Some (p, rest) → length rest ≤ length s
   first_shorter level s rest p e = item_shorter level s (p, rest) e

@@ -38,7 +38,7 @@ pub(crate) struct Factor {
 
 /// A sequence as an item of the next level: its only factor, or the node of its clauses.
 #[derive(Drop)]
-pub(crate) enum Part {
+pub(crate) enum SequenceItem {
     Lone(Factor),
     Several(Meaning),
 }
@@ -57,14 +57,14 @@ fn push_item(
     alloc: Global,
     level: Level,
     clauses: &mut Clauses,
-    item: Part,
+    item: SequenceItem,
 ) -> Result<(), AllocError>
     ensures { OnOk result (gathered_of clauses.new
         ≡ gather (gathered_of clauses.old) (clause_of level (part_seen item))) }
 {
     match item {
-        Part::Several(meaning) => clauses.push(Occur::Should, meaning),
-        Part::Lone(factor) => match level {
+        SequenceItem::Several(meaning) => clauses.push(Occur::Should, meaning),
+        SequenceItem::Lone(factor) => match level {
             Level::Conjunction => {
                 clauses.push(occur_in_conjunction(factor.modifier), factor.unit)
             }
@@ -259,13 +259,13 @@ fn item_at<'a>(
     depth: usize,
     level: Level,
     text: Input<'a>,
-) -> Result<(Part, Input<'a>), ParseError>
+) -> Result<(SequenceItem, Input<'a>), ParseError>
     ensures { Finds (λ x. (part_seen x.0, x.1)) result (item_of level (unit_of schema.now depth) text.entry) }
 {
     match level {
         Level::Conjunction => {
             let (factor, rest) = factor_at(alloc, schema, depth, text)?;
-            Ok((Part::Lone(factor), rest))
+            Ok((SequenceItem::Lone(factor), rest))
         }
         Level::Disjunction => sequence_at(alloc, schema, depth, Level::Conjunction, text),
         Level::List => sequence_at(alloc, schema, depth, Level::Disjunction, text),
@@ -279,7 +279,7 @@ fn node_at<'a>(
     schema: &Schema,
     depth: usize,
     level: Level,
-    first: Part,
+    first: SequenceItem,
     text: Input<'a>,
 ) -> Result<(Meaning, Input<'a>), ParseError>
     ensures { (n : ℕ) → length text.entry ≤ n →
@@ -306,7 +306,7 @@ fn sequence_at<'a>(
     depth: usize,
     level: Level,
     text: Input<'a>,
-) -> Result<(Part, Input<'a>), ParseError>
+) -> Result<(SequenceItem, Input<'a>), ParseError>
     ensures { Finds (λ x. (part_seen x.0, x.1)) result (sequence_of level (unit_of schema.now depth) text.entry) }
 {
     let (first, rest) = item_at(alloc, schema, depth, level, text)?;
@@ -314,7 +314,7 @@ fn sequence_at<'a>(
         None => Ok((first, rest)),
         Some(_) => {
             let (node, rest) = node_at(alloc, schema, depth, level, first, rest)?;
-            Ok((Part::Several(node), rest))
+            Ok((SequenceItem::Several(node), rest))
         }
     }
 }

@@ -3,7 +3,7 @@ use Rattle.std.proofs.Common.{◌≡◌, ◌≤◌, ◌<◌, ◌^◌, ℕ, suc, 
 use Rattle.std.proofs.Common.{arith, All, Some, None}
 use Rattle.std.specs.List.{list_any}
 use Rattle.std.specs.Str.{IsUtf8}
-use Rattle.std.proofs.lemmas.List.{drop_all, drop_more}
+use Rattle.std.proofs.lemmas.List.{drop_more}
 use Rattle.std.proofs.lemmas.List.Folds.{list_any-append}
 use Rattle.std.proofs.lemmas.List.Sums.{sum_by-cons}
 use Rattle.fts_text.specs.declared.tokenizer.Token.{Token}
@@ -48,12 +48,6 @@ any_of_first : (first : ℕ) (text : List ℕ) (test : ℕ × List ℕ → Bool)
 any_of_first first text test token left rest b next e s =
     ap (λ b. b || list_any test (map (token_at text) (places_left rest))) (sym e) ∙ ap (λ ps. list_any test (map (token_at text) ps)) (sym next) ∙ s.passes
 
--- if the next token passes, some token does
-pub Seeks-found : (first : ℕ) (text : List ℕ) (test : ℕ × List ℕ → Bool) (token : Token) (left rest : Tokens) → places_left left ≡ token ∷ places_left rest →
-    test (token_at text token) ≡ true →
-    Seeks first text test left → list_any test (tokens_from first text) ≡ true
-Seeks-found first text test token left rest next e s = sym (any_of_first first text test token left rest true next e s)
-
 -- if the next token fails, the loop goes on after it
 pub Seeks-next : (first : ℕ) (text : List ℕ) (test : ℕ × List ℕ → Bool) (token : Token) (left rest : Tokens) → places_left left ≡ token ∷ places_left rest →
     following_left rest ≡ following_left left →
@@ -77,10 +71,6 @@ pub record SeeksOn (texts : List (List ℕ)) (test : ℕ × List ℕ → Bool) (
   pub room : HasRoom first (drop n texts)
   pub passes : list_any test (tokens_of_texts first (drop n texts)) ≡ list_any test (tokens_of_texts 0 texts)
 
--- at the start all texts are left
-pub SeeksOn-start : (texts : List (List ℕ)) (test : ℕ × List ℕ → Bool) → HasRoom 0 texts → SeeksOn texts test 0 0
-SeeksOn-start texts test room = record { room = room; passes = refl }
-
 -- the spans of the next text have numbers below 2 ^ 63
 pub SeeksOn-room : (texts : List (List ℕ)) (test : ℕ × List ℕ → Bool) (n first : ℕ) → n < length texts → SeeksOn texts test n first →
     first + length (get_or texts n []) + 2 < 2 ^ 63
@@ -96,13 +86,6 @@ any_of_text texts test n first inside s =
     sym (list_any-append test (tokens_from first (get_or texts n [])) (tokens_of_texts (following first (get_or texts n [])) (drop (n + 1) texts)))
     ∙ ap (λ ts. list_any test (tokens_of_texts first ts)) (sym (drop_more texts n [] inside)) ∙ s.passes
 
--- if a token of the next text passes, some token does
-pub SeeksOn-found : (texts : List (List ℕ)) (test : ℕ × List ℕ → Bool) (n first : ℕ) → n < length texts → SeeksOn texts test n first →
-    IsSought (list_any test (tokens_from first (get_or texts n []))) (following first (get_or texts n [])) None → true ≡ list_any test (tokens_of_texts 0 texts)
-SeeksOn-found texts test n first inside s found =
-    ap (λ b. b || list_any test (tokens_of_texts (following first (get_or texts n [])) (drop (n + 1) texts))) (sym found)
-    ∙ any_of_text texts test n first inside s
-
 -- if no token of the next text passes, the loop goes on after it
 pub SeeksOn-next : (texts : List (List ℕ)) (test : ℕ × List ℕ → Bool) (n first next : ℕ) → n < length texts → SeeksOn texts test n first →
     IsSought (list_any test (tokens_from first (get_or texts n []))) (following first (get_or texts n [])) (Some next) →
@@ -115,11 +98,6 @@ SeeksOn-next texts test n first next inside s sought near =
           ∙ ap (λ b. b || list_any test (tokens_of_texts (following first (get_or texts n [])) (drop (n + 1) texts))) (sym sought.0)
           ∙ any_of_text texts test n first inside s;
     }
-
--- if no text is left, no token passes
-pub SeeksOn-end : (texts : List (List ℕ)) (test : ℕ × List ℕ → Bool) (n first : ℕ) → length texts ≤ n → SeeksOn texts test n first →
-    false ≡ list_any test (tokens_of_texts 0 texts)
-SeeksOn-end texts test n first past s = ap (λ ts. list_any test (tokens_of_texts first ts)) (sym (drop_all n texts past)) ∙ s.passes
 
 -- the spans of a document's texts have numbers below 2 ^ 63
 pub HasRoom-short : (texts : List (List ℕ)) → (length texts ≤ 1024) × (bytes_of texts ≤ 1048576) → HasRoom 0 texts

@@ -255,9 +255,6 @@ not_before a b h = by (cmp a b) refl h
 itself : (t : List ℕ) → text_lt t t ≡ false
 itself t = ap is_lt (tied_itself nat_list_cmp_total t)
 
-up_to_itself : (t : List ℕ) → text_le t t ≡ true
-up_to_itself t = ap is_le (tied_itself nat_list_cmp_total t)
-
 lt_le : (a b c : List ℕ) → text_lt a b ≡ true → text_le b c ≡ true → text_lt a c ≡ true
 lt_le a b c h k = ⊎_elim (λ l. ap is_lt (nat_list_cmp_total.trans a b c (is_before a b h) l)) (λ is. subst (λ x. text_lt a x ≡ true) is h)
     (before_or_same b c k)

@@ -2,8 +2,6 @@
 use Rattle.std.proofs.Common.{◌≡◌, ◌<◌, ◌≤◌, ◌^◌, ℕ, suc, ◌+◌, List, [], ◌∷◌, ◌++◌, Option, map, drop, get_or, length, refl, sym, ap, subst, ◌∙◌, All}
 use Rattle.std.proofs.Common.{append_assoc, append-nil, arith, length-append}
 use Rattle.std.specs.Str.{IsUtf8}
-use Rattle.std.proofs.lemmas.List.{drop_all, drop_more, map-append}
-use Rattle.std.proofs.lemmas.List.Sums.{sum_by-cons}
 use Rattle.fts_text.specs.declared.tokenizer.Token.{Token}
 use Rattle.fts_text.specs.declared.tokenizer.Tokens.{Tokens}
 use Rattle.fts_text.specs.Tokens.{following, tokens_from, tokens_of_texts}
@@ -38,13 +36,6 @@ Logs-start first text doc before left utf8 start follows =
       follows = follows;
     }
 
-pub Logs-place : {first : ℕ} {text : List ℕ} {doc : ℕ} {before now : List OccurrenceValue} (token : Token) (left rest : Tokens) →
-    places_left left ≡ token ∷ places_left rest →
-    Logs first text doc before now left → IsPlaceFrom first text token
-Logs-place {first} {text} token left rest next s =
-    let P : List Token → Type 0 = All (IsPlaceFrom first text) in
-    subst P next s.within 0 token (omega arith)
-
 pub Logs-next : {first : ℕ} {text : List ℕ} {doc : ℕ} {before now : List OccurrenceValue} (token : Token) (left rest : Tokens) (after : List OccurrenceValue) →
     places_left left ≡ token ∷ places_left rest →
     following_left rest ≡ following_left left → after ≡ now ++ occurrence_at doc (token_at text token) ∷ [] → Logs first text doc before now left →
@@ -60,61 +51,11 @@ Logs-next {first} {text} {doc} {before} {now} token left rest after next same pu
       follows = same ∙ s.follows;
     }
 
-pub Logs-end : {first : ℕ} {text : List ℕ} {doc : ℕ} {before now : List OccurrenceValue} (left : Tokens) → places_left left ≡ [] →
-    Logs first text doc before now left →
-    now ≡ before ++ map (occurrence_at doc) (tokens_from first text)
-Logs-end {first} {text} {doc} {before} {now} left none s =
-    sym (append-nil now) ∙ sym (ap (λ ps. now ++ map (λ t. occurrence_at doc (token_at text t)) ps) none) ∙ s.whole
-
 -- a loop over texts from number `n`, the next of which has spans numbered from `first`
 pub record LogsOn (texts : List (List ℕ)) (doc : ℕ) (before now : List OccurrenceValue) (n first : ℕ) : Type 0 where
   pub room : HasRoom first (drop n texts)
   pub whole : now ++ map (occurrence_at doc) (tokens_of_texts first (drop n texts)) ≡ before ++ map (occurrence_at doc) (tokens_of_texts 0 texts)
   pub few : length (tokens_of_texts 0 texts) + bytes_of (drop n texts) ≤ bytes_of texts + length (tokens_of_texts first (drop n texts))
-
-pub LogsOn-start : (texts : List (List ℕ)) (doc : ℕ) (before : List OccurrenceValue) → HasRoom 0 texts → LogsOn texts doc before before 0 0
-LogsOn-start texts doc before room = record { room = room; whole = refl; few = omega arith }
-
--- the next text has its spans, and so have those after it
-here_first : (texts : List (List ℕ)) (n first : ℕ) → n < length texts → HasRoom first (drop n texts) →
-    first + length (get_or texts n []) + bytes_of (drop (n + 1) texts) + suc (length (drop (n + 1) texts)) + 2 < 2 ^ 32
-here_first texts n first inside room =
-    let here : HasRoom first (get_or texts n [] ∷ drop (n + 1) texts) = subst (HasRoom first) (drop_more texts n [] inside) room in
-    omega (arith, here, sum_by-cons {X = List ℕ} length (get_or texts n []) (drop (n + 1) texts))
-
-pub LogsOn-room : {texts : List (List ℕ)} {doc : ℕ} {before now : List OccurrenceValue} (n first : ℕ) → n < length texts → LogsOn texts doc before now n first →
-    first + length (get_or texts n []) + 2 < 2 ^ 32
-LogsOn-room {texts} n first inside s = omega (arith, here_first texts n first inside s.room)
-
-pub LogsOn-next : {texts : List (List ℕ)} {doc : ℕ} {before now : List OccurrenceValue} (n first next : ℕ) (after : List OccurrenceValue) → n < length texts →
-    LogsOn texts doc before now n first →
-    after ≡ now ++ map (occurrence_at doc) (tokens_from first (get_or texts n [])) →
-    length (tokens_from first (get_or texts n [])) ≤ length (get_or texts n []) →
-    next ≡ following first (get_or texts n []) → next ≤ first + length (get_or texts n []) + 1 → LogsOn texts doc before after (n + 1) next
-LogsOn-next {texts} {doc} {before} {now} n first next after inside s put few is near =
-    let text = get_or texts n [] in
-    let rest = drop (n + 1) texts in
-    let at : List (List ℕ) → List OccurrenceValue = λ ts. now ++ map (occurrence_at doc) (tokens_of_texts first ts) in
-    let bytes = ap bytes_of (drop_more texts n [] inside) ∙ sum_by-cons {X = List ℕ} length text rest in
-    let count = ap (λ ts. length (tokens_of_texts first ts)) (drop_more texts n [] inside)
-    ∙ length-append (tokens_from first text) (tokens_of_texts (following first text) rest) in
-    let same = ap (λ m. length (tokens_of_texts m rest)) is in
-    record {
-      room = omega (arith, near, here_first texts n first inside s.room);
-      whole = ap (λ m. after ++ map (occurrence_at doc) (tokens_of_texts m rest)) is
-          ∙ ap (λ os. os ++ map (occurrence_at doc) (tokens_of_texts (following first text) rest)) put
-          ∙ append_assoc now (map (occurrence_at doc) (tokens_from first text)) (map (occurrence_at doc) (tokens_of_texts (following first text) rest))
-          ∙ ap (λ os. now ++ os) (sym (map-append (occurrence_at doc) (tokens_from first text) (tokens_of_texts (following first text) rest)))
-          ∙ ap at (sym (drop_more texts n [] inside)) ∙ s.whole;
-      few = omega (arith, s.few, bytes, count, same, few);
-    }
-
-pub LogsOn-end : {texts : List (List ℕ)} {doc : ℕ} {before now : List OccurrenceValue} (n first : ℕ) → length texts ≤ n → LogsOn texts doc before now n first →
-    (now ≡ before ++ map (occurrence_at doc) (tokens_of_texts 0 texts)) × (length (tokens_of_texts 0 texts) ≤ bytes_of texts)
-LogsOn-end {texts} {doc} {before} {now} n first past s = (
-  sym (append-nil now) ∙ sym (ap (λ ts. now ++ map (occurrence_at doc) (tokens_of_texts first ts)) (drop_all n texts past)) ∙ s.whole,
-  omega (arith, s.few, ap (λ ts. length (tokens_of_texts first ts)) (drop_all n texts past)),
-)
 
 -- the occurrences of values with one more
 pub occurrences-push : (kind : Kind) (doc n : ℕ) (vs : List (Option FieldValue)) (v : Option FieldValue) → n ≡ doc + length vs →

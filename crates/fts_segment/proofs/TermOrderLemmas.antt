@@ -180,16 +180,6 @@ pub record IsSorting (names : List (List ℕ)) (es : List Numbered) (i : ℕ) (d
   pub up_to : (k j : ℕ) → k < length different → i ≤ j → j < length es → slice_cmp nat_cmp (get_or different k []) (get_or (map name_of es) j []) ≢ Greater
   pub stand : All (λ e. Stands names different ordinals e.1) (take i es)
 
-pub IsSorting-start : (names : List (List ℕ)) (es : List Numbered) (different : List (List ℕ)) (ordinals : List ℕ) → length ordinals ≡ length names →
-    different ≡ [] → IsSorting names es 0 different ordinals
-IsSorting-start names es different ordinals count none =
-    subst (λ d. IsSorting names es 0 d ordinals) (sym none) (record {
-      count = count;
-      ascends = λ i j lower within. absurd (omega arith);
-      up_to = λ k j within. absurd (omega arith);
-      stand = λ k d within. absurd (omega arith);
-    })
-
 pub IsSorting-next : (names : List (List ℕ)) (es : List Numbered) (i : ℕ) (e : Numbered) (different : List (List ℕ)) (ordinals : List ℕ) (last : ℕ) →
     i < length es → e ≡ get_or es i e → slice_get names e.1 ≡ Some e.0.now →
     IsInOrder (map name_of es) → suc last ≡ length (with_name different e.0.now) → IsSorting names es i different ordinals →

@@ -51,6 +51,9 @@ impl Builder {
     }
 
     /// A builder for merging: takes up to 1,048,576 documents, with stamps in any order.
+    ///
+    /// Only tests call it: a merge joins the indexes of its sources ([`join`](crate::join)), and the tests compare what
+    /// that makes with what this builds from the documents.
     pub fn merging(alloc: Global, schema: &Schema) -> Result<Builder, Refusal>
         ensures ok { IfOk result
             (λ builder. builder ≡ record { segment = no_documents schema.now; merging = true }) }

@@ -8,8 +8,8 @@ ghost use Rattle.fts_segment.specs.Puts.{Puts};
 ghost use Rattle.fts_segment.specs.TermPositionLists.{position_lists_in};
 ghost use Rattle.fts_segment.specs.PositionCopiers.{lists_in};
 
-use crate::position_copier::PositionCopier;
 use crate::doc_map::DocMap;
+use crate::position_copier::PositionCopier;
 use crate::position_lists::PositionListLog;
 use crate::term_positions::TermPositionLists;
 use fts_pack::{BLOCK, Blocks, List};

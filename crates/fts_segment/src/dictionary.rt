@@ -7,9 +7,9 @@ ghost use Rattle.fts_segment.specs.Keywords.{texts_of};
 
 use crate::binary_search::find_name;
 use crate::names::Names;
-use crate::token_log::log_of_field;
 use crate::segment::ListId;
 use crate::term_positions::TermPositions;
+use crate::token_log::log_of_field;
 use fts_base::release;
 use fts_model::{Document, Kind, Stamped};
 use fts_pack::Blocks;

@@ -10,9 +10,9 @@ ghost use Rattle.fts_segment.specs.Sources.{contents, live_count, HasBits};
 
 use crate::dictionary::Dictionary;
 use crate::doc_map::DocMap;
-use crate::term_stream::TermStream;
 use crate::live_segment::LiveSegment;
 use crate::term_merge::merge_terms;
+use crate::term_stream::TermStream;
 use fts_model::Kind;
 use std::alloc::{AllocError, Global};
 

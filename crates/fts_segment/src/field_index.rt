@@ -16,10 +16,10 @@ ghost use Rattle.fts_segment.specs.Sources.{contents, live_count};
 use crate::dictionary::Dictionary;
 use crate::dictionary_merge::merge_dictionaries;
 use crate::keyword_index::KeywordIndex;
-use crate::number_index::{NumberIndex, number_in};
-use crate::sorted_column::SortedColumn;
-use crate::segment::ListId;
 use crate::live_segment::LiveSegment;
+use crate::number_index::{NumberIndex, number_in};
+use crate::segment::ListId;
+use crate::sorted_column::SortedColumn;
 use fts_model::{Document, FieldValue, Kind, Stamped};
 use std::alloc::{AllocError, Global};
 

@@ -15,7 +15,7 @@ const EMPTY: u32 = u32::MAX;
 
 /// The number of a name, with its hash.
 #[derive(Clone, Copy)]
-struct Slot {
+struct CacheSlot {
     hash: u32,
     number: u32,
 }
@@ -25,7 +25,7 @@ struct Slot {
 #[derive(Drop)]
 pub(crate) struct IdCache {
     /// The table; its size is a power of two, or zero.
-    slots: Vec<Slot>,
+    slots: Vec<CacheSlot>,
     /// The number of slots in use.
     taken: usize,
 }
@@ -68,13 +68,13 @@ impl IdCache {
         if self.taken >= self.slots.len() / 4 {
             self.grow(alloc);
         }
-        self.put_into(Slot { hash, number });
+        self.put_into(CacheSlot { hash, number });
     }
 
     /// Moves all entries to a table of twice the size.
     fn grow(&mut self, alloc: Global) {
         let size = self.slots.len().saturating_mul(2).max(64);
-        let empty = Slot {
+        let empty = CacheSlot {
             hash: 0,
             number: EMPTY,
         };
@@ -92,7 +92,7 @@ impl IdCache {
     }
 
     /// Stores an entry in one of its slots, if one is free.
-    fn put_into(&mut self, slot: Slot) {
+    fn put_into(&mut self, slot: CacheSlot) {
         for step in 0..WINDOW {
             let place = self.place(slot.hash, step);
             if place < self.slots.len() && self.slots[place].number == EMPTY {

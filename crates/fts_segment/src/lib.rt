@@ -17,41 +17,41 @@
 //! ```
 #![tactic(auto)]
 
-mod builder;
+mod binary_search;
 mod block_reader;
-mod position_copier;
+mod builder;
+mod copy_postings;
 mod dictionary;
-mod term_ids;
+mod dictionary_merge;
+mod doc_map;
 mod field_index;
 mod id_cache;
-mod dictionary_merge;
 mod keyword_index;
 pub mod laws;
-mod binary_search;
-mod copy_postings;
+mod live_segment;
 mod names;
-mod doc_map;
 mod number_index;
-mod token_log;
-mod sorted_column;
-mod term_stream;
+mod position_copier;
 mod position_lists;
 mod position_reader;
 mod positions;
 mod postings_writer;
 mod segment;
 mod segment_join;
-mod live_segment;
+mod sorted_column;
+mod sorted_names;
 mod sums;
 mod term_groups;
-mod term_merge;
+mod term_ids;
 mod term_log;
-mod sorted_names;
+mod term_merge;
 mod term_positions;
+mod term_stream;
+mod token_log;
 
 pub use builder::Builder;
+pub use live_segment::LiveSegment;
 pub use position_reader::PositionReader;
 pub use positions::Positions;
 pub use segment::{ListId, Segment};
 pub use segment_join::join;
-pub use live_segment::LiveSegment;

@@ -16,11 +16,11 @@ ghost use Rattle.fts_segment.specs.Keywords.{before, text_in_value, up_to};
 ghost use Rattle.fts_model.specs.declared.schema.Kind.TheVariants as kinds;
 ghost use Rattle.fts_segment.specs.ListIds.{documents_in, positions_in};
 
+use crate::binary_search::equal_range;
 use crate::dictionary::Dictionary;
 use crate::field_index::FieldIndex;
-use crate::binary_search::equal_range;
-use crate::sorted_column::SortedColumn;
 use crate::position_reader::PositionReader;
+use crate::sorted_column::SortedColumn;
 use crate::term_positions::TermPositionLists;
 use fts_base::release;
 use fts_model::{Document, FieldValue, Schema, Stamp, Stamped, Term};

@@ -11,8 +11,8 @@ ghost use Rattle.fts_segment.specs.Segments.{AllFit, AreDocuments};
 ghost use Rattle.fts_segment.specs.Sources.{AreOfOneSchema, both, contents, joined_segment, live_count, schema_of};
 
 use crate::field_index::FieldIndex;
-use crate::segment::{Segment, SegmentData};
 use crate::live_segment::LiveSegment;
+use crate::segment::{Segment, SegmentData};
 use fts_model::{Document, Refusal, Schema, Stamped};
 use fts_pack::bits::Bits;
 use std::alloc::{AllocError, Global};
@@ -42,7 +42,10 @@ fn take_document(
 }
 
 /// Appends the live documents of a source.
-fn take_live(documents: &mut Vec<Stamped<Document>>, source: &LiveSegment<'_>) -> Result<(), AllocError>
+fn take_live(
+    documents: &mut Vec<Stamped<Document>>,
+    source: &LiveSegment<'_>,
+) -> Result<(), AllocError>
     ensures documents { OnOk result (documents.new.items
         ≡ documents.old.items ++ content_of source.now.segment source.now.live) }
     ensures fit { AllFit source.now.segment.schema source.now.segment.documents }
@@ -57,7 +60,10 @@ fn take_live(documents: &mut Vec<Stamped<Document>>, source: &LiveSegment<'_>) -
 }
 
 /// The live documents of sources.
-fn documents_of(alloc: Global, sources: &[LiveSegment<'_>]) -> Result<Vec<Stamped<Document>>, AllocError>
+fn documents_of(
+    alloc: Global,
+    sources: &[LiveSegment<'_>],
+) -> Result<Vec<Stamped<Document>>, AllocError>
     requires { AreOfOneSchema sources.now }
     ensures documents { IfOk result (λ documents. documents.items ≡ contents sources.now) }
     ensures fit { OnOk result (AllFit (schema_of sources.now) (contents sources.now)) }

@@ -4,7 +4,7 @@ ghost use Rattle.std.specs.Prelude.{◌≡◌, ◌+◌};
 ghost use Rattle.fts_segment.specs.Between.{AreBetween, IsCut, NumberColumn, count_between};
 ghost use Rattle.fts_segment.specs.SortedColumns.{IsOrdered, numbers_in};
 
-use crate::binary_search::{upper_bound, lower_bound};
+use crate::binary_search::{lower_bound, upper_bound};
 use fts_pack::List;
 use fts_pack::column::Column;
 

@@ -3,10 +3,10 @@ ghost use Rattle.std.specs.Prelude.{◌≡◌, ◌<◌, length, map, All};
 ghost use Rattle.fts_segment.specs.TermLogs.{by_ordinal};
 
 use crate::dictionary::Dictionary;
-use crate::term_ids::TermIds;
 use crate::postings_writer::write_terms;
-use crate::term_groups::TermGroups;
 use crate::sorted_names::{SortedNames, sort_names};
+use crate::term_groups::TermGroups;
+use crate::term_ids::TermIds;
 use fts_base::release;
 use std::alloc::{AllocError, Global};
 use std::marker::Model;

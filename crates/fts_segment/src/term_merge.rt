@@ -12,9 +12,9 @@ ghost use Rattle.fts_segment.specs.TermPositionLists.{term_position_lists};
 
 use crate::dictionary::Dictionary;
 use crate::names::Name;
-use crate::term_stream::TermStream;
 use crate::position_lists::PositionListLog;
 use crate::postings_writer::PostingsWriter;
+use crate::term_stream::TermStream;
 use fts_base::release;
 use std::alloc::{AllocError, Global};
 
@@ -111,7 +111,10 @@ fn writer_for(alloc: Global, parts: &[TermStream<'_>]) -> Result<PostingsWriter,
 }
 
 /// The dictionary of streams: the terms that have a live posting, in order, each with the postings of every stream.
-pub(crate) fn merge_terms(alloc: Global, parts: &mut [TermStream<'_>]) -> Result<Dictionary, AllocError>
+pub(crate) fn merge_terms(
+    alloc: Global,
+    parts: &mut [TermStream<'_>],
+) -> Result<Dictionary, AllocError>
     requires sound { AllByRecursion IsSound parts.old }
     requires rise { (q : List ℕ) → IsStrictlyIncreasing (documents (joined parts.old q)) }
     ensures { IfOk result (λ dictionary. IsJoined parts.old

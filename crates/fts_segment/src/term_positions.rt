@@ -113,7 +113,11 @@ impl PositionLog {
     }
 
     /// Appends the positions of a term. `list` is a scratch buffer for those of a posting.
-    pub(crate) fn push(&mut self, list: &mut Vec<u32>, places: &[DocPosition]) -> Result<(), AllocError>
+    pub(crate) fn push(
+        &mut self,
+        list: &mut Vec<u32>,
+        places: &[DocPosition],
+    ) -> Result<(), AllocError>
         requires is { IsPositionLog self.old }
         requires positions { All IsPositionList (position_lists_of places.now) }
         ensures is { OnOk result (IsPositionLog self.new) }

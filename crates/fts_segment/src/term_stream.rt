@@ -4,11 +4,11 @@ ghost use Rattle.fts_segment.specs.Parts.{begins, given, passed, part_from, IsWh
 ghost use Rattle.fts_segment.specs.PositionListLogs.{IsPositionListLog};
 ghost use Rattle.fts_segment.specs.Puts.{Puts};
 
-use crate::position_copier::PositionCopier;
-use crate::dictionary::Dictionary;
 use crate::copy_postings::copy_postings;
-use crate::names::Name;
+use crate::dictionary::Dictionary;
 use crate::doc_map::DocMap;
+use crate::names::Name;
+use crate::position_copier::PositionCopier;
 use crate::position_lists::PositionListLog;
 use fts_pack::{BLOCK, List};
 use std::alloc::AllocError;

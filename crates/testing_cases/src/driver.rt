@@ -29,15 +29,15 @@ pub enum Wanted {
 
 /// How many cases were tried, and how many of them failed.
 #[derive(Clone, Copy)]
-pub struct Tally {
+pub struct CaseCounts {
     cases: u64,
     failed: u64,
 }
 
-impl Tally {
+impl CaseCounts {
     /// The tally before the first case.
-    pub fn new() -> Tally {
-        Tally {
+    pub fn new() -> CaseCounts {
+        CaseCounts {
             cases: 0,
             failed: 0,
         }
@@ -57,9 +57,9 @@ impl Tally {
         rt: &R,
         name: &str,
         wanted: Wanted,
-        file: Tally,
+        file: CaseCounts,
     ) -> io::Result<()> {
-        let Tally { cases, failed } = file;
+        let CaseCounts { cases, failed } = file;
         match wanted {
             Wanted::Fit => println!(rt; "{name}: {cases} cases")?,
             Wanted::Differ => println!(rt; "{name}: {cases} cases that differ")?,
@@ -178,9 +178,9 @@ fn file<R: Print + AllocGlobal + Files, D: Driver>(
     driver: &mut D,
     name: &str,
     wanted: Wanted,
-) -> io::Result<Tally> {
+) -> io::Result<CaseCounts> {
     let all = fs::read_to_string(rt, name)?;
-    let mut tally = Tally::new();
+    let mut tally = CaseCounts::new();
     driver.begin();
     for line in all.as_str().lines() {
         tally.count(holds(rt, driver, name, line)? == (wanted == Wanted::Fit));
@@ -195,7 +195,7 @@ pub fn run<R: Print + AllocGlobal + Files + Env, D: Driver>(
     driver: &mut D,
 ) -> io::Result<ExitCode> {
     let mut wanted = Wanted::Fit;
-    let mut all = Tally::new();
+    let mut all = CaseCounts::new();
     for word in env::args(rt)?.skip(1) {
         if word.as_str() == "--wrong" {
             wanted = Wanted::Differ;

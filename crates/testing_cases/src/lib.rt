@@ -8,7 +8,7 @@
 //!
 //! A driver is a program whose `args` name its files. It hands a [`Driver`] to [`run`], which has it make the public
 //! calls of each case and compares what they gave with what the case says under `gives`. Another case costs no proof. A
-//! driver whose calls start threads goes over its files by itself, by [`case_on`], [`judged`] and [`Tally`]: what the
+//! driver whose calls start threads goes over its files by itself, by [`case_on`], [`judged`] and [`CaseCounts`]: what the
 //! runtime may do is known of a function's own parameters, and not after a trait.
 //!
 //! - [`run`] prints `DIFFERS: FILE: sentence: what was given` for each case that differs, `FILE: N cases` at the end of
@@ -35,7 +35,7 @@ mod trial;
 mod trouble;
 
 pub use answers::{give_answer, request_of};
-pub use driver::{Driver, Tally, Wanted, case_on, judged, run};
+pub use driver::{CaseCounts, Driver, Wanted, case_on, judged, run};
 pub use fields::{fields_of, schema_of, schema_of_four, schema_with};
 pub use judge::fits;
 pub use members::{

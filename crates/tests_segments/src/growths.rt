@@ -3,7 +3,7 @@
 use crate::fixtures::example;
 use fts_collect::{Part, collect};
 use fts_cursor::{DocSet, cursor_of};
-use fts_merge::{Merged, LiveSegment, merge, strike};
+use fts_merge::{LiveSegment, Merged, merge, strike};
 use fts_model::{Answer, FieldValue, Op, Order, Query, Refusal, Request, Stamped, Term, Text};
 use fts_pack::bits::Bits;
 use fts_query::parse;
@@ -150,7 +150,10 @@ fn merged(
     if first.len() != segment.docs() || second.len() != segment.docs() {
         panic!(rt; "not one bit a document");
     }
-    let sources = [LiveSegment::new(segment, first), LiveSegment::new(segment, second)];
+    let sources = [
+        LiveSegment::new(segment, first),
+        LiveSegment::new(segment, second),
+    ];
     match merge(alloc, &sources) {
         Err(Refusal::Memory) => merge(alloc, &sources).expect(rt, "a segment again"),
         merged => merged.expect(rt, "a segment"),

@@ -1,6 +1,6 @@
 //! The number of bits that numbers take, and numbers of a few bits packed end to end in words, the low bits first.
-ghost use Rattle.std.specs.Prelude.{◌≡◌, ℕ, ◌*◌, ◌/◌, ◌%◌, ◌^◌, ◌<◌, ◌≤◌};
-ghost use Rattle.fts_pack.specs.bits.Digits.{IsWidthOf, joined, word_count};
+ghost use Rattle.std.specs.Prelude.{◌≡◌, ℕ, ◌^◌, ◌<◌, ◌≤◌};
+ghost use Rattle.fts_pack.specs.bits.Digits.{IsWidthOf, word_count};
 
 /// The least number of bits that holds the number.
 pub fn bit_length(number: u64) -> u32
@@ -28,18 +28,4 @@ pub fn word_count_64(bits: usize) -> usize
     ensures { result ≡ word_count 64 bits }
 {
     bits / 64 + usize::from(bits % 64 > 0)
-}
-
-/// Number `index` of those that are in the words.
-#[inline]
-pub fn read(words: &[u64], width: u32, index: usize) -> u64
-    requires narrow { width ≤ 64 }
-    requires near { index * width < 2 ^ 64 }
-    ensures { result ≡ joined 64 words.now / 2 ^ (index * width) % 2 ^ width }
-{
-    let bit = index * width as usize;
-    let low = words.get(bit / 64).copied().unwrap_or(0);
-    let high = words.get(bit / 64 + 1).copied().unwrap_or(0);
-    let pair = u128::from(high) << 64 | u128::from(low);
-    ((pair >> (bit % 64)) & ((1 << width) - 1)) as u64
 }

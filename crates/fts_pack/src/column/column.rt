@@ -2,9 +2,8 @@
 // offset needs, with a bit for presence. The offsets are stored again in an array of fixed-width integers, from which
 // values are read.
 ghost use Rattle.std.specs.Prelude.{◌≡◌, ◌≤◌, ◌<◌, ◌+◌, ◌-◌, ◌*◌, ◌%◌, ◌^◌, ◌==◌, ℕ, List, [], ◌∷◌, Option, None};
-ghost use Rattle.std.specs.Prelude.{true, false, All, IfOk, IfSome, IsOkUnless, drop, is_some, length, map, min};
-ghost use Rattle.std.specs.Prelude.{slice_index, slice_index_or, take};
-ghost use Rattle.fts_pack.specs.bits.Bits.{number_of};
+ghost use Rattle.std.specs.Prelude.{true, false, All, IfOk, IfSome, IsOkUnless, drop, is_some, length, map};
+ghost use Rattle.std.specs.Prelude.{slice_index, slice_index_or};
 ghost use Rattle.fts_pack.specs.bits.Digits.{IsWidthOf, numbers_in, words_of};
 ghost use Rattle.std.specs.Option.{option_map_or};
 ghost use Rattle.std.specs.Int.{bit_at};
@@ -44,15 +43,6 @@ impl Drop for Column {
         } = self;
         release(words);
     }
-}
-
-/// The documents of a column from one on, at most 128 of them.
-#[derive(Clone, Copy, Debug, PartialEq, Eq)]
-pub struct Stretch {
-    /// How many documents there are.
-    pub len: usize,
-    /// A bit for each of them, the first the lowest: it is set if the document has a value.
-    pub present: u128,
 }
 
 impl Model for Column {
@@ -142,42 +132,6 @@ impl Column {
         }
     }
 
-    /// Writes the values of the 128 documents from `from` on, a multiple of 64, and tells which of them have one. The
-    /// place of a document that has none, or that isn't there, may hold anything.
-    pub fn values(&self, from: usize, out: &mut [u64; 128]) -> Stretch
-        requires inside { from ≤ length self.now }
-        requires aligned { from % 64 ≡ 0 }
-        ensures len { result.len ≡ min 128 (length self.now - from) }
-        ensures present { result.present ≡ number_of (map is_some (take 128 (drop from self.now))) }
-        ensures values { (i x : ℕ) → i < 128 → slice_index_or self.now (from + i) None ≡ Some x
-            → slice_index out.new i ≡ x }
-    {
-        let len = (self.present.len() - from).min(128);
-        self.write_values(from, &mut out[..64]);
-        self.write_values(from + 64, &mut out[64..]);
-        let low = u128::from(self.present.word(from / 64));
-        let high = u128::from(self.present.word(from / 64 + 1));
-        Stretch {
-            len,
-            present: low | high << 64,
-        }
-    }
-
-    /// Writes the values of up to 64 documents.
-    fn write_values(&self, from: usize, out: &mut [u64])
-        requires aligned { from % 64 ≡ 0 }
-        requires long { length out.old ≡ 64 }
-        ensures values { (i x : ℕ) → i < 64 → slice_index_or self.now (from + i) None ≡ Some x
-            → slice_index out.new i ≡ x }
-        ensures long { length out.new ≡ 64 }
-    {
-        if from >= self.present.len() {
-            return;
-        }
-        let (least, _) = self.range.unwrap_or((0, 0));
-        self.lanes.write(from, least, out);
-    }
-
     /// A mask of the 64 documents from `from`, a multiple of 64, whose value is in `low..=high`; the first is the
     /// lowest bit. The bit of a document that has no value, or that does not exist, is 0.
     #[inline]
@@ -231,7 +185,7 @@ impl Column {
             .last_within(&self.present, docs, above, high - least)
     }
 
-    /// The least and greatest value, or `None` if no document has a value.
+    /// The least and greatest value, or `None` if no document has a value. Groups and top lists call it.
     pub fn range(&self) -> Option<(u64, u64)>
         ensures { IsRangeOf self.now result }
     {

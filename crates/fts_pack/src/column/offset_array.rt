@@ -1,13 +1,13 @@
 // Offsets in integers of one width: each is read by one load, and 64 are compared at once.
-ghost use Rattle.std.specs.Prelude.{◌≡◌, ℕ, ◌+◌, ◌%◌, ◌^◌, ◌<◌, ◌≤◌, IfOk, length, map, min, slice_index};
+ghost use Rattle.std.specs.Prelude.{◌≡◌, ◌%◌, ◌^◌, ◌≤◌, IfOk, length, map, min};
 ghost use Rattle.fts_pack.specs.column.Column.{HaveOffsets, offsets};
 ghost use Rattle.fts_pack.specs.column.OffsetArray.{AreLanesOf, AreMarked};
 
 use crate::bits::Bits;
 use crate::column::column::offset;
-use crate::column::value_counts::count_offsets;
 use crate::column::last_within::last_offset_within;
 use crate::column::offset_int::OffsetInt;
+use crate::column::value_counts::count_offsets;
 use fts_base::release;
 use std::alloc::{AllocError, Global};
 use std::simd::prelude::*;
@@ -35,7 +35,7 @@ impl Drop for OffsetArray {
 }
 
 impl OffsetArray {
-    ghost use Rattle.std.specs.Prelude.{◌≡◌, ℕ, ◌+◌, ◌%◌, ◌^◌, ◌<◌, ◌≤◌, IfOk, drop, length, slice_index};
+    ghost use Rattle.std.specs.Prelude.{◌≡◌, ℕ, ◌+◌, ◌<◌, ◌≤◌, IfOk, drop, length, slice_index};
     ghost use Rattle.fts_pack.specs.column.Column.{HaveOffsets, offsets};
     ghost use Rattle.fts_pack.specs.column.Counts.{AreCounted};
     ghost use Rattle.fts_pack.specs.column.Interval.{IsLastWithin};
@@ -70,22 +70,6 @@ impl OffsetArray {
             OffsetArray::Bytes(bytes) => u64::from(bytes[place]),
             OffsetArray::Words(words) => u64::from(words[place]),
             OffsetArray::Longs(longs) => longs[place],
-        }
-    }
-
-    /// Writes how much the 64 numbers from `from` on are with `least` added to each, modulo 2^64.
-    #[inline]
-    pub(crate) fn write(&self, from: usize, least: u64, out: &mut [u64])
-        requires inside { from + 64 ≤ length (in_lanes self.now) }
-        requires long { length out.old ≡ 64 }
-        ensures values { (i : ℕ) → i < 64
-            → slice_index out.new i ≡ (least + slice_index (drop from (in_lanes self.now)) i) % 2 ^ 64 }
-        ensures long { length out.new ≡ 64 }
-    {
-        match self {
-            OffsetArray::Bytes(bytes) => write_lanes(&bytes[from..], least, out),
-            OffsetArray::Words(words) => write_lanes(&words[from..], least, out),
-            OffsetArray::Longs(longs) => write_lanes(&longs[from..], least, out),
         }
     }
 
@@ -131,9 +115,27 @@ impl OffsetArray {
         ensures { IsLastWithin (number_at present.now (in_lanes self.now)) low high docs.now result }
     {
         match self {
-            OffsetArray::Bytes(bytes) => last_offset_within(bytes.as_slice(), present, docs, low, high),
-            OffsetArray::Words(words) => last_offset_within(words.as_slice(), present, docs, low, high),
-            OffsetArray::Longs(longs) => last_offset_within(longs.as_slice(), present, docs, low, high),
+            OffsetArray::Bytes(bytes) => last_offset_within(
+                bytes.as_slice(),
+                present,
+                docs,
+                low,
+                high,
+            ),
+            OffsetArray::Words(words) => last_offset_within(
+                words.as_slice(),
+                present,
+                docs,
+                low,
+                high,
+            ),
+            OffsetArray::Longs(longs) => last_offset_within(
+                longs.as_slice(),
+                present,
+                docs,
+                low,
+                high,
+            ),
         }
     }
 }
@@ -164,20 +166,6 @@ fn lane_count(numbers: usize) -> usize
     ensures whole { result % 64 ≡ 0 }
 {
     (numbers + 63) / 64 * 64
-}
-
-/// Writes the first 64 numbers with `least` added to each, modulo 2^64.
-#[inline]
-fn write_lanes<L: OffsetInt>(lanes: &[L], least: u64, out: &mut [u64])
-    requires enough { 64 ≤ length lanes.now }
-    requires long { length out.old ≡ 64 }
-    ensures values { (i : ℕ) → i < 64
-        → slice_index out.new i ≡ (least + slice_index (map L.value lanes.now) i) % 2 ^ 64 }
-    ensures long { length out.new ≡ 64 }
-{
-    for place in 0..64 {
-        out[place] = least.wrapping_add(lanes[place].number());
-    }
 }
 
 /// A 64-bit mask of the bytes in `low..=high`. Subtracting `low` wraps what is below, so one unsigned comparison

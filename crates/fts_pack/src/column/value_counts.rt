@@ -9,7 +9,12 @@ use crate::bits::Bits;
 use crate::column::offset_int::OffsetInt;
 
 /// Adds one to `counts[offset]` for each document that has a value.
-pub(crate) fn count_offsets<L: OffsetInt>(lanes: &[L], present: &Bits, docs: &[u32], counts: &mut [u64])
+pub(crate) fn count_offsets<L: OffsetInt>(
+    lanes: &[L],
+    present: &Bits,
+    docs: &[u32],
+    counts: &mut [u64],
+)
     requires enough { length present.now ≤ length lanes.now }
     requires within { (doc : ℕ) → doc < length present.now
         → slice_index (map L.value lanes.now) doc < length counts.old }

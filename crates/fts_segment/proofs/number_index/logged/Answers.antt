@@ -4,7 +4,7 @@ use Rattle.std.proofs.lemmas.Option.{slice_get-get_or}
 use Rattle.fts_segment.specs.Segments.{numbers_where}
 use Rattle.fts_segment.specs.Numbers.{is_number}
 use Rattle.fts_segment.proofs.NumberLemmas.{IsLogged-push}
-use Rattle.fts_segment.proofs.number_index.log_of_field.Goals as goal
+use Rattle.fts_segment.proofs.number_index.logged.Goals as goal
 
 pub loop-doc-preserved : goal.loop-doc-preserved
 loop-doc-preserved c =

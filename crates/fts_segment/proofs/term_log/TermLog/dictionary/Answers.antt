@@ -8,7 +8,7 @@ use Rattle.fts_segment.specs.Occurrences.{OccurrenceValue, docs_with}
 use Rattle.fts_segment.specs.Positions.{position_lists_of, position_lists_with}
 use Rattle.fts_segment.specs.PositionLists.{IsPositionList}
 use Rattle.fts_segment.specs.TermLogs.{AreNamed, by_ordinal}
-use Rattle.fts_segment.proofs.DictionaryLemmas.{IsGrouped, IsGrouped-sort_names, lists_rise, groups_have_position_lists}
+use Rattle.fts_segment.proofs.DictionaryLemmas.{IsGrouped, IsGrouped-sorted, lists_rise, groups_have_position_lists}
 use Rattle.fts_segment.proofs.TermLogsLemmas.{Stand, AreNamed-by_ordinal}
 use Rattle.fts_segment.proofs.term_log.TermLog.dictionary.Goals as goal
 use Rattle.fts_segment.proofs.term_log.TermLog.dictionary.Goals.{After-len, After-groups-2-1}
@@ -35,7 +35,7 @@ count_of c = omega (arith, c.len.ensures, c.in_ok-names.field-0.names.ok.0, leng
 grouped_of : (c : After-groups-2-1) → IsGrouped c.self.inside.terms (sorted_in (goal.at.write_terms-requires-clause-rise c).After-len) c.self.inside.log.items
     c.in_ok-groups.groups
 grouped_of c = let a = (goal.at.write_terms-requires-clause-rise c).After-len in
-    IsGrouped-sort_names c.self.inside.terms (sorted_in a) c.in_ok-names.field-0.ordinals.items c.self.inside.log.items c.deref-2.result.now c.in_ok-groups.groups
+    IsGrouped-sorted c.self.inside.terms (sorted_in a) c.in_ok-names.field-0.ordinals.items c.self.inside.log.items c.deref-2.result.now c.in_ok-groups.groups
     c.len.result
     c.in_ok-names.ensures.ascends (stand_of a) c.self.invariant (after_of a) (count_of a) c.in_ok-groups.ensures.count c.in_ok-groups.ensures.groups
 

@@ -11,11 +11,11 @@ pub(crate) const MOST_PLAIN: usize = 64;
 
 /// A strictly rising list of one to 64 documents.
 #[derive(Drop)]
-pub(crate) struct Plain {
+pub(crate) struct PlainList {
     documents: Vec<u32>,
 }
 
-impl Model for Plain {
+impl Model for PlainList {
     ghost use Rattle.std.specs.Prelude.{◌<◌, ◌≤◌, length};
     ghost use Rattle.fts_pack.specs.Documents.{DocumentNumbers};
 
@@ -26,15 +26,15 @@ impl Model for Plain {
     ghost invariant = { λ p. (0 < length p.documents.items) × (length p.documents.items ≤ 64) };
 }
 
-impl Plain {
+impl PlainList {
     /// Stores these documents.
-    pub(crate) fn new(alloc: Global, documents: &[u32]) -> Result<Plain, AllocError>
+    pub(crate) fn new(alloc: Global, documents: &[u32]) -> Result<PlainList, AllocError>
         requires some { 0 < length documents.now }
         requires few { length documents.now ≤ 64 }
         ensures { IfOk result (λ plain. plain ≡ documents.now) }
     {
         let documents = documents.to_vec(alloc)?;
-        Ok(Plain { documents })
+        Ok(PlainList { documents })
     }
 
     /// The number of documents.
