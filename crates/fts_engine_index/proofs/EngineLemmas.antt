@@ -7,8 +7,8 @@ use Rattle.fts_model.specs.Operations.{op_fits}
 use Rattle.fts_snapshots.specs.Changes.{Commits, Merges}
 use Rattle.fts_index.specs.Publications.{FrontValue, Known}
 use Rattle.fts_index.specs.Writers.{KeepsRounds, WriterValue}
-use Rattle.fts_engine_local.specs.CountedIndexes.{IsCounted}
-use Rattle.fts_engine_local.proofs.CountedLemmas.{counted_committed, counted_merged, counted_submitted}
+use Rattle.fts_snapshots.specs.CountedSnapshots.{IsCounted}
+use Rattle.fts_snapshots.proofs.CountedLemmas.{counted_submitted}
 use Rattle.fts_engine_index.specs.declared.uncommitted.Uncommitted.{Uncommitted}
 use Rattle.fts_engine_index.specs.declared.uncommitted.Uncommitted.TheVariants.{Nothing}
 use Rattle.fts_engine_index.specs.UncommittedOperations.{ops_of, IsUncommittedIn, Submits}

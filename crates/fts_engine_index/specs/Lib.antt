@@ -1,3 +1,2 @@
-pub mod SearchThreads
 pub mod UncommittedOperations
 pub mod WriterIndexes

@@ -1,18 +1,23 @@
 -- An index over a writer of segments and uncommitted operations.
 use Rattle.std.specs.Prelude.{◌≡◌, Bool, ℕ, ◌≤◌, Option, Some, List, length}
-use Rattle.fts_snapshots.specs.Snapshots.{SnapshotValue}
+use Rattle.fts_snapshots.specs.CountedSnapshots.{IsCounted}
+use Rattle.fts_snapshots.specs.Snapshots.{SnapshotValue, content_of}
 use Rattle.fts_snapshots.specs.declared.entries.entry.SegmentInfo.{SegmentInfo}
 use Rattle.fts_index.specs.Publications.{Known}
 use Rattle.fts_index.specs.Writers.{WriterValue}
 use Rattle.fts_engine.specs.Indexes.{Index}
 use Rattle.fts_engine.specs.declared.options.Merge.{Merge}
-use Rattle.fts_engine_local.specs.CountedIndexes.{IsCounted, index_at}
 use Rattle.fts_engine_index.specs.declared.uncommitted.Uncommitted.{Uncommitted}
 use Rattle.fts_engine_index.specs.UncommittedOperations.{ops_of, IsUncommittedIn}
 
 -- the index at a writer's last commit, with the uncommitted operations
 abbrev pub index_of : WriterValue → Uncommitted → Index
-index_of w uncommitted = index_at w.front.stamp w.front.snapshot (ops_of uncommitted)
+index_of w uncommitted = record {
+  schema = w.front.snapshot.schema;
+  documents = content_of w.front.snapshot;
+  commit_stamp = w.front.stamp;
+  uncommitted = ops_of uncommitted;
+}
 
 -- a reader, if there is one, is of the writer whose publications these are
 abbrev pub IsReaderOf : Known → Option Known → Type 0

@@ -1,17 +1,19 @@
 // An index over a writer of segments.
-ghost use Rattle.std.specs.Prelude.{◌≡◌, IfOk, IsOkUnless};
+ghost use Rattle.std.specs.Prelude.{◌≡◌, ◌≤◌, IfOk, IfSome, IsOkUnless};
+ghost use Rattle.fts_engine.specs.DefaultOptions.{if_policy};
 ghost use Rattle.fts_index.specs.Publications.{IsOneCommit};
+ghost use Rattle.fts_merge.specs.Levels.{usual};
+ghost use Rattle.fts_model.specs.Limits.{most_merged};
 ghost use Rattle.fts_engine_index.specs.WriterIndexes.{IsReaderOf};
 
 use crate::threads::threads_for;
 use crate::uncommitted;
 use crate::uncommitted::Uncommitted;
-use fts_engine::{Engine, EngineOver, Options};
-use fts_engine_local::merge_after;
+use fts_engine::{Engine, EngineOver, Merge, Options};
 use fts_index::{CommitSeen, Reader, Searcher, SegmentInfo, Writer};
 use fts_model::{Answer, Op, Query, Refusal, Request, Schema, Stamp};
 use fts_pool::Open;
-use fts_snapshots::{MergePolicy, merge_all};
+use fts_snapshots::{MergePolicy, merge_all, merge_planned};
 use std::alloc::Global;
 use std::marker::Model;
 use std::sync::Wait;
@@ -61,6 +63,18 @@ fn look(writer: &Writer, reader: &mut Option<Reader>)
     ensures { IsReaderOf writer.now.front.seen reader.new }
 {
     let _ = last_commit(writer, reader);
+}
+
+/// The policy by which a commit merges, if the option says that it does.
+fn policy_after(merge: Merge) -> Option<MergePolicy>
+    ensures policy { result ≡ if_policy merge usual }
+    ensures floor { IfSome result (λ p. p.floor ≤ most_merged) }
+    ensures most { IfSome result (λ p. p.most ≤ most_merged) }
+{
+    match merge {
+        Merge::Off => None,
+        Merge::Policy => Some(MergePolicy::usual()),
+    }
 }
 
 /// A writer of segments, the operations since its last commit, and a reader to which each commit is reported.
@@ -157,9 +171,10 @@ impl<R: AllocGlobal + Threads + Wait + Sync> EngineOver<R> for IndexEngine {
     ghost use Rattle.std.specs.Prelude.{◌+◌, ◌^◌, ◌≤◌, OnOk};
     ghost use Rattle.std.specs.Thread.{IsSync};
     ghost use Rattle.fts_merge.specs.Levels.{usual};
+    ghost use Rattle.fts_engine.specs.DefaultOptions.{if_policy};
     ghost use Rattle.fts_engine.specs.Indexes.{indexes};
     ghost use Rattle.fts_engine.specs.Steps.{commit, Steps};
-    ghost use Rattle.fts_engine_local.specs.CountedIndexes.{CommitsAndMerges};
+    ghost use Rattle.fts_snapshots.specs.CountedSnapshots.{CommitsAndMerges};
 
     fn open(rt: &R, options: Options, schema: Schema) -> Result<Self, Refusal> {
         let alloc = rt.alloc();
@@ -183,7 +198,7 @@ impl<R: AllocGlobal + Threads + Wait + Sync> EngineOver<R> for IndexEngine {
         requires sync { IsSync R.row }
         ensures step { Steps (commit indexes self.old.index) self.old.index self.new.index result }
         ensures changes { self.new.calls ≤ self.old.calls + 1 }
-        ensures merged { OnOk result (CommitsAndMerges self.old.merge usual self.old.index.uncommitted
+        ensures merged { OnOk result (CommitsAndMerges (if_policy self.old.merge usual) self.old.index.uncommitted
             self.old.snapshot self.new.snapshot self.new.is_merged) }
     {
         self.calls += 1;
@@ -197,13 +212,7 @@ impl<R: AllocGlobal + Threads + Wait + Sync> EngineOver<R> for IndexEngine {
             options,
         )?;
         self.count = 0;
-        let merged = merge_after(
-            rt,
-            alloc,
-            &mut self.writer,
-            options.merge,
-            &MergePolicy::usual(),
-        );
+        let merged = merge_planned(rt, alloc, &mut self.writer, policy_after(options.merge));
         self.is_merged = merged.is_ok();
         tell(&mut self.reader, &committed.seen);
         look(&self.writer, &mut self.reader);

@@ -5,7 +5,7 @@
 //! it takes the same steps as a plain list of documents, so no option changes a reply. If the segments are small, one
 //! thread searches them, whatever the number of workers.
 //!
-//! [`LocalEngine`] of `fts_engine_local`, which is handed on here, takes the same steps in the calling thread alone.
+//! `LocalEngine` of `fts_engine_local` takes the same steps in the calling thread alone.
 //!
 //! ```text
 //! run_script::<_, IndexEngine, _, _>(rt, &mut streams, options)?;
@@ -16,5 +16,4 @@ mod index_engine;
 mod threads;
 mod uncommitted;
 
-pub use fts_engine_local::LocalEngine;
 pub use index_engine::IndexEngine;

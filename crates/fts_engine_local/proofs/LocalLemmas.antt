@@ -16,7 +16,8 @@ use Rattle.fts_snapshots.specs.MergedSegments.{MergedSegmentValue, merged_of}
 use Rattle.fts_snapshots.specs.Merges.{is_among, without}
 use Rattle.fts_snapshots.specs.Snapshots.{SnapshotValue, segments_and_numbers}
 use Rattle.fts_snapshots.specs.Successors.{Fits, Follows}
-use Rattle.fts_snapshots.proofs.FollowLemmas.{fits_further, follows_further}
+use Rattle.fts_snapshots.proofs.FollowLemmas.{fits_further}
+use Rattle.fts_snapshots.specs.Successors.{follows_further}
 use Rattle.fts_model.specs.Operations.{stamps_of}
 use Rattle.fts_model.proofs.StampLemmas.{numbered-push}
 use Rattle.fts_engine.specs.Indexes.{Index, indexes}
@@ -26,10 +27,10 @@ use Rattle.fts_base.specs.declared.refusal.Refusal.{Refusal}
 use Rattle.fts_base.specs.Results.{result_and_then}
 use Rattle.fts_snapshots.specs.Commits.{misfit}
 use Rattle.fts_snapshots.specs.declared.commit_point.CommitPoint.{CommitPoint}
-use Rattle.fts_engine_local.specs.CountedIndexes.{IsCounted}
-use Rattle.fts_engine_local.specs.LaterCommits.{IsLaterCommit}
+use Rattle.fts_snapshots.specs.CountedSnapshots.{IsCounted}
+use Rattle.fts_snapshots.specs.LaterCommits.{IsLaterCommit}
 use Rattle.fts_engine_local.specs.LocalIndexes.{IsLocalEngine}
-use Rattle.fts_engine_local.proofs.CountedLemmas.{counted_committed, counted_merged, counted_submitted}
+use Rattle.fts_snapshots.proofs.CountedLemmas.{counted_committed, counted_merged, counted_submitted}
 
 -- what the started merge makes fits a later snapshot
 fits_later : (begun : Option (List EntryValue)) (old new : SnapshotValue) → ForSome begun (λ job. Fits (merged_of job) old) → Follows old new →
@@ -134,23 +135,4 @@ local_ended m old new uncommitted cut calls begun i is kept = record {
     stamps = omega (arith, kept, i.counted.stamps);
     segments = omega (arith, ap segments_and_numbers is, end_counted m old.snapshot, i.counted.segments);
   };
-}
-
--- one more call was counted, and the started merge may be forgotten
-pub local_counted : (commit : CommitPoint) (uncommitted : List (Stamped Op)) (cut : Cut) (calls : ℕ) (begun : Option (List EntryValue)) →
-    IsLocalEngine commit uncommitted cut calls begun → IsLocalEngine commit uncommitted cut (calls + 1) begun
-local_counted commit uncommitted cut calls begun i = record {
-  fits = i.fits;
-  cuts = i.cuts;
-  numbered = i.numbered;
-  counted = record { fit = i.counted.fit; stamps = omega (arith, i.counted.stamps); segments = omega (arith, i.counted.segments) };
-}
-
-pub local_forgotten : (commit : CommitPoint) (uncommitted : List (Stamped Op)) (cut : Cut) (calls : ℕ) (begun : Option (List EntryValue)) →
-    IsLocalEngine commit uncommitted cut calls begun → IsLocalEngine commit uncommitted cut (calls + 1) None
-local_forgotten commit uncommitted cut calls begun i = record {
-  fits = λ job is. cc;
-  cuts = i.cuts;
-  numbered = i.numbered;
-  counted = record { fit = i.counted.fit; stamps = omega (arith, i.counted.stamps); segments = omega (arith, i.counted.segments) };
 }

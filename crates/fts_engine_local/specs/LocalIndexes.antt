@@ -6,16 +6,25 @@ use Rattle.fts_model.specs.declared.cut.Cut.{Cut}
 use Rattle.fts_model.specs.declared.operation.Op.{Op}
 use Rattle.fts_model.specs.declared.operation.Stamped.{Stamped}
 use Rattle.fts_model.specs.Operations.{stamps_of}
+use Rattle.fts_snapshots.specs.CountedSnapshots.{IsCounted}
 use Rattle.fts_snapshots.specs.Cuts.{IsCut}
 use Rattle.fts_snapshots.specs.Entries.{EntryValue}
 use Rattle.fts_snapshots.specs.MergedSegments.{merged_of}
-use Rattle.fts_snapshots.specs.Snapshots.{SnapshotValue}
+use Rattle.fts_snapshots.specs.Snapshots.{SnapshotValue, content_of}
 use Rattle.fts_snapshots.specs.Successors.{Fits}
 use Rattle.fts_snapshots.specs.declared.commit_point.CommitPoint.{CommitPoint}
 use Rattle.fts_engine.specs.Indexes.{Index}
 use Rattle.fts_engine.specs.declared.options.Merge.{Merge}
-use Rattle.fts_engine_local.specs.CountedIndexes.{IsCounted}
 use Rattle.fts_engine_local.specs.declared.stats.Stats.{Stats}
+
+-- the index of a commit and of the operations since
+abbrev pub index_at : ℕ → SnapshotValue → List (Stamped Op) → Index
+index_at stamp snapshot uncommitted = record {
+  schema = snapshot.schema;
+  documents = content_of snapshot;
+  commit_stamp = stamp;
+  uncommitted = uncommitted;
+}
 
 -- an engine: its index, how many calls changed it, and how large it is; and what no reply shows: the segments of its
 -- last commit, when it merges, whether all that was due after that commit was merged, the segments of the merge that

@@ -15,11 +15,9 @@
 mod begun_merge;
 mod local_engine;
 mod local_policy;
-mod merging;
 mod next_commit;
 mod stats;
 
 pub use begun_merge::BegunMerge;
 pub use local_engine::LocalEngine;
-pub use local_policy::merge_after;
 pub use stats::Stats;

@@ -2,14 +2,13 @@
 ghost use Rattle.std.specs.Prelude.{◌≡◌, ◌+◌, ◌^◌, ◌<◌, ◌++◌, ◌∷◌, [], OnOk, OnErr};
 
 use crate::begun_merge::{BegunMerge, MergeSlot, begun, ended, is_memory};
-use crate::local_policy::{merge_after, policy};
-use crate::merging::Merging;
+use crate::local_policy::policy_after;
 use crate::next_commit::next_commit;
 use crate::stats::{Stats, stats_of};
 use fts_collect::search_alone;
 use fts_engine::{Engine, EngineOver, Fork, MOST_UNCOMMITTED, Merge, Options, SubmitTwo};
 use fts_model::{Answer, Cut, Op, Query, Refusal, Request, Schema, Stamp, Stamped};
-use fts_snapshots::{CommitPoint, Snapshot, merge_all};
+use fts_snapshots::{CommitPoint, Snapshot, merge_all, merge_planned};
 use std::alloc::{AllocError, Global};
 use std::marker::Model;
 use std::sync::Arc;
@@ -81,9 +80,8 @@ pub struct LocalEngine {
 impl Model for LocalEngine {
     ghost use Rattle.std.specs.Arc.{arc_value};
     ghost use Rattle.std.specs.Option.{option_map};
-    ghost use Rattle.fts_engine_local.specs.CountedIndexes.{index_at};
     ghost use Rattle.fts_engine_local.specs.declared.begun_merge.MergeSlot.{MergeSlot};
-    ghost use Rattle.fts_engine_local.specs.LocalIndexes.{IsLocalEngine, LocalValue};
+    ghost use Rattle.fts_engine_local.specs.LocalIndexes.{IsLocalEngine, LocalValue, index_at};
     ghost use Rattle.fts_engine_local.specs.Stats.{stats_of};
 
     ghost Value = { LocalValue };
@@ -250,7 +248,8 @@ impl<R: AllocGlobal + Sync> EngineOver<R> for LocalEngine {
     ghost use Rattle.std.specs.Thread.{IsSync};
     ghost use Rattle.fts_engine.specs.Indexes.{indexes};
     ghost use Rattle.fts_engine.specs.Steps.{commit, Steps};
-    ghost use Rattle.fts_engine_local.specs.CountedIndexes.{CommitsAndMerges};
+    ghost use Rattle.fts_engine.specs.DefaultOptions.{if_policy};
+    ghost use Rattle.fts_snapshots.specs.CountedSnapshots.{CommitsAndMerges};
     ghost use Rattle.fts_engine_local.specs.LocalPolicies.{local_policy};
 
     fn open(rt: &R, options: Options, schema: Schema) -> Result<Self, Refusal> {
@@ -276,21 +275,15 @@ impl<R: AllocGlobal + Sync> EngineOver<R> for LocalEngine {
         requires sync { IsSync R.row }
         ensures step { Steps (commit indexes self.old.index) self.old.index self.new.index result }
         ensures changes { self.new.calls ≤ self.old.calls + 1 }
-        ensures merged { OnOk result (CommitsAndMerges self.old.merge (local_policy self.old.limit)
+        ensures merged { OnOk result (CommitsAndMerges (if_policy self.old.merge (local_policy self.old.limit))
             self.old.index.uncommitted self.old.snapshot self.new.snapshot self.new.is_merged) }
     {
         self.calls += 1;
-        let commit = next_commit(self.alloc, &self.commit, &self.uncommitted, self.cut)?;
-        let mut merging = Merging { commit };
-        let merged = merge_after(
-            rt,
-            self.alloc,
-            &mut merging,
-            self.merge,
-            &policy(self.limit),
-        );
+        let mut commit = next_commit(self.alloc, &self.commit, &self.uncommitted, self.cut)?;
+        let policy = policy_after(self.merge, self.limit);
+        let merged = merge_planned(rt, self.alloc, &mut commit, policy);
         self.is_merged = merged.is_ok();
-        self.commit = merging.commit;
+        self.commit = commit;
         let_go(&mut self.uncommitted);
         Ok(self.commit.stamp)
     }
@@ -303,10 +296,9 @@ impl<R: AllocGlobal + Sync> EngineOver<R> for LocalEngine {
 
     fn merge(&mut self, rt: &R) -> Result<u64, Refusal> {
         self.calls += 1;
-        let commit = Arc::try_clone(&self.commit)?;
-        let mut merging = Merging { commit };
-        let live = merge_all(rt, self.alloc, &mut merging)?;
-        self.commit = merging.commit;
+        let mut commit = Arc::try_clone(&self.commit)?;
+        let live = merge_all(rt, self.alloc, &mut commit)?;
+        self.commit = commit;
         Ok(live)
     }
 

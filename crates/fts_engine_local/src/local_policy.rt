@@ -1,38 +1,11 @@
-// When segments are merged after a commit.
-ghost use Rattle.std.specs.Prelude.{◌≡◌, ◌≤◌, IsOkUnless, is_ok};
+// When the segments of an engine of one thread are merged.
+ghost use Rattle.std.specs.Prelude.{◌≡◌, ◌≤◌, IfSome};
+ghost use Rattle.fts_engine.specs.DefaultOptions.{if_policy};
 ghost use Rattle.fts_model.specs.Limits.{most_merged};
-ghost use Rattle.fts_snapshots.specs.Candidates.{MergesDue};
-ghost use Rattle.fts_snapshots.specs.Changes.{Merges};
-ghost use Rattle.fts_engine_local.specs.CountedIndexes.{candidates_after};
 ghost use Rattle.fts_engine_local.specs.LocalPolicies.{local_policy};
 
 use fts_engine::Merge;
-use fts_model::Refusal;
-use fts_snapshots::{MergePolicy, Mergeable, merge_planned};
-use std::alloc::Global;
-
-/// Merges segments of a new commit by a policy, if the option says so. If memory runs out for some, they stay, and are
-/// merged after a later commit.
-pub fn merge_after<R, S: Mergeable<R>>(
-    rt: &R,
-    alloc: Global,
-    commit: &mut S,
-    merge: Merge,
-    policy: &MergePolicy,
-) -> Result<(), Refusal>
-    requires floor { policy.now.floor ≤ most_merged }
-    requires most { policy.now.most ≤ most_merged }
-    ensures planned { MergesDue (candidates_after merge policy.now (S.left commit.old)) (S.left commit.old)
-        (S.left commit.new) (is_ok result) }
-    ensures merges { Merges 1 (S.left commit.old) (S.left commit.new) }
-    ensures keeps { S.keeps commit.old commit.new }
-    ensures memory { IsOkUnless result Refusal.Memory }
-{
-    match merge {
-        Merge::Off => Ok(()),
-        Merge::Policy => merge_planned(rt, alloc, commit, policy),
-    }
-}
+use fts_snapshots::MergePolicy;
 
 /// When the segments of an engine of one thread are merged.
 ///
@@ -63,5 +36,17 @@ pub(crate) fn policy(limit: Option<u32>) -> MergePolicy
             most: 1_000_000,
             dead: 33,
         },
+    }
+}
+
+/// The policy by which a commit merges, if the option says that it does.
+pub(crate) fn policy_after(merge: Merge, limit: Option<u32>) -> Option<MergePolicy>
+    ensures policy { result ≡ if_policy merge (local_policy limit) }
+    ensures floor { IfSome result (λ p. p.floor ≤ most_merged) }
+    ensures most { IfSome result (λ p. p.most ≤ most_merged) }
+{
+    match merge {
+        Merge::Off => None,
+        Merge::Policy => Some(policy(limit)),
     }
 }

@@ -67,15 +67,6 @@ newest_after (p ∷ ps) k d pairs at =
     (pairs k (length ps) d less (omega arith)))
     (eq-or-lt_of_le (omega arith))
 
--- the opening may be published
-pub published_opening : (schema : List Field) → ArePublications (opening schema ∷ [])
-published_opening schema = record { opens = refl; follow = λ i j d less at. absurd (omega arith) }
-
--- there is an opening
-pub some_publications : (list : List Publication) → ArePublications list → 0 < length list
-some_publications [] are = absurd (cc (are.opens))
-some_publications (p ∷ ps) are = omega arith
-
 -- what follows the newest may be published
 pub published_snoc : (list : List Publication) (q : Publication) → ArePublications list → Follows (newest list) q → ArePublications (list ++ q ∷ [])
 published_snoc [] q are next = absurd (cc (are.opens))

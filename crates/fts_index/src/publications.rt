@@ -25,15 +25,15 @@
 //! publisher.close(&rt);
 //! ```
 
-mod left_right_rule;
 mod front;
-mod publication_log;
 pub mod laws;
-mod writer_id;
+mod left_right_rule;
 mod publication;
+mod publication_log;
 mod publisher;
 mod reader;
 mod searcher;
+mod writer_id;
 
 pub use publisher::Publisher;
 pub use reader::Reader;

@@ -20,7 +20,7 @@ use crate::publications::{CommitSeen, Publisher, Reader, Searcher};
 use fts_model::{Cut, Op, Refusal, Schema, Stamp, Stamped};
 use fts_pool::Gate;
 use fts_rounds::{Batch, Lane, Round, RoundLimits, open_round};
-use fts_snapshots::{MergeJob, Mergeable, MergedSegment, ID_LIMIT, SegmentInfo, Snapshot};
+use fts_snapshots::{ID_LIMIT, MergeJob, Mergeable, MergedSegment, SegmentInfo, Snapshot};
 use std::alloc::Global;
 use std::marker::Model;
 use std::sync::Wait;

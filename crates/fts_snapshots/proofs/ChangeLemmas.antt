@@ -19,8 +19,7 @@ use Rattle.fts_snapshots.specs.LateMerges.{after_merge, ended}
 use Rattle.fts_snapshots.specs.MergedSegments.{merged_of}
 use Rattle.fts_snapshots.specs.Merges.{entries_at, without}
 use Rattle.fts_snapshots.specs.Snapshots.{SnapshotValue, after_commit, content_of, merge_fault, segments_and_numbers}
-use Rattle.fts_snapshots.proofs.CountLemmas.{commit_counted, fewer_without, merge_counted, refused_by}
-use Rattle.fts_snapshots.proofs.SourceLemmas.{unless_ok}
+use Rattle.fts_snapshots.proofs.CountLemmas.{commit_counted, fewer_without, merge_counted}
 
 -- a commit of a batch is a change by its operations
 pub commits_made : (cut : Cut) (ops : List (Stamped Op)) (old new : SnapshotValue) → new ≡ after_commit cut ops old →
@@ -40,14 +39,6 @@ merges_made more ids old new is fine enough content = record {
   segments = omega (arith, ap segments_and_numbers is, merge_counted more ids old fine enough);
 }
 
--- an unchanged snapshot is merged
-pub merges_nothing : (more : ℕ) (s : SnapshotValue) → Merges more s s
-merges_nothing more s = record { schema = refl; documents = refl; segments = omega arith }
-
--- merges that use no more numbers use at most one
-pub merges_at_most : (old new : SnapshotValue) → Merges 0 old new → Merges 1 old new
-merges_at_most old new m = record { schema = m.schema; documents = m.documents; segments = omega (arith, m.segments) }
-
 -- merges one after the other are merges
 pub merges_then : (more : ℕ) (a b c : SnapshotValue) → Merges 0 a b → Merges more b c → Merges more a c
 merges_then more a b c ab bc =
@@ -62,21 +53,6 @@ some_named (id ∷ ids) s fine = omega arith
 pub merges_any : (ids : List ℕ) (old new : SnapshotValue) → new ≡ after_merge ids old → merge_fault ids old ≡ None → content_of new ≡ content_of old →
     Merges 1 old new
 merges_any ids old new is fine content = merges_made 1 ids old new is fine (omega (arith, some_named ids old fine)) content
-
--- the snapshot after a merged candidate
-pub candidate_merged : (ids : List ℕ) (old new : SnapshotValue) → ok_unless (merge_fault ids old) (after_merge ids old) ≡ Ok new → new ≡ after_candidate ids old
-candidate_merged ids old new given =
-    let both = unless_ok (merge_fault ids old) (after_merge ids old) new given in
-    both.1 ∙ sym (ap (λ fault. cond (is_none fault) (after_merge ids old) old) both.0)
-
--- the snapshot after a candidate that was refused, and not for memory
-pub candidate_left : (ids : List ℕ) (old new : SnapshotValue) (e : Refusal) → (e ≡ Memory → ⊥) →
-    (e ≡ Memory) ⊎ (ok_unless (merge_fault ids old) (after_merge ids old) ≡ Err e) → new ≡ old → new ≡ after_candidate ids old
-candidate_left ids old new e other given same =
-    elim (refused_by (merge_fault ids old) (after_merge ids old) e given) [
-      | inl memory ↦ absurd (other memory)
-      | inr fault ↦ same ∙ sym (ap (λ f. cond (is_none f) (after_merge ids old) old) fault)
-    ]
 
 -- a merge of all segments leaves one
 pub merged_into_one : (ids : List ℕ) (s : SnapshotValue) → merge_fault ids s ≡ None → length ids ≡ length s.entries → length (after_merge ids s).entries ≤ 1
@@ -97,10 +73,6 @@ merged_into_one ids s fine all =
 abbrev pub Tried : (all left : List (List ℕ)) → (old now : SnapshotValue) → ℕ → Type 0
 Tried all left old now refused =
     (n : ℕ) (new : SnapshotValue) → MergesAllBut n (due left) now new → MergesAllBut (n + refused) (due all) old new
-
--- no candidate was tried yet
-pub tried_none : (all : List (List ℕ)) (s : SnapshotValue) → Tried all all s s 0
-tried_none all s n new h = subst (λ m. MergesAllBut m (due all) s new) (omega arith) h
 
 -- the first of the candidates that are left
 due_first : {V : Type 0} (f : V → List ℕ) (vs : List V) (k : ℕ) (v : V) → k < length vs → v ≡ get_or vs k v →
@@ -168,13 +140,3 @@ due_unknown candidates s = record {
   merges = merges_none (due candidates) s;
   none = λ all. absurd (false≢true all);
 }
-
--- memory ran out for some candidates
-pub due_some : (refused : ℕ) (candidates : List (List ℕ)) (old new : SnapshotValue) → MergesAllBut refused (due candidates) old new →
-    MergesDue candidates old new false
-due_some refused candidates old new h = record { refused = refused; merges = h; none = λ all. absurd (false≢true all) }
-
--- memory ran out for no candidate
-pub due_whole : (refused : ℕ) (candidates : List (List ℕ)) (old new : SnapshotValue) → refused ≤ 0 → MergesAllBut refused (due candidates) old new →
-    MergesDue candidates old new true
-due_whole refused candidates old new none h = record { refused = refused; merges = h; none = λ all. omega (arith, none) }

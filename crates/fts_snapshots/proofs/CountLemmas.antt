@@ -26,7 +26,7 @@ use Rattle.fts_snapshots.proofs.LateBeginLemmas.{length-live_in, ids_named}
 use Rattle.fts_snapshots.proofs.EntryLemmas.{length-added}
 use Rattle.fts_snapshots.proofs.MergeLemmas.{AreDifferent, names_given}
 use Rattle.fts_snapshots.proofs.OrderLemmas.{Rises, rises_from_pairs, permutation_in_order}
-use Rattle.fts_snapshots.proofs.SourceLemmas.{first_none, numbers_room}
+use Rattle.fts_snapshots.proofs.SourceLemmas.{first_none}
 
 -- if there is no fault, a refusal is for memory
 pub memory_alone : (fault : Option Refusal) (e : Refusal) → fault ≡ None → (e ≡ Memory) ⊎ (fault ≡ Some e) → e ≡ Memory
@@ -146,13 +146,6 @@ length-without : (ids : List ℕ) (es : List EntryValue) → AllByRecursion (λ 
 length-without [] es t d = omega (arith, none_without es)
 length-without (id ∷ ids) es t d =
     omega (arith, ap length (without-more id ids es), length-without ids (but id es) (all_still_there id ids es d.0 t.1) d.1, but-lt id es t.0)
-
--- a merge without a fault has a number for its segment
-pub merge_room : (ids : List ℕ) (s : SnapshotValue) → merge_fault ids s ≡ None → s.next_id + 1 ≤ 2 ^ 62
-merge_room ids s fine =
-    let large = size_fault (sum_by live_count (entries_at s.entries ids)) in
-    numbers_room (s.next_id + 1)
-    (first_none large (numbers_fault (s.next_id + 1)) (first_none (names_fault s.entries ids) (first_of large (numbers_fault (s.next_id + 1))) fine).1).1
 
 -- a merge without a fault leaves fewer segments, by the number of its sources less one
 pub fewer_without : (ids : List ℕ) (s : SnapshotValue) → merge_fault ids s ≡ None →

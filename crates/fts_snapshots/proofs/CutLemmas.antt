@@ -4,8 +4,7 @@ use Rattle.std.proofs.Common.{append_assoc, arith, ⊎_elim}
 use Rattle.std.specs.List.{AllByRecursion}
 use Rattle.std.specs.List.Sorted.{IsPermutation}
 use Rattle.std.proofs.lemmas.Bool.{cases_lt}
-use Rattle.std.proofs.lemmas.Nat.{div-mul-add, mod-mul-add, mul-add-lt, div-add-mod', le-div}
-use Rattle.std.proofs.Math.Nat.{le-mul_of_pos_right, mul-le-mul_left, mul-le-mul_right}
+use Rattle.std.proofs.lemmas.Nat.{div-mul-add, mod-mul-add, mul-add-lt}
 use Rattle.std.proofs.lemmas.List.{append-nil, length-append}
 use Rattle.std.proofs.lemmas.List.Sorted.{IsPermutation-refl, IsPermutation-trans, IsPermutation-to_front, IsPermutation-append_left}
 use Rattle.std.proofs.lemmas.List.Sorted.{IsPermutation-append_right}
@@ -219,12 +218,3 @@ room_there most (v ∷ gs) (suc at) x g l e w = room_there most gs at x g (omega
 -- more adds are divided
 pub groups_of-append : {X : Type 0} (cut : Cut) (xs ys : List X) → dealt_from (place_of cut) (length xs) (groups_of cut xs) ys ≡ groups_of cut (xs ++ ys)
 groups_of-append cut xs ys = ap (λ n. dealt_from (place_of cut) n (groups_of cut xs) ys) (omega arith) ∙ sym (dealt_from-append (place_of cut) 0 [] xs ys)
-
--- no add goes to a segment of a greater number than its own
-pub place-le : (m most j : ℕ) → 1 ≤ m → 1 ≤ most → j / (m * most) * m + j % m ≤ j
-place-le m most j l k =
-    let round = j / (m * most) in
-    let wider : m ≤ m * most = le-mul_of_pos_right m k in
-    let below : round * m ≤ j = omega (arith, div-add-mod' j (m * most), mul-le-mul_left round wider) in
-    let fewer : round ≤ j / m = le-div round j m l below in
-    omega (arith, div-add-mod' j m, mul-le-mul_right m fewer)

@@ -16,24 +16,9 @@ use Rattle.fts_snapshots.specs.Commits.{struck, fresh_from}
 use Rattle.fts_snapshots.specs.Merges.{is_among, without}
 use Rattle.fts_snapshots.specs.MergedSegments.{MergedSegmentValue}
 use Rattle.fts_snapshots.specs.Snapshots.{SnapshotValue, after_commit}
-use Rattle.fts_snapshots.specs.Successors.{is_set, IsLater, Follows, Fits}
+use Rattle.fts_snapshots.specs.Successors.{is_set, later_itself, IsLater, Follows, Fits}
 use Rattle.fts_snapshots.specs.LateMerges.{ended, after_end}
 use Rattle.fts_snapshots.proofs.SnapshotLemmas.{ids_from}
-
-later_itself : (e : EntryValue) → IsLater e e
-later_itself e = record { id = refl; segment = refl; live = λ n h. h }
-
-pub follows_itself : (s : SnapshotValue) → Follows s s
-follows_itself s = record { next = omega arith; segments = λ e c _. (e, c, later_itself e) }
-
-pub follows_further : (a b c : SnapshotValue) → Follows a b → Follows b c → Follows a c
-follows_further a b c f g = record {
-  next = omega (arith, f.next, g.next);
-  segments = λ e h l.
-      let one = g.segments e h (omega (arith, l, f.next)) in
-      let two = f.segments one.0 one.1 (subst (λ n. n < a.next_id) one.2.id l) in
-      (two.0, two.1, record { id = one.2.id ∙ two.2.id; segment = one.2.segment ∙ two.2.segment; live = λ n k. two.2.live n (one.2.live n k) });
-}
 
 -- an element at an index is a member
 pub contains_at : {X : Type 0} (xs : List X) (k : ℕ) (x : X) → slice_get xs k ≡ Some x → Contains xs x

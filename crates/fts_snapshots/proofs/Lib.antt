@@ -22,5 +22,4 @@ pub mod CountLemmas
 pub mod PreparedLemmas
 pub mod ChangeLemmas
 pub mod MergedInfoLemmas
-
--- The lemmas.
+pub mod CountedLemmas

@@ -14,7 +14,6 @@ use Rattle.fts_snapshots.specs.Entries.{EntryValue, IsEntry, has_live}
 use Rattle.fts_snapshots.specs.PreparedCommits.{IsPrepared, PreparedValue, entries_kept, prepared}
 use Rattle.fts_snapshots.specs.Snapshots.{GivesCommit, IsSnapshot, SnapshotValue, after_commit, commit_fault, content_of}
 use Rattle.fts_snapshots.proofs.CommitLemmas.{content-committed}
-use Rattle.fts_snapshots.proofs.CountLemmas.{refused_by}
 use Rattle.fts_snapshots.proofs.SnapshotLemmas.{snapshot_after_commit, same_snapshot, snapshot_with, rise_behind}
 use Rattle.fts_snapshots.proofs.SourceLemmas.{unless_ok}
 use Rattle.fts_snapshots.proofs.SparedLemmas.{few_segments, spared_and_committed}
@@ -64,15 +63,3 @@ gives_commit cut batch s p (Ok new) is same holds memory =
       content = holds ∙ ap (λ (q : PreparedValue). alive q.snapshot.schema (adds (content_of q.snapshot) ++ q.batch)) both.1;
     }
 gives_commit cut batch s p (Err e) is same holds memory = record { snapshot = inl memory; content = tt }
-
--- a commit that can't be prepared gives nothing
-pub not_prepared : (cut : Cut) (batch : List (Stamped Op)) (s : SnapshotValue) (e : Refusal) →
-    (e ≡ Memory) ⊎ (ok_unless (commit_fault cut batch s) (prepared cut batch s) ≡ Err e) →
-    GivesCommit cut batch s (Err e)
-not_prepared cut batch s e h =
-    let because : (e ≡ Memory) ⊎ (commit_fault cut batch s ≡ Some e) = refused_by (commit_fault cut batch s) (prepared cut batch s) e h in
-    record {
-      snapshot = elim because as (λ _. (e ≡ Memory) ⊎ (ok_unless (commit_fault cut batch s) (after_commit cut batch s) ≡ Err e))
-          [ inl m ↦ inl m | inr f ↦ inr (ap (λ g. ok_unless g (after_commit cut batch s)) f) ];
-      content = tt;
-    }

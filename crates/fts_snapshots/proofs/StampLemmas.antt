@@ -127,11 +127,3 @@ left_stamped snapshot schema ds ops stamp first end holds rise below above run a
       (subst (All (λ (d : Stamped DocumentValue). d.stamp < first + length ops)) (sym holds) (left_below schema ds ops stamp first below above run));
   few = omega (arith, ap length holds, left_few schema ds ops stamp first rise below above run, at, room);
 }
-
--- snapshots with the same content have the same bound on stamps
-pub stamped_alike : (stamp : ℕ) (old new : SnapshotValue) → content_of new ≡ content_of old → IsStamped stamp old → IsStamped stamp new
-stamped_alike stamp old new same i = record {
-  small = i.small;
-  below = subst (All (λ (d : Stamped DocumentValue). d.stamp < stamp)) (sym same) i.below;
-  few = omega (arith, ap length same, i.few);
-}

@@ -17,3 +17,5 @@ pub mod Lookups
 pub mod LateMerges
 pub mod Changes
 pub mod Candidates
+pub mod CountedSnapshots
+pub mod LaterCommits

@@ -2,11 +2,11 @@
 // if there is a delete.
 
 mod batch_jobs;
-mod segment_of_add;
-mod group;
 mod commit_job;
+mod group;
 mod new_segment;
 mod prepared_commit;
+mod segment_of_add;
 
 pub(crate) use batch_jobs::entries_in_turn;
 pub use batch_jobs::push_live;

@@ -22,19 +22,19 @@
 //! ```
 #![tactic(auto)]
 
+mod commit_point;
 mod commits;
 mod entries;
 pub mod laws;
-mod merges;
 mod mergeable;
+mod merges;
 mod snapshot;
-mod commit_point;
 
+pub use commit_point::CommitPoint;
 pub use commits::{CommitJob, PreparedCommit, push_live};
 pub use entries::{Entry, EntryIter, EntryList, ID_LIMIT, SegmentInfo};
 pub use fts_merge::MergePolicy;
 pub use fts_model::Cut;
-pub use merges::{MergeJob, MergedSegment};
 pub use mergeable::{Mergeable, merge_all, merge_planned};
+pub use merges::{MergeJob, MergedSegment};
 pub use snapshot::Snapshot;
-pub use commit_point::CommitPoint;

@@ -1,19 +1,21 @@
 // Merges in any holder of the last commit of an index: of all segments, and of those that a policy chooses.
 ghost use Rattle.std.specs.Prelude.{◌≡◌, ◌+◌, ◌^◌, ◌<◌, ◌≤◌, ◌⊎◌, ◌∷◌, [], length, map, sum_by};
-ghost use Rattle.std.specs.Prelude.{IfOk, IfErr, OnOk, OnErr, IsOkUnless, MatchOption, is_ok};
+ghost use Rattle.std.specs.Prelude.{IfOk, IfErr, IfSome, OnOk, OnErr, IsOkUnless, MatchOption, is_ok};
 ghost use Rattle.fts_model.specs.Limits.{most_merged};
 ghost use Rattle.fts_snapshots.specs.Candidates.{MergesAllBut, MergesDue, after_candidate, due};
 ghost use Rattle.fts_snapshots.specs.Changes.{Merges};
 ghost use Rattle.fts_snapshots.specs.Entries.{live_count};
+ghost use Rattle.fts_snapshots.specs.CountedSnapshots.{candidates_after};
 ghost use Rattle.fts_snapshots.specs.Infos.{candidate_ids_by};
+ghost use Rattle.fts_snapshots.specs.MergedSegments.{ids_of};
 ghost use Rattle.fts_snapshots.specs.Snapshots.{content_of};
 
-use crate::entries::{Entry, ids_of_entries};
-use crate::snapshot::Snapshot;
 use crate::commit_point::CommitPoint;
+use crate::entries::EntryList;
+use crate::snapshot::Snapshot;
 use fts_merge::MergePolicy;
 use fts_model::{MOST_MERGED, Refusal};
-use std::alloc::Global;
+use std::alloc::{AllocError, Global};
 use std::sync::Arc;
 
 /// A holder of the last commit of an index that can merge its segments, given an `R` to work with. A writer may have to
@@ -49,13 +51,15 @@ pub trait Mergeable<R> {
 }
 
 impl<R> Mergeable<R> for Arc<CommitPoint> {
-    ghost use Rattle.std.specs.Prelude.{◌≡◌, refl};
+    ghost use Rattle.std.specs.Prelude.{refl};
     ghost use Rattle.std.specs.Arc.{arc_value};
     ghost use Rattle.std.proofs.Common.{◌∙◌};
+    ghost use Rattle.fts_snapshots.specs.Successors.{follows_further, follows_itself};
+    ghost use Rattle.fts_snapshots.specs.LaterCommits.{IsLaterCommit};
 
     ghost left = { λ commit. (arc_value commit).snapshot };
 
-    ghost keeps = { λ old new. (arc_value new).stamp ≡ (arc_value old).stamp };
+    ghost keeps = { λ old new. IsLaterCommit (arc_value old) (arc_value new) };
 
     fn last_commit(&self) -> &Snapshot {
         &self.snapshot
@@ -68,18 +72,25 @@ impl<R> Mergeable<R> for Arc<CommitPoint> {
         Ok(())
     }
 
-    ghost keeps_itself = { λ x. refl };
+    ghost keeps_itself = { λ x. record {
+      stamp = refl;
+      follows = follows_itself (arc_value x).snapshot;
+    } };
 
-    ghost keeps_further = { λ x y z xy yz. yz ∙ xy };
+    ghost keeps_further = { λ x y z xy yz. record {
+      stamp = yz.stamp ∙ xy.stamp;
+      follows = follows_further (arc_value x).snapshot (arc_value y).snapshot (arc_value z).snapshot
+          xy.follows yz.follows;
+    } };
 }
 
 /// The number of live documents, or none if there are over 1,048,576, too many for one segment.
-fn live_in(entries: &[Entry]) -> Option<usize>
+fn live_in(entries: &EntryList) -> Option<usize>
     ensures { MatchOption result (most_merged < sum_by live_count entries.now)
         (λ live. (live ≡ sum_by live_count entries.now) × (live ≤ most_merged)) }
 {
     let mut live = 0;
-    for entry in entries {
+    for entry in entries.iter() {
         let more = entry.live_count();
         if more > MOST_MERGED - live {
             return None;
@@ -87,6 +98,17 @@ fn live_in(entries: &[Entry]) -> Option<usize>
         live += more;
     }
     Some(live)
+}
+
+/// The ids of segments.
+fn ids_in(alloc: Global, entries: &EntryList) -> Result<Vec<u64>, AllocError>
+    ensures { IfOk result (λ ids. ids.items ≡ ids_of entries.now) }
+{
+    let mut ids = Vec::with_capacity(alloc, entries.len())?;
+    for entry in entries.iter() {
+        ids.push(entry.id())?;
+    }
+    Ok(ids)
 }
 
 /// Merges all segments into one, if there are any, and returns the number of live documents. It is refused as
@@ -102,14 +124,14 @@ pub fn merge_all<R, S: Mergeable<R>>(rt: &R, alloc: Global, index: &mut S) -> Re
     ensures refused { IfErr result (λ e. (e ≡ Refusal.Memory) ⊎ ((e ≡ Refusal.TooLarge)
         × (most_merged < length (content_of (S.left index.old))))) }
 {
-    let entries = index.last_commit().entries().to_vec(alloc)?;
+    let entries = index.last_commit().entries();
     if entries.is_empty() {
         return Ok(0);
     }
-    let Some(live) = live_in(&entries) else {
+    let Some(live) = live_in(entries) else {
         return Err(Refusal::TooLarge);
     };
-    let ids = ids_of_entries(alloc, &entries)?;
+    let ids = ids_in(alloc, entries)?;
     index.merge_segments(rt, alloc, &ids)?;
     Ok(live as u64)
 }
@@ -172,10 +194,10 @@ fn merge_due<R, S: Mergeable<R>>(
     refused
 }
 
-/// Merges the candidates of a policy in the last commit, one after the other, up to the first of a single segment. A
-/// candidate that can't be merged is skipped, and so is one for which memory runs out. In the latter case the call is
-/// refused as `Memory` after the others are merged; a later commit may merge the candidate.
-pub fn merge_planned<R, S: Mergeable<R>>(
+/// Merges the candidates of a policy one after the other, up to the first of one segment. One that can't be merged
+/// stays, and so does one for which memory runs out, which is refused: a later commit may merge it. The others are
+/// merged.
+fn merge_by<R, S: Mergeable<R>>(
     rt: &R,
     alloc: Global,
     index: &mut S,
@@ -196,4 +218,27 @@ pub fn merge_planned<R, S: Mergeable<R>>(
         return Err(Refusal::Memory);
     }
     Ok(())
+}
+
+/// Merges what a policy says of the last commit, if there is a policy, up to the first candidate of one segment. One
+/// that can't be merged stays. `Memory` if memory ran out for one: it stays until a later commit, and the others are
+/// merged.
+pub fn merge_planned<R, S: Mergeable<R>>(
+    rt: &R,
+    alloc: Global,
+    index: &mut S,
+    policy: Option<MergePolicy>,
+) -> Result<(), Refusal>
+    requires floor { IfSome policy (λ p. p.floor ≤ most_merged) }
+    requires most { IfSome policy (λ p. p.most ≤ most_merged) }
+    ensures planned { MergesDue (candidates_after policy (S.left index.old)) (S.left index.old)
+        (S.left index.new) (is_ok result) }
+    ensures merges { Merges 1 (S.left index.old) (S.left index.new) }
+    ensures keeps { S.keeps index.old index.new }
+    ensures memory { IsOkUnless result Refusal.Memory }
+{
+    match policy {
+        None => Ok(()),
+        Some(policy) => merge_by(rt, alloc, index, &policy),
+    }
 }

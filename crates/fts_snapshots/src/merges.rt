@@ -6,6 +6,6 @@ mod merge_job;
 mod merged_segment;
 pub(crate) mod named_entries;
 
-pub(crate) use candidates::{candidates, candidates_by};
+pub(crate) use candidates::candidates_by;
 pub use merge_job::MergeJob;
 pub use merged_segment::MergedSegment;

@@ -17,7 +17,7 @@ use crate::commits::{PreparedCommit, entries_in_turn};
 use crate::entries::{EntryList, SegmentInfo};
 use crate::merges::end_entries::end_entries;
 use crate::merges::named_entries::named_entries;
-use crate::merges::{MergeJob, MergedSegment, candidates, candidates_by};
+use crate::merges::{MergeJob, MergedSegment, candidates_by};
 use fts_merge::MergePolicy;
 use fts_model::{Cut, Op, Refusal, Schema, Stamped};
 use std::alloc::{AllocError, Global};
@@ -193,13 +193,12 @@ impl Snapshot {
         Ok(infos(alloc, &self.entries)?)
     }
 
-    /// The segments that are worth merging, by their numbers: each list is one merge.
+    /// The segments that the usual policy merges, by their ids: each list is one merge.
     pub fn plan(&self, alloc: Global) -> Result<Vec<Vec<u64>>, Refusal>
         ensures candidates { IfOk result (λ found. map (λ c. c.items) found.items ≡ candidate_ids self.now.entries) }
         ensures memory { IsOkUnless result Refusal.Memory }
     {
-        let entries = self.entries.to_vec(alloc)?;
-        candidates(alloc, &entries)
+        self.plan_by(alloc, &MergePolicy::usual())
     }
 
     /// The candidates of a policy, each as the numbers of its segments.

@@ -10,8 +10,10 @@ ghost use Rattle.fts_index.specs.Publications.{opening, publication, published, 
 ghost use Rattle.fts_index.specs.Publications.{Follows, IsFront, IsOneCommit};
 ghost use Rattle.fts_index.specs.PublicationsHistory.{head_of};
 
-use crate::publications::publication_log::{Append, PublicationCount, PublicationRule, NoTrade, Opened, SeenPublications};
 use crate::publications::publication::Publication;
+use crate::publications::publication_log::{
+    Append, NoTrade, Opened, PublicationCount, PublicationRule, SeenPublications,
+};
 use fts_model::{Schema, Stamp};
 use fts_snapshots::{CommitPoint, Snapshot};
 use logbook::{Offer, Seen, Start, Word};

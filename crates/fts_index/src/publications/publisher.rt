@@ -8,8 +8,8 @@ ghost use Rattle.fts_index.specs.Publications.{opening, newest, publication, pub
 ghost use Rattle.fts_index.specs.Publications.{Follows, IsFront, IsOneCommit};
 ghost use Rattle.fts_index.specs.PublicationsShown.{name_of, told_name};
 
-use crate::publications::left_right_rule::{SameWriter, FrontWriter, TellsWriter};
 use crate::publications::front::Front;
+use crate::publications::left_right_rule::{FrontWriter, SameWriter, TellsWriter};
 use crate::publications::publication_log::PublicationCount;
 use crate::publications::reader::Reader;
 use crate::publications::searcher::{CommitSeen, Searcher};

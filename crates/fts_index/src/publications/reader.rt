@@ -4,8 +4,8 @@ ghost use mathlib.Core.List.{IsPrefix};
 ghost use Rattle.fts_index.specs.Publications.{schema_of, IsFront};
 ghost use Rattle.fts_index.specs.PublicationsShown.{name_of, told_name, Finds};
 
-use crate::publications::left_right_rule::{TellsWriter, FrontReader};
 use crate::publications::front::Front;
+use crate::publications::left_right_rule::{FrontReader, TellsWriter};
 use crate::publications::searcher::{CommitSeen, Searcher};
 use core::mem::replace_with;
 use fts_model::Refusal;

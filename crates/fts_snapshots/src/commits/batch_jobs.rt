@@ -11,8 +11,8 @@ ghost use Rattle.fts_snapshots.specs.EntryLists.{entries_ahead};
 ghost use Rattle.fts_snapshots.specs.Commits.{has_delete, struck, struck_by, spared_by, fresh_from};
 ghost use Rattle.fts_snapshots.specs.Jobs.{entry_of};
 
-use crate::commits::group::Group;
 use crate::commits::commit_job::{CommitJob, commit_jobs};
+use crate::commits::group::Group;
 use crate::entries::{Entry, EntryIter, EntryList};
 use fts_model::{Op, Refusal, Schema, Stamped};
 use fts_pool::Job;

@@ -101,7 +101,12 @@ fn put_added(
     };
     let value = document.clone()?;
     let stamp = op.stamp;
-    put(alloc, groups, segment_of_add(cut, count), Stamped { stamp, value })?;
+    put(
+        alloc,
+        groups,
+        segment_of_add(cut, count),
+        Stamped { stamp, value },
+    )?;
     Ok(count + 1)
 }
 

@@ -9,8 +9,8 @@ ghost use Rattle.fts_snapshots.specs.PreparedCommits.{entries_kept, entries_left
 ghost use Rattle.fts_snapshots.specs.Snapshots.{IsBehind, after_commit, commit_fault, content_of};
 
 use crate::commits::batch_jobs::{entries_after, jobs_of_batch};
-use crate::commits::group::{Group, groups};
 use crate::commits::commit_job::CommitJob;
+use crate::commits::group::{Group, groups};
 use crate::entries::{Entry, are_used_up};
 use crate::snapshot::Snapshot;
 use fts_model::{Cut, Op, Refusal, Stamped};

@@ -36,7 +36,7 @@ impl<'a> Lookup<'a> {
         ensures { IfOk result (λ lookup. lookup ≡ entries.now) }
     {
         let numbers = ids_of_entries(alloc, entries)?;
-        Ok(Lookup { entries, ids_of_entries })
+        Ok(Lookup { entries, numbers })
     }
 
     /// The segments.

@@ -1,24 +1,12 @@
 // The segments of a snapshot that are worth merging.
 ghost use Rattle.std.specs.Prelude.{◌≡◌, ◌<◌, ◌≤◌, All, map, length, IfOk, IsOkUnless};
 ghost use Rattle.fts_model.specs.Limits.{most_merged};
-ghost use Rattle.fts_snapshots.specs.Entries.{live_count};
-ghost use Rattle.fts_snapshots.specs.Infos.{id_at, candidate_ids, candidate_ids_by, size_of};
+ghost use Rattle.fts_snapshots.specs.Infos.{id_at, candidate_ids_by, size_of};
 
 use crate::entries::Entry;
-use fts_merge::{MergePolicy, SegmentSize, plan, plan_by};
+use fts_merge::{MergePolicy, SegmentSize, plan_by};
 use fts_model::Refusal;
 use std::alloc::{AllocError, Global};
-
-/// How many live documents each segment has.
-fn sizes(alloc: Global, entries: &[Entry]) -> Result<Vec<u32>, AllocError>
-    ensures { IfOk result (λ sizes. sizes.items ≡ map live_count entries.now) }
-{
-    let mut sizes = Vec::with_capacity(alloc, entries.len())?;
-    for entry in entries {
-        sizes.push(entry.live_count() as u32)?;
-    }
-    Ok(sizes)
-}
 
 /// The numbers of the segments at these indexes.
 fn ids_at(alloc: Global, entries: &[Entry], indexes: &[usize]) -> Result<Vec<u64>, AllocError>
@@ -47,16 +35,6 @@ fn all_ids_at(
         all.push(ids_at(alloc, entries, list)?)?;
     }
     Ok(all)
-}
-
-/// The candidates for merges, by the numbers of segments.
-pub(crate) fn candidates(alloc: Global, entries: &[Entry]) -> Result<Vec<Vec<u64>>, Refusal>
-    ensures candidates { IfOk result (λ found. map (λ ids. ids.items) found.items ≡ candidate_ids entries.now) }
-    ensures memory { IsOkUnless result Refusal.Memory }
-{
-    let sizes = sizes(alloc, entries)?;
-    let found = plan(alloc, &sizes)?;
-    Ok(all_ids_at(alloc, entries, &found)?)
 }
 
 /// The size of each segment.

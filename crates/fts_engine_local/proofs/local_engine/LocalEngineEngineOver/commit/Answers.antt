@@ -16,7 +16,7 @@ invariant_of-self-2 g c =
     let begun = option_map (λ place. (arc_value {X = MergeSlot} place).made) e.begun in
     let old = arc_value e.commit in
     let mid = arc_value c.in_ok-commit.commit in
-    let new = arc_value c.merge_after-merged.new.commit.commit in
+    let new = arc_value c.merge_planned-merged.new.index in
     let made = c.in_ok-commit.ensures in
     let last : c.deref.result.now ≡ old = grind (arith, c.deref.ensures) in
     let ops = c.deref-2.ensures.value in
@@ -25,4 +25,4 @@ invariant_of-self-2 g c =
     (subst (λ (l : CommitPoint). Commits e.uncommitted.items l.snapshot mid.snapshot) last
     (subst (λ os. Commits os c.deref.result.now.snapshot mid.snapshot) ops made.commits))
     (omega (arith, made.stamp, ap (λ (l : CommitPoint). l.stamp) last, ap length ops))
-    (subst (λ (l : CommitPoint). Follows l.snapshot mid.snapshot) last made.follows) c.merge_after-merged.ensures.merges c.merge_after-merged.ensures.keeps)
+    (subst (λ (l : CommitPoint). Follows l.snapshot mid.snapshot) last made.follows) c.merge_planned-merged.ensures.merges c.merge_planned-merged.ensures.keeps)

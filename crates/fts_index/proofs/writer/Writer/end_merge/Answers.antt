@@ -7,7 +7,8 @@ use Rattle.fts_snapshots.specs.Successors.{Follows}
 use Rattle.fts_snapshots.specs.LateMerges.{end_fault, after_end}
 use Rattle.fts_index.specs.Writers.{WriterValue, late_fault}
 use Rattle.fts_snapshots.proofs.LateBitLemmas.{fault_of_err}
-use Rattle.fts_snapshots.proofs.FollowLemmas.{follows_itself, follows_end}
+use Rattle.fts_snapshots.proofs.FollowLemmas.{follows_end}
+use Rattle.fts_snapshots.specs.Successors.{follows_itself}
 use Rattle.fts_snapshots.proofs.SourceLemmas.{unless_ok}
 use Rattle.fts_index.proofs.writer.Writer.end_merge.Goals as goal
 

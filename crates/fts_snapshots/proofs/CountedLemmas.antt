@@ -1,18 +1,14 @@
 -- What calls that change an index take of stamps, segments and numbers.
-use Rattle.std.proofs.Common.{◌≡◌, ◌+◌, ℕ, true, None, Result, is_ok, List, [], ◌∷◌, ◌++◌, length, refl, sym, subst, arith}
+use Rattle.std.proofs.Common.{◌≡◌, ◌+◌, ℕ, true, None, List, [], ◌∷◌, ◌++◌, length, refl, sym, subst, arith}
 use Rattle.std.proofs.lemmas.List.{length-append}
 use Rattle.fts_model.specs.declared.operation.Op.{Op}
 use Rattle.fts_model.specs.declared.operation.Stamped.{Stamped}
 use Rattle.fts_model.specs.Operations.{op_fits}
-use Rattle.fts_base.specs.declared.refusal.Refusal.{Refusal}
-use Rattle.fts_engine.specs.declared.options.Merge.{Merge}
-use Rattle.fts_merge.specs.declared.merge_policy.MergePolicy.{MergePolicy}
-use Rattle.fts_snapshots.specs.Candidates.{MergesDue}
 use Rattle.fts_snapshots.specs.Changes.{Commits, Merges}
 use Rattle.fts_snapshots.specs.Commits.{misfit}
 use Rattle.fts_snapshots.specs.Snapshots.{SnapshotValue}
 use Rattle.fts_snapshots.proofs.CountLemmas.{misfit-push}
-use Rattle.fts_engine_local.specs.CountedIndexes.{CommitsAndMerges, IsCounted, candidates_after}
+use Rattle.fts_snapshots.specs.CountedSnapshots.{IsCounted}
 
 -- one more uncommitted operation
 pub counted_submitted : (stamp : ℕ) (s : SnapshotValue) (ops : List (Stamped Op)) (op : Stamped Op) (calls : ℕ) → IsCounted stamp s ops calls →
@@ -43,8 +39,3 @@ counted_merged stamp old new ops calls i m = record {
   stamps = omega (arith, i.stamps);
   segments = omega (arith, m.segments, i.segments);
 }
-
--- operations were committed, and then what was due was merged, except what memory ran out for
-pub commits_and_merges : {X : Type 0} (merge : Merge) (policy : MergePolicy) (ops : List (Stamped Op)) (old made new : SnapshotValue) (r : Result X Refusal) →
-    Commits ops old made → MergesDue (candidates_after merge policy made) made new (is_ok r) → CommitsAndMerges merge policy ops old new (is_ok r)
-commits_and_merges merge policy ops old made new r c m = record { made = made; commits = c; merges = m }

@@ -1,4 +1,4 @@
--- What is left of the proof of `merge_segments` of a commit whose segments are merged.
+-- The rest of the proof of `merge_segments` of a shared commit: what a merge leaves follows what was.
 use Rattle.std.proofs.Common.{◌≡◌, ◌∙◌, ap, subst, sym, arith}
 use Rattle.std.specs.Arc.{arc_value}
 use Rattle.fts_snapshots.specs.LateMerges.{after_merge}
@@ -9,11 +9,11 @@ use Rattle.fts_snapshots.specs.Successors.{Follows}
 use Rattle.fts_snapshots.specs.declared.commit_point.CommitPoint.{CommitPoint}
 use Rattle.fts_snapshots.proofs.FollowLemmas.{follows_end}
 use Rattle.fts_snapshots.proofs.SourceLemmas.{unless_ok}
-use Rattle.fts_engine_local.proofs.merging.MergingMergeable.merge_segments.Goals as goal
+use Rattle.fts_snapshots.proofs.mergeable.ArcCommitPointMergeable.merge_segments.Goals as goal
 
 pub returns-clause-keeps : goal.returns-clause-keeps
 returns-clause-keeps g c =
-    let commit = arc_value c.args.self.now.commit in
+    let commit = arc_value c.args.self.now in
     let ids = c.args.ids.now in
     let first : c.deref.result.now ≡ commit = grind (arith, c.deref.ensures) in
     let second : c.deref-2.result.now ≡ commit = grind (arith, c.deref-2.ensures) in

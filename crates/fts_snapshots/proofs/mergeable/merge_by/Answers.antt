@@ -1,7 +1,7 @@
--- The rest of the proof of `mergeable::merge_planned`.
+-- What is left of the proof of `mergeable::merge_by`.
 use Rattle.fts_snapshots.specs.Infos.{candidate_ids_by}
 use Rattle.fts_snapshots.proofs.ChangeLemmas.{due_unknown}
-use Rattle.fts_snapshots.proofs.mergeable.merge_planned.Goals as goal
+use Rattle.fts_snapshots.proofs.mergeable.merge_by.Goals as goal
 
 pub returns-in_default-clause-planned : goal.returns-in_default-clause-planned
 returns-in_default-clause-planned g c =
