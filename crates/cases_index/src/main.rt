@@ -18,7 +18,7 @@ use std::rt::{Env, Files};
 use std::sync::Wait;
 use std::thread::Threads;
 use std::{env, fs, io};
-use testing_cases::{Tally, Trial, Wanted, case_on, judged, text};
+use testing_cases::{CaseCounts, Trial, Wanted, case_on, judged, text};
 use ways::give_replies;
 
 /// Gives what the steps of a walk give. For a script, gives how many replies it has, or else the wrong reply of the
@@ -59,9 +59,9 @@ fn tried<
     L: EngineOver<R>,
     S: EngineOver<R>,
     O: EngineOver<R>,
->(rt: &R, name: &str, wanted: Wanted) -> io::Result<Tally> {
+>(rt: &R, name: &str, wanted: Wanted) -> io::Result<CaseCounts> {
     let lines = fs::read_to_string(rt, name)?;
-    let mut tally = Tally::new();
+    let mut tally = CaseCounts::new();
     for line in lines.as_str().lines() {
         tally.count(holds::<_, L, S, O>(rt, name, line)? == (wanted == Wanted::Fit));
     }
@@ -75,7 +75,7 @@ fn all<
     S: EngineOver<R>,
     O: EngineOver<R>,
 >(rt: &R) -> io::Result<ExitCode> {
-    let (mut wanted, mut all) = (Wanted::Fit, Tally::new());
+    let (mut wanted, mut all) = (Wanted::Fit, CaseCounts::new());
     for name in env::args(rt)?.skip(1) {
         if name.as_str() == "--wrong" {
             wanted = Wanted::Differ;

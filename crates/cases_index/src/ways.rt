@@ -2,7 +2,7 @@
 // engines are chosen by `main`.
 use crate::script::Script;
 use dilforec::Cut;
-use dilforec::script::{EngineOver, Merge, Options, Plain, Streams, run_script};
+use dilforec::script::{EngineOver, Merge, Options, Plain, run_script};
 use std::alloc::{AllocError, Global};
 use std::sync::Wait;
 use std::thread::Threads;
@@ -58,15 +58,13 @@ fn run<R: AllocGlobal + Threads + Wait + Sync, E: EngineOver<R>>(
     options: Options,
 ) -> Result<Option<String>, AllocError> {
     let alloc = rt.alloc();
-    let mut streams = Streams {
-        reader: Plain::new(input.as_bytes()),
-        writer: Plain::new(Vec::new(alloc)),
-    };
-    let outcome = run_script::<_, E, _, _>(rt, &mut streams, options);
+    let mut reader = Plain::new(input.as_bytes());
+    let mut writer = Plain::new(Vec::new(alloc));
+    let outcome = run_script::<_, E, _, _>(rt, &mut reader, &mut writer, options);
     if outcome.is_err() {
         return Ok(Some(format!(in alloc; "over {over} ended by {outcome:?} at {options:?}")?));
     }
-    other(alloc, over, streams.writer.into_inner(), wanted, options)
+    other(alloc, over, writer.into_inner(), wanted, options)
 }
 
 /// The wrong reply of the first way of running a script over segments that has one: over `S`, and over `O` in one

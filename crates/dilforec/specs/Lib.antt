@@ -11,7 +11,7 @@ pub use Rattle.fts_model.specs.QueryValues
 pub use Rattle.fts_model.specs.Restricted
 pub use Rattle.fts_model.specs.Schemas
 pub use Rattle.fts_model.specs.Shorts
-pub use Rattle.fts_model.specs.Internals.Stored
+pub use Rattle.fts_model.specs.Internals.DocumentData
 pub use Rattle.fts_query.specs.Grammar
 pub use Rattle.fts_query.specs.Meanings
 pub use Rattle.fts_query.specs.Outcomes

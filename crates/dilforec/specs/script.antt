@@ -11,7 +11,7 @@ pub use Rattle.fts_engine.specs.Indexes
 pub use Rattle.fts_engine.specs.Limits
 pub use Rattle.fts_engine.specs.ListIndexes
 pub use Rattle.fts_engine.specs.Steps
-pub use Rattle.fts_engine_local.specs.CountedIndexes
+pub use Rattle.fts_snapshots.specs.CountedSnapshots
 pub use Rattle.fts_engine_local.specs.EndedMerges
 pub use Rattle.fts_engine_local.specs.LocalIndexes
 pub use Rattle.fts_engine_local.specs.LocalPolicies

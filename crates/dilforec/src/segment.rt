@@ -1,3 +1,3 @@
 //! Segments: documents that were built together, with their dictionary, lists, positions and columns.
 
-pub use fts_segment::{Builder, ListId, Positions, Segment, LiveSegment, join};
+pub use fts_segment::{Builder, ListId, LiveSegment, Positions, Segment, join};

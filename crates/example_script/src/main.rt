@@ -6,7 +6,7 @@ ghost use Rattle.dilforec.specs.script.Outputs.{output};
 
 mod memory;
 
-use dilforec::script::{EngineOver, Fault, ListEngine, Options, Streams, run_script};
+use dilforec::script::{EngineOver, Fault, ListEngine, Options, run_script};
 use memory::{Lines, Replies};
 use std::process::ExitCode;
 
@@ -14,12 +14,10 @@ use std::process::ExitCode;
 fn replies_to<R: AllocGlobal + Sync, E: EngineOver<R>>(rt: &R, text: &str) -> Result<Vec<u8>, Fault>
     ensures { IfOk result (λ replies. replies.items ≡ output text.now) }
 {
-    let mut streams = Streams {
-        reader: Lines::over(text.as_bytes()),
-        writer: Replies::new(rt.alloc()),
-    };
-    run_script::<_, E, _, _>(rt, &mut streams, Options::default())?;
-    Ok(streams.writer.into_bytes())
+    let mut lines = Lines::over(text.as_bytes());
+    let mut replies = Replies::new(rt.alloc());
+    run_script::<_, E, _, _>(rt, &mut lines, &mut replies, Options::default())?;
+    Ok(replies.into_bytes())
 }
 
 const SCRIPT: &str =

@@ -30,15 +30,13 @@ impl<'a> Lines<'a> {
 }
 
 impl<'a> ScriptIn for Lines<'a> {
-    ghost given = { λ l. l.given.bytes };
-
-    ghost latest = { λ l. l.latest.bytes };
-
-    ghost remaining = { λ l. Some l.rest.now };
-
-    ghost ends = { λ l. l.ends };
-
-    ghost failed = { λ _. 0 };
+    ghost calls = { λ l. record {
+      given = l.given.bytes;
+      latest = l.latest.bytes;
+      remaining = Some l.rest.now;
+      ends = l.ends;
+      failed = 0;
+    } };
 
     fn read(&mut self, buffer: &mut [u8]) -> Result<usize, StreamError> {
         let n = self.rest.len().min(buffer.len());
@@ -86,15 +84,13 @@ impl Replies {
 }
 
 impl ScriptOut for Replies {
-    ghost taken = { λ r. r.bytes.items };
-
-    ghost held = { λ r. Some r.bytes.items };
-
-    ghost failed = { λ r. r.failed };
-
-    ghost flushes = { λ r. r.flushes };
-
-    ghost flushed = { λ r. r.flushed.bytes };
+    ghost calls = { λ r. record {
+      taken = r.bytes.items;
+      held = Some r.bytes.items;
+      failed = r.failed;
+      flushes = r.flushes;
+      flushed = r.flushed.bytes;
+    } };
 
     fn write(&mut self, bytes: &[u8]) -> Result<usize, StreamError> {
         match self.bytes.extend_from_slice(bytes) {

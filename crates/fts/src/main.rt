@@ -9,9 +9,9 @@ ghost use Rattle.fts_cli.specs.Arguments.{run_status_of};
 use fts_cli::args::{ArgFault, Asked, args};
 use fts_cli::status::{arg_status, run_status, status};
 use fts_engine_index::IndexEngine;
-use fts_script::{EngineOver, Fault, Options, Plain, Streams, run_script};
+use fts_script::{EngineOver, Fault, Options, Plain, ScriptIn, ScriptOut, run_script};
 use std::env::Env;
-use std::io::{Eprint, IsTerminal, Stdin, Stdout};
+use std::io::{Eprint, IsTerminal};
 use std::process::ExitCode;
 use std::{env, io};
 
@@ -34,27 +34,35 @@ fn asked(rt: &(impl Env + AllocGlobal)) -> Result<Asked, ArgFault> {
 /// Runs the script over the standard streams, which buffer nothing: the run reads and writes in blocks.
 ///
 /// Returns the exit status, and the outcome that it reports.
-fn run_standard<R: AllocGlobal + Sync + Eprint, E: EngineOver<R>>(
+fn run_standard<R: AllocGlobal + Sync + Eprint, E: EngineOver<R>, I: ScriptIn, O: ScriptOut>(
     rt: &R,
-    streams: &mut Streams<Plain<Stdin>, Plain<Stdout>>,
+    reader: &mut I,
+    writer: &mut O,
     options: Options,
 ) -> (u8, Result<(), Fault>)
     // 0 if the run came to its end, 3 if memory ran out, 4 if a stream failed, 5 if the stamps are used up
     ensures status { result.0 ≡ run_status_of result.1 }
 
-    ensures ok { result.0 ≡ 0 → WritesOutput streams.old streams.new }
-    ensures end { result.0 ≡ 0 → TellsEnd streams.old streams.new }
-    ensures flushed { result.0 ≡ 0 → Flushes streams.old streams.new }
-    ensures flushed_all { result.0 ≡ 0 → FlushesAll streams.new }
-    ensures none_failed { result.0 ≡ 0 → FailsNever streams.old streams.new }
+    ensures ok { result.0 ≡ 0 → WritesOutput
+        (I.calls reader.old, O.calls writer.old) (I.calls reader.new, O.calls writer.new) }
+    ensures end { result.0 ≡ 0 → TellsEnd (I.calls reader.old) (I.calls reader.new) }
+    ensures flushed { result.0 ≡ 0 → Flushes (O.calls writer.old) (O.calls writer.new) }
+    ensures flushed_all { result.0 ≡ 0 → FlushesAll (O.calls writer.new) }
+    ensures none_failed { result.0 ≡ 0 → FailsNever
+        (I.calls reader.old, O.calls writer.old) (I.calls reader.new, O.calls writer.new) }
 
-    ensures stopped { result.0 ≢ 0 → WritesBeginning streams.old streams.new }
-    ensures memory { result.0 ≡ 3 → StopsInLastRead streams.old streams.new }
-    ensures failed { result.0 ≡ 4 → FailsWrite streams.old streams.new
-        ⊎ (FailsRead streams.old streams.new × WritesEnded streams.old streams.new) }
-    ensures used_up { result.0 ≡ 5 → ReadsTooMuch streams.old streams.new }
+    ensures stopped { result.0 ≢ 0 → WritesBeginning
+        (I.calls reader.old, O.calls writer.old) (I.calls reader.new, O.calls writer.new) }
+    ensures memory { result.0 ≡ 3 → StopsInLastRead
+        (I.calls reader.old, O.calls writer.old) (I.calls reader.new, O.calls writer.new) }
+    ensures failed { result.0 ≡ 4 → FailsWrite
+        (I.calls reader.old, O.calls writer.old) (I.calls reader.new, O.calls writer.new)
+        ⊎ (FailsRead (I.calls reader.old, O.calls writer.old) (I.calls reader.new, O.calls writer.new)
+        × WritesEnded (I.calls reader.old, O.calls writer.old) (I.calls reader.new, O.calls writer.new)) }
+    ensures used_up { result.0 ≡ 5 → ReadsTooMuch
+        (I.calls reader.old, O.calls writer.old) (I.calls reader.new, O.calls writer.new) }
 {
-    let outcome = run_script::<_, E, _, _>(rt, streams, options);
+    let outcome = run_script::<_, E, _, _>(rt, reader, writer, options);
     if let Err(fault) = &outcome {
         let _ = rt.eprintln(format_args!("fts: {fault}"));
     }
@@ -67,11 +75,9 @@ fn main(rt: HostRuntime) -> ExitCode {
             if rt.stdin().is_terminal() {
                 let _ = rt.eprintln(WAITS);
             }
-            let mut streams = Streams {
-                reader: Plain::new(rt.stdin()),
-                writer: Plain::new(rt.stdout()),
-            };
-            run_standard::<_, IndexEngine>(&rt, &mut streams, options).0
+            let mut reader = Plain::new(rt.stdin());
+            let mut writer = Plain::new(rt.stdout());
+            run_standard::<_, IndexEngine, _, _>(&rt, &mut reader, &mut writer, options).0
         }
         Ok(Asked::Help(text)) => match rt.print(text) {
             Ok(()) => 0,

@@ -100,20 +100,7 @@ after_kept-kept_line s line = by (ltb longest (0 + length line)) refl
         let short : length (take k line ++ drop k line) ≤ longest = grind (arith, nat_tests, ap length (take-append-drop k line)) in
         sym (after_line-blank s (take k line) (drop k line) (is_blank-front line) short) ∙ ap (after_line s) (take-append-drop k line)
 
--- only an empty line stores nothing
-pub kept_line-nothing : (line : List ℕ) → kept_line line ≡ kept_line [] → line ≡ []
-kept_line-nothing line = by (ltb longest (0 + length line))
-  where
-    by : (t : Bool) → cond t (TooLong (is_blank line)) (Short (0 + prefix_len is_white line) (drop (prefix_len is_white line) line)) ≡ Short (0 + 0) [] →
-        line ≡ []
-    by true e = cc
-    by false e =
-        let k = prefix_len is_white line in
-        let count : 0 + k ≡ 0 + 0 = cc in
-        let left : drop k line ≡ [] = cc in
-        nil_from_length line (omega (arith, length-drop k line, ap length left))
-
--- a line isn't blank if what is stored of its beginning, grown by a piece, isn't
+-- a line that isn't blank, by what is kept of its beginning
 pub not_blank-kept : (p : KeptLine) (start piece : List ℕ) → p ≡ kept_line start → is_blank_kept (grown p piece) ≡ false → is_blank (start ++ piece) ≡ false
 not_blank-kept p start piece held h =
     sym (is_blank_kept-indented 0 (start ++ piece)) ∙ ap is_blank_kept (sym (ap (λ v. grown v piece) held ∙ grown-kept_line start piece)) ∙ h
@@ -132,22 +119,6 @@ pub not_blank-whole : (p : KeptLine) (piece : List ℕ) → p ≡ kept_line [] �
 not_blank-whole p piece none h = ap is_blank_kept (grown-nothing p piece none) ∙ is_blank_kept-indented 0 piece ∙ h
 
 -- ---- what the code reads of the stored beginning
-
-pub too_long-some : (p : KeptLine) (blank : Bool) → too_long_in p ≡ Some blank → p ≡ TooLong blank
-too_long-some (Short white bytes) blank e = cc
-too_long-some (TooLong other) blank e = cc
-
-pub reply_to_kept-bytes : (s : SessionValue) (p : KeptLine) → too_long_in p ≡ None → reply_to_kept s p ≡ reply_to s (bytes_in p)
-reply_to_kept-bytes s (Short white bytes) e = refl
-reply_to_kept-bytes s (TooLong blank) e = cc
-
-pub after_kept-bytes : (s : SessionValue) (p : KeptLine) → too_long_in p ≡ None → after_kept s p ≡ after_line s (bytes_in p)
-after_kept-bytes s (Short white bytes) e = refl
-after_kept-bytes s (TooLong blank) e = cc
-
-pub is_blank_kept-bytes : (p : KeptLine) → too_long_in p ≡ None → is_blank_kept p ≡ is_blank (bytes_in p)
-is_blank_kept-bytes (Short white bytes) e = refl
-is_blank_kept-bytes (TooLong blank) e = cc
 
 -- ---- the fields of a partial line
 
@@ -185,12 +156,7 @@ indented-short w line h =
     let short : ltb longest (w + length line) ≡ false = grind (arith, nat_tests) in
     ap (λ t. cond t (TooLong (is_blank line)) (Short (w + prefix_len is_white line) (drop (prefix_len is_white line) line))) short
 
-indented-long : (w : ℕ) (line : List ℕ) → longest < w + length line → indented w line ≡ TooLong (is_blank line)
-indented-long w line h =
-    let long : ltb longest (w + length line) ≡ true = grind (arith, nat_tests) in
-    ap (λ t. cond t (TooLong (is_blank line)) (Short (w + prefix_len is_white line) (drop (prefix_len is_white line) line))) long
-
--- the rest of a piece after its white space
+-- what is left of a piece behind its white space
 pub rest_is : (bytes kept_bytes piece : List ℕ) (k : ℕ) → length bytes ≡ 0 → k ≡ prefix_len is_white piece →
     kept_bytes ≡ bytes ++ take (length piece - k) (drop k piece) → kept_bytes ≡ drop (prefix_len is_white piece) piece
 rest_is bytes kept_bytes piece k none k-is e =
@@ -198,18 +164,7 @@ rest_is bytes kept_bytes piece k none k-is e =
     ∙ take_all (length piece - k) (drop k piece) (omega (arith, length-drop k piece))
     ∙ ap (λ n. drop n piece) k-is
 
--- if there was only white space, that of a piece is counted
-pub grown-white : (t : Option Bool) (white k : ℕ) (bytes after piece : List ℕ) → t ≡ None → length bytes ≡ 0 → k ≡ prefix_len is_white piece →
-    after ≡ bytes ++ take (length piece - k) (drop k piece) → (white + length bytes) + length piece ≤ longest →
-    kept_in t (white + k) after ≡ grown (kept_in t white bytes) piece
-grown-white (Some blank) white k bytes after piece e none k-is is short = cc
-grown-white None white k bytes after piece e none k-is is short =
-    let fits : white + length piece ≤ longest = omega (arith, none, short) in
-    let nothing : bytes ++ piece ≡ piece = ap (λ v. v ++ piece) (nil_from_length bytes none) in
-    ap (λ n. Short (white + n) after) k-is ∙ ap (λ v. Short (white + prefix_len is_white piece) v) (rest_is bytes after piece k none k-is is)
-    ∙ sym (indented-short white piece fits) ∙ ap (indented white) (sym nothing)
-
--- after another byte, all of a piece is stored
+-- behind another byte all of a piece is kept
 pub grown-behind : (t : Option Bool) (white : ℕ) (bytes after piece : List ℕ) → t ≡ None → prefix_len is_white bytes ≡ 0 → 0 < length bytes →
     after ≡ bytes ++ piece → (white + length bytes) + length piece ≤ longest → kept_in t white after ≡ grown (kept_in t white bytes) piece
 grown-behind (Some blank) white bytes after piece e bare some is short = cc
@@ -221,15 +176,7 @@ grown-behind None white bytes after piece e bare some is short =
     ap (λ n. Short (white + n) (drop n (bytes ++ piece))) none in
     ap (Short white) is ∙ ap (λ n. Short n (bytes ++ piece)) (omega arith) ∙ sym same ∙ sym (indented-short white (bytes ++ piece) fits)
 
--- once a line is too long, only whether it is blank is stored
-pub grown-long : (t : Option Bool) (white : ℕ) (bytes piece : List ℕ) → t ≡ None → longest < (white + length bytes) + length piece →
-    TooLong (is_blank bytes && is_blank piece) ≡ grown (kept_in t white bytes) piece
-grown-long (Some blank) white bytes piece e long = cc
-grown-long None white bytes piece e long =
-    let over : longest < white + length (bytes ++ piece) = omega (arith, long, length-append bytes piece) in
-    ap TooLong (sym (list_all-append is_white bytes piece)) ∙ sym (indented-long white (bytes ++ piece) over)
-
--- it isn't blank if a piece isn't, or if what was stored isn't
+-- it isn't blank if a piece isn't, or if what was kept isn't
 pub not_blank-grown : (t : Option Bool) (white : ℕ) (bytes piece : List ℕ) → t ≡ None → is_blank (bytes ++ piece) ≡ false →
     is_blank_kept (grown (kept_in t white bytes) piece) ≡ false
 not_blank-grown (Some blank) white bytes piece e h = cc

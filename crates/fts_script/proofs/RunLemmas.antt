@@ -4,8 +4,8 @@ use Rattle.std.proofs.Common.{◌∷◌, ◌++◌, length, take, drop, refl, ap,
 use Rattle.std.proofs.lemmas.List.{length-drop, length-append, length-take-le, take_rest}
 use Rattle.std.proofs.Math.Seq.{take-add}
 use Rattle.fts_script.specs.session.KeptLines.{KeptLine, kept_line, grown, is_blank_kept, reply_to_kept, after_kept}
-use Rattle.fts_script.proofs.KeptLemmas.{grown-kept_line, is_blank_kept-indented, reply_to_kept-kept_line, after_kept-kept_line, kept_line-nothing}
-use Rattle.fts_script.specs.Streams.{StreamsValue, Wrote}
+use Rattle.fts_script.proofs.KeptLemmas.{grown-kept_line, is_blank_kept-indented, reply_to_kept-kept_line, after_kept-kept_line}
+use Rattle.fts_script.specs.Streams.{Wrote}
 use Rattle.fts_script.specs.Runs.{StopsInLastRead}
 use Rattle.fts_script.specs.session.Text.{lines_of, IsWhole, HasNoEnd}
 use Rattle.fts_script.specs.session.Outputs.{SessionValue, start, after_line, reply_to, replies, after_lines, output}
@@ -80,11 +80,6 @@ Advances-ended s t p q piece a b none replies_to goes_on next = record {
             ∙ ap (λ v. output r.done ++ reply_to v line) r.script
             ∙ sym (output-line r.done (line ++ 10 ∷ []) line r.whole is);
       };
-}
-
-pub Advances-none : (s : SessionValue) (p : KeptLine) (a : List ℕ) → Advances s s p p [] a a
-Advances-none s p a = record {
-  leads = λ input out r. subst (λ v. Answered s p v (out ++ a)) (sym (append-nil input)) r;
 }
 
 pub Advances-then : (s t u : SessionValue) (p q r : KeptLine) (xs ys a b c : List ℕ) →
@@ -236,28 +231,6 @@ pub Wrote-latest : (P : ℕ → List ℕ → List ℕ → Type 0) (before now in
     Wrote before now (P (length bytes) input) → Wrote before now (P (length latest) input)
 Wrote-latest P before now input bytes latest e w = subst (λ v. Wrote before now (P (length v) input)) (sym e) w
 
--- before the first read
-pub StopsInLastRead-none : (streams : StreamsValue) → StopsInLastRead streams streams
-StopsInLastRead-none streams = record {
-  input = [];
-  read = sym (append-nil streams.given);
-  wrote = record {
-    bytes = [];
-    taken = sym (append-nil streams.taken);
-    so = (
-      record {
-        done = [];
-        rest = [];
-        split = refl;
-        whole = inl refl;
-        replied = refl;
-        late = HasNoEnd-late [] [] (length streams.latest) (omega arith) tt;
-      },
-      λ some. absurd (some refl),
-    );
-  };
-}
-
 -- the lines that ended were answered
 pub Wrote-reached : (before now : List ℕ) (s : SessionValue) (p : KeptLine) (input : List ℕ) →
     RunState before now s p input → Wrote before now (AnswersEnded input)
@@ -294,14 +267,6 @@ pub Wrote-same : (before now : List ℕ) (s : SessionValue) (p : KeptLine) (inpu
     RunState before now s p input → Wrote before now (AnswersFirst 0 input)
 Wrote-same before now s p input r =
     subst (λ v. Wrote before now (AnswersFirst 0 v)) (append-nil input) (Wrote-more before now s p input [] r)
-
--- the input ended with an LF
-pub Finishes-nothing : (s : SessionValue) (p : KeptLine) → p ≡ kept_line [] → Finishes s p []
-Finishes-nothing s p none = record {
-  ends = λ input out r.
-      append-nil out ∙ r.replied
-      ∙ ap output (sym (r.split ∙ ap (λ v. r.done ++ v) (kept_line-nothing r.line (sym r.held ∙ none)) ∙ append-nil r.done));
-}
 
 -- the end of the input ended a line
 pub Finishes-line : (s : SessionValue) (p : KeptLine) (reply : List ℕ) → (p ≡ kept_line [] → ⊥) → reply ≡ reply_to_kept s p → Finishes s p reply
@@ -394,14 +359,6 @@ Wrote-block before now input bytes i w =
     let shorter : length rest ≤ length bytes = omega (arith, ap length (take_rest bytes i), length-drop i bytes) in
     Wrote-late before now (input ++ bytes) (length rest) (length bytes) shorter
     (subst (λ v. Wrote before now (StopsFirst (length rest) v)) (whole_is input bytes i) w)
-
--- before the first byte
-pub RunState-start : (a : List ℕ) (s : SessionValue) (p : KeptLine) → s ≡ start → p ≡ kept_line [] → RunState a a s p []
-RunState-start a s p e none = record {
-  out = [];
-  taken = sym (append-nil a);
-  answered = record { done = []; line = []; split = refl; whole = inl refl; unended = tt; script = e; held = none; replied = refl };
-}
 
 -- a read that gave nothing
 pub given_none : (a b c input buffer : List ℕ) (n : ℕ) → n ≡ 0 → b ≡ a ++ input → c ≡ b ++ take n buffer → c ≡ a ++ input

@@ -1,21 +1,12 @@
 -- What calls of a stream add up to.
 use Rattle.std.proofs.Common.{◌≡◌, ℕ, Result, Ok, Err, List, [], ◌++◌, Option, sym, ap, ◌∙◌, append_assoc, append-nil, take, length, arith}
-use Rattle.std.proofs.lemmas.List.{take_all}
-use Rattle.std.proofs.KnownBytes.{Appends-nil, Appends-trans, Appends-kept, Consumes-nil, Consumes-trans, Consumes-kept}
+use Rattle.std.proofs.KnownBytes.{Appends-trans, Appends-kept, Consumes-trans, Consumes-kept}
 use Rattle.std.specs.Io.KnownBytes.{Keeps, ReadConsumes, WriteAppends}
 use Rattle.fts_script.specs.Streams.{bytes_moved, GainsTaken, LosesGiven}
 
 -- two lists appended to a first one are one list appended to it
 pub append_more : (a b c bs cs : List ℕ) → b ≡ a ++ bs → c ≡ b ++ cs → c ≡ a ++ (bs ++ cs)
 append_more a b c bs cs e f = f ∙ ap (λ v. v ++ cs) e ∙ append_assoc a bs cs
-
--- all of a list is a part of it
-pub all_taken : (a b c : List ℕ) → c ≡ a ++ b → (n : ℕ) × (c ≡ a ++ take n b)
-all_taken a b c e = (length b, e ∙ ap (λ v. a ++ v) (sym (take_all (length b) b (omega arith))))
-
--- no call
-pub LosesGiven-none : (a : List ℕ) (x : Option (List ℕ)) → LosesGiven a a x x
-LosesGiven-none a x = record { input = []; given = sym (append-nil a); lost = Consumes-nil x }
 
 -- one read more
 pub LosesGiven-read : {E : Type 0} (result : Result ℕ E) (buffer a b c : List ℕ) (x y z : Option (List ℕ)) →
@@ -30,10 +21,6 @@ LosesGiven-read (Err error) buffer a b c x y z h e k = record {
   given = e ∙ append-nil b ∙ h.given;
   lost = Consumes-kept x y z h.input h.lost k;
 }
-
--- no call
-pub GainsTaken-none : (a : List ℕ) (x : Option (List ℕ)) → GainsTaken a a x x
-GainsTaken-none a x = record { out = []; taken = sym (append-nil a); gained = Appends-nil x }
 
 -- the calls of two functions
 pub GainsTaken-trans : (a b c : List ℕ) (x y z : Option (List ℕ)) → GainsTaken a b x y → GainsTaken b c y z → GainsTaken a c x z

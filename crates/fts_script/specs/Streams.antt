@@ -18,27 +18,35 @@ abbrev pub takes_none : {E : Type 0} → Result ℕ E → ℕ → Bool
 takes_none (Ok n) given = n == 0 && nat_lt 0 given
 takes_none (Err e) given = true
 
--- what the calls of a script's streams gave and took so far
-pub record StreamsValue : Type 0 where
+-- what the calls of a reader gave so far
+pub record ReadsValue : Type 0 where
   -- the bytes that reads gave
   pub given : List ℕ
   -- the bytes that the latest read gave
   pub latest : List ℕ
   -- the bytes that are left to read, if they are known
   pub remaining : Option (List ℕ)
-  -- how many reads reported the end
+  -- how many reads reported the end: their buffer wasn't empty, and they gave no byte
   pub ends : ℕ
-  pub failed_reads : ℕ
+  -- the number of reads that failed
+  pub failed : ℕ
+
+-- what the calls of a writer took so far
+pub record WritesValue : Type 0 where
   -- the bytes that writes took
   pub taken : List ℕ
   -- the bytes that the writer holds, if they are known
   pub held : Option (List ℕ)
-  -- how many writes and flushes failed
-  pub failed_writes : ℕ
-  -- how many flushes succeeded
+  -- the number of writes and flushes that failed: with an error, or with bytes given and none taken
+  pub failed : ℕ
+  -- the number of flushes that succeeded
   pub flushes : ℕ
   -- the bytes that writes had taken when the latest successful flush was made
   pub flushed : List ℕ
+
+-- what the calls of a script's reader and writer gave and took so far
+abbrev pub StreamsValue : Type 0
+StreamsValue = ReadsValue × WritesValue
 
 -- A writer had taken `before` and has now taken `now`: P holds of what came after `before`.
 pub record Wrote (before now : List ℕ) (P : List ℕ → Type 0) : Type 0 where

@@ -47,15 +47,13 @@ impl<T> Plain<T> {
 }
 
 impl<T: Read> ScriptIn for Plain<T> {
-    ghost given = { λ p. p.moved.bytes };
-
-    ghost latest = { λ p. p.latest.bytes };
-
-    ghost remaining = { λ p. T.remaining p.inner };
-
-    ghost ends = { λ p. p.ends };
-
-    ghost failed = { λ p. p.failed };
+    ghost calls = { λ p. record {
+      given = p.moved.bytes;
+      latest = p.latest.bytes;
+      remaining = T.remaining p.inner;
+      ends = p.ends;
+      failed = p.failed;
+    } };
 
     fn read(&mut self, buffer: &mut [u8]) -> Result<usize, StreamError> {
         self.latest = GhostBytes::none();
@@ -77,15 +75,13 @@ impl<T: Read> ScriptIn for Plain<T> {
 }
 
 impl<T: Write> ScriptOut for Plain<T> {
-    ghost taken = { λ p. p.moved.bytes };
-
-    ghost held = { λ p. T.contents p.inner };
-
-    ghost failed = { λ p. p.failed };
-
-    ghost flushes = { λ p. p.flushes };
-
-    ghost flushed = { λ p. p.flushed.bytes };
+    ghost calls = { λ p. record {
+      taken = p.moved.bytes;
+      held = T.contents p.inner;
+      failed = p.failed;
+      flushes = p.flushes;
+      flushed = p.flushed.bytes;
+    } };
 
     fn write(&mut self, bytes: &[u8]) -> Result<usize, StreamError> {
         match self.inner.write(bytes) {

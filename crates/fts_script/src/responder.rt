@@ -23,16 +23,16 @@ const MOST_UNSENT: usize = 65_536;
 /// Writes the replies that wait, and empties them.
 fn send<W: ScriptOut>(writer: &mut W, replies: &mut String) -> Result<(), Fault>
     ensures ok { OnOk result
-        (W.taken writer.new ≡ W.taken writer.old ++ string_bytes replies.old) }
+        ((W.calls writer.new).taken ≡ (W.calls writer.old).taken ++ string_bytes replies.old) }
     ensures none_wait { OnOk result (string_bytes replies.new ≡ []) }
     ensures err { OnErr result ((n : ℕ)
-        × (W.taken writer.new ≡ W.taken writer.old ++ take n (string_bytes replies.old))) }
-    ensures held { GainsTaken (W.taken writer.old) (W.taken writer.new) (W.held writer.old)
-        (W.held writer.new) }
+        × ((W.calls writer.new).taken ≡ (W.calls writer.old).taken ++ take n (string_bytes replies.old))) }
+    ensures held { GainsTaken ((W.calls writer.old).taken) ((W.calls writer.new).taken) ((W.calls writer.old).held)
+        ((W.calls writer.new).held) }
     ensures write { OnErr result (result ≡ Err Fault.Write) }
-    ensures fails { OnErr result (W.failed writer.new ≡ W.failed writer.old + 1) }
-    ensures none_fails { OnOk result (W.failed writer.new ≡ W.failed writer.old) }
-    ensures flushes { W.flushes writer.new ≡ W.flushes writer.old }
+    ensures fails { OnErr result ((W.calls writer.new).failed ≡ (W.calls writer.old).failed + 1) }
+    ensures none_fails { OnOk result ((W.calls writer.new).failed ≡ (W.calls writer.old).failed) }
+    ensures flushes { (W.calls writer.new).flushes ≡ (W.calls writer.old).flushes }
 {
     let bytes = replies.as_bytes();
     let mut at = 0;
@@ -49,17 +49,17 @@ fn send<W: ScriptOut>(writer: &mut W, replies: &mut String) -> Result<(), Fault>
 
 /// Writes the last replies, and flushes all.
 fn send_last<W: ScriptOut>(writer: &mut W, replies: &mut String) -> Result<(), Fault>
-    ensures flushed_all { OnOk result (W.flushed writer.new ≡ W.taken writer.new) }
-    ensures flushed { OnOk result (W.flushes writer.old < W.flushes writer.new) }
+    ensures flushed_all { OnOk result ((W.calls writer.new).flushed ≡ (W.calls writer.new).taken) }
+    ensures flushed { OnOk result ((W.calls writer.old).flushes < (W.calls writer.new).flushes) }
     ensures ok { OnOk result
-        (W.taken writer.new ≡ W.taken writer.old ++ string_bytes replies.old) }
+        ((W.calls writer.new).taken ≡ (W.calls writer.old).taken ++ string_bytes replies.old) }
     ensures err { OnErr result ((n : ℕ)
-        × (W.taken writer.new ≡ W.taken writer.old ++ take n (string_bytes replies.old))) }
-    ensures held { GainsTaken (W.taken writer.old) (W.taken writer.new) (W.held writer.old)
-        (W.held writer.new) }
+        × ((W.calls writer.new).taken ≡ (W.calls writer.old).taken ++ take n (string_bytes replies.old))) }
+    ensures held { GainsTaken ((W.calls writer.old).taken) ((W.calls writer.new).taken) ((W.calls writer.old).held)
+        ((W.calls writer.new).held) }
     ensures write { OnErr result (result ≡ Err Fault.Write) }
-    ensures fails { OnErr result (W.failed writer.new ≡ W.failed writer.old + 1) }
-    ensures none_fails { OnOk result (W.failed writer.new ≡ W.failed writer.old) }
+    ensures fails { OnErr result ((W.calls writer.new).failed ≡ (W.calls writer.old).failed + 1) }
+    ensures none_fails { OnOk result ((W.calls writer.new).failed ≡ (W.calls writer.old).failed) }
 {
     send(writer, replies)?;
     match writer.flush() {
@@ -216,23 +216,23 @@ impl<E: Engine> Responder<E> {
         requires fits_line { length piece.now ≤ longest }
         requires none_wait { string_bytes self.replies ≡ [] }
         ensures ok { IfOk result (λ fed. (before input : List ℕ) →
-            RunState before (W.taken writer.old) self.session self.line input →
-            RunState before (W.taken writer.new) fed.session fed.line (input ++ piece.now)) }
+            RunState before ((W.calls writer.old).taken) self.session self.line input →
+            RunState before ((W.calls writer.new).taken) fed.session fed.line (input ++ piece.now)) }
         ensures none_wait { IfOk result (λ fed. string_bytes fed.replies ≡ []) }
         ensures memory { IsErrOf result Fault.Memory → ((before input : List ℕ) →
-            RunState before (W.taken writer.old) self.session self.line input →
-            Wrote before (W.taken writer.new) (StopsFirst (length piece.now) (input ++ piece.now))) }
+            RunState before ((W.calls writer.old).taken) self.session self.line input →
+            Wrote before ((W.calls writer.new).taken) (StopsFirst (length piece.now) (input ++ piece.now))) }
         ensures err { OnErr result ((before input : List ℕ) →
-            RunState before (W.taken writer.old) self.session self.line input →
-            Wrote before (W.taken writer.new) (BeginsOutput (input ++ piece.now))) }
-        ensures held { GainsTaken (W.taken writer.old) (W.taken writer.new) (W.held writer.old)
-            (W.held writer.new) }
+            RunState before ((W.calls writer.old).taken) self.session self.line input →
+            Wrote before ((W.calls writer.new).taken) (BeginsOutput (input ++ piece.now))) }
+        ensures held { GainsTaken ((W.calls writer.old).taken) ((W.calls writer.new).taken) ((W.calls writer.old).held)
+            ((W.calls writer.new).held) }
         ensures no_read { IsErrOf result Fault.Read → ⊥ }
         ensures not_used_up { IsErrOf result Fault.StampsUsedUp → ⊥ }
-        ensures fails { IsErrOf result Fault.Write → W.failed writer.new ≡ W.failed writer.old + 1 }
-        ensures none_fails { OnOk result (W.failed writer.new ≡ W.failed writer.old) }
-        ensures memory_alone { IsErrOf result Fault.Memory → W.failed writer.new ≡ W.failed writer.old }
-        ensures flushes { W.flushes writer.new ≡ W.flushes writer.old }
+        ensures fails { IsErrOf result Fault.Write → (W.calls writer.new).failed ≡ (W.calls writer.old).failed + 1 }
+        ensures none_fails { OnOk result ((W.calls writer.new).failed ≡ (W.calls writer.old).failed) }
+        ensures memory_alone { IsErrOf result Fault.Memory → (W.calls writer.new).failed ≡ (W.calls writer.old).failed }
+        ensures flushes { (W.calls writer.new).flushes ≡ (W.calls writer.old).flushes }
         ensures lines_counted { IfOk result (λ fed.
             fed.session.number ≤ self.session.number + length piece.now) }
     {
@@ -285,23 +285,23 @@ impl<E: Engine> Responder<E> {
         requires line_number_fits { self.session.number ≤ 2 ^ 61 }
         requires none_wait { string_bytes self.replies ≡ [] }
         ensures ok { OnOk result ((before input : List ℕ) →
-            RunState before (W.taken writer.old) self.session self.line input →
-            Wrote before (W.taken writer.new) (λ out. out ≡ output input)) }
+            RunState before ((W.calls writer.old).taken) self.session self.line input →
+            Wrote before ((W.calls writer.new).taken) (λ out. out ≡ output input)) }
         ensures memory { IsErrOf result Fault.Memory → ((before input : List ℕ) →
-            RunState before (W.taken writer.old) self.session self.line input →
-            Wrote before (W.taken writer.new) (StopsFirst 0 input)) }
+            RunState before ((W.calls writer.old).taken) self.session self.line input →
+            Wrote before ((W.calls writer.new).taken) (StopsFirst 0 input)) }
         ensures err { OnErr result ((before input : List ℕ) →
-            RunState before (W.taken writer.old) self.session self.line input →
-            Wrote before (W.taken writer.new) (BeginsWith (output input))) }
-        ensures held { GainsTaken (W.taken writer.old) (W.taken writer.new) (W.held writer.old)
-            (W.held writer.new) }
+            RunState before ((W.calls writer.old).taken) self.session self.line input →
+            Wrote before ((W.calls writer.new).taken) (BeginsWith (output input))) }
+        ensures held { GainsTaken ((W.calls writer.old).taken) ((W.calls writer.new).taken) ((W.calls writer.old).held)
+            ((W.calls writer.new).held) }
         ensures no_read { IsErrOf result Fault.Read → ⊥ }
         ensures not_used_up { IsErrOf result Fault.StampsUsedUp → ⊥ }
-        ensures fails { IsErrOf result Fault.Write → W.failed writer.new ≡ W.failed writer.old + 1 }
-        ensures none_fails { OnOk result (W.failed writer.new ≡ W.failed writer.old) }
-        ensures memory_alone { IsErrOf result Fault.Memory → W.failed writer.new ≡ W.failed writer.old }
-        ensures flushed { OnOk result (W.flushes writer.old < W.flushes writer.new) }
-        ensures flushed_all { OnOk result (W.flushed writer.new ≡ W.taken writer.new) }
+        ensures fails { IsErrOf result Fault.Write → (W.calls writer.new).failed ≡ (W.calls writer.old).failed + 1 }
+        ensures none_fails { OnOk result ((W.calls writer.new).failed ≡ (W.calls writer.old).failed) }
+        ensures memory_alone { IsErrOf result Fault.Memory → (W.calls writer.new).failed ≡ (W.calls writer.old).failed }
+        ensures flushed { OnOk result ((W.calls writer.old).flushes < (W.calls writer.new).flushes) }
+        ensures flushed_all { OnOk result ((W.calls writer.new).flushed ≡ (W.calls writer.new).taken) }
     {
         let ended = self.end_input(rt);
         let Responder {

@@ -9,7 +9,7 @@ ghost use Rattle.fts_script.specs.Runs.{WritesOutput};
 use crate::fault::Fault;
 use crate::responder::Responder;
 use crate::session::MOST_LINES;
-use crate::streams::{ScriptIn, ScriptOut, Streams};
+use crate::streams::{ScriptIn, ScriptOut};
 use fts_engine::{EngineOver, Options};
 use std::alloc::{AllocError, Global};
 
@@ -29,31 +29,42 @@ fn zeros(alloc: Global, count: usize) -> Result<Vec<u8>, AllocError>
 /// Reads a script to its end, and writes its replies, whatever the options and the engine are.
 pub fn run_script<G: AllocGlobal + Sync, E: EngineOver<G>, R: ScriptIn, W: ScriptOut>(
     rt: &G,
-    streams: &mut Streams<R, W>,
+    reader: &mut R,
+    writer: &mut W,
     options: Options,
 ) -> Result<(), Fault>
-    ensures ok { OnOk result (WritesOutput streams.old streams.new) }
-    ensures end { OnOk result (TellsEnd streams.old streams.new) }
-    ensures flushed { OnOk result (Flushes streams.old streams.new) }
-    ensures flushed_all { OnOk result (FlushesAll streams.new) }
+    ensures ok { OnOk result (WritesOutput
+        (R.calls reader.old, W.calls writer.old) (R.calls reader.new, W.calls writer.new)) }
+    ensures end { OnOk result (TellsEnd (R.calls reader.old) (R.calls reader.new)) }
+    ensures flushed { OnOk result (Flushes (W.calls writer.old) (W.calls writer.new)) }
+    ensures flushed_all { OnOk result (FlushesAll (W.calls writer.new)) }
 
     // If the bytes that the reader has left and those that the writer holds are known, they are what was read and
     // written.
-    ensures left { LosesRead streams.old streams.new }
-    ensures held { GainsWritten streams.old streams.new }
-    ensures nothing_left { TellsEnd streams.old streams.new → IsAtEnd streams.new.remaining }
+    ensures left { LosesRead (R.calls reader.old) (R.calls reader.new) }
+    ensures held { GainsWritten (W.calls writer.old) (W.calls writer.new) }
+    ensures nothing_left { TellsEnd (R.calls reader.old) (R.calls reader.new) → IsAtEnd (R.calls reader.new).remaining }
 
-    ensures err { OnErr result (WritesBeginning streams.old streams.new) }
-    ensures memory { IsErrOf result Fault.Memory → StopsInLastRead streams.old streams.new }
-    ensures read { IsErrOf result Fault.Read → WritesEnded streams.old streams.new }
+    ensures err { OnErr result (WritesBeginning
+        (R.calls reader.old, W.calls writer.old) (R.calls reader.new, W.calls writer.new)) }
+    ensures memory { IsErrOf result Fault.Memory → StopsInLastRead
+        (R.calls reader.old, W.calls writer.old) (R.calls reader.new, W.calls writer.new) }
+    ensures read { IsErrOf result Fault.Read → WritesEnded
+        (R.calls reader.old, W.calls writer.old) (R.calls reader.new, W.calls writer.new) }
 
     // At most one call fails, and the run's fault names it.
-    ensures none_failed { OnOk result (FailsNever streams.old streams.new) }
-    ensures memory_alone { IsErrOf result Fault.Memory → FailsNever streams.old streams.new }
-    ensures used_up_alone { IsErrOf result Fault.StampsUsedUp → FailsNever streams.old streams.new }
-    ensures read_failed { IsErrOf result Fault.Read → FailsRead streams.old streams.new }
-    ensures write_failed { IsErrOf result Fault.Write → FailsWrite streams.old streams.new }
-    ensures used_up { IsErrOf result Fault.StampsUsedUp → ReadsTooMuch streams.old streams.new }
+    ensures none_failed { OnOk result (FailsNever
+        (R.calls reader.old, W.calls writer.old) (R.calls reader.new, W.calls writer.new)) }
+    ensures memory_alone { IsErrOf result Fault.Memory → FailsNever
+        (R.calls reader.old, W.calls writer.old) (R.calls reader.new, W.calls writer.new) }
+    ensures used_up_alone { IsErrOf result Fault.StampsUsedUp → FailsNever
+        (R.calls reader.old, W.calls writer.old) (R.calls reader.new, W.calls writer.new) }
+    ensures read_failed { IsErrOf result Fault.Read → FailsRead
+        (R.calls reader.old, W.calls writer.old) (R.calls reader.new, W.calls writer.new) }
+    ensures write_failed { IsErrOf result Fault.Write → FailsWrite
+        (R.calls reader.old, W.calls writer.old) (R.calls reader.new, W.calls writer.new) }
+    ensures used_up { IsErrOf result Fault.StampsUsedUp → ReadsTooMuch
+        (R.calls reader.old, W.calls writer.old) (R.calls reader.new, W.calls writer.new) }
 {
     let alloc = rt.alloc();
     let mut block = zeros(alloc, BLOCK)?;
@@ -61,15 +72,15 @@ pub fn run_script<G: AllocGlobal + Sync, E: EngineOver<G>, R: ScriptIn, W: Scrip
     let mut responder = Responder::<E>::new(alloc, options);
     let mut count = 0;
     'reads: loop {
-        match streams.reader.read(block) {
-            Ok(0) => return responder.end(rt, &mut streams.writer),
+        match reader.read(block) {
+            Ok(0) => return responder.end(rt, writer),
             Ok(n) => {
                 if n as u64 > MOST_BYTES - count {
                     responder.close(rt);
                     return Err(Fault::StampsUsedUp);
                 }
                 count += n as u64;
-                responder = responder.feed(rt, &block[..n], &mut streams.writer)?;
+                responder = responder.feed(rt, &block[..n], writer)?;
             }
             Err(_) => {
                 responder.close(rt);

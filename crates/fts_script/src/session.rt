@@ -3,15 +3,15 @@
 //! A [`Session`] reads each line as a command, executes it over an `Engine` of `fts_engine`, and appends the reply to
 //! those before it. It knows no block and no stream.
 
+mod blank;
 mod commands;
 mod cut_search;
 pub mod laws;
+mod maintenance;
 mod replace;
 mod reply;
 mod session;
-mod blank;
-mod maintenance;
 
-pub use session::{MOST_LINES, Session};
 pub use blank::{first_line, is_blank, is_white};
 pub use maintenance::Maintenance;
+pub use session::{MOST_LINES, Session};

@@ -1,5 +1,5 @@
-// Scripts in memory, with readers and writers that are slow or fail.
-use dilforec::script::{EngineOver, Fault, ListEngine, Options, Plain, Streams, run_script};
+// Scripts over memory, by readers and writers that are slow or fail.
+use dilforec::script::{EngineOver, Fault, ListEngine, Options, Plain, run_script};
 use std::alloc::AllocError;
 use std::cell::Cell;
 use std::io;
@@ -76,18 +76,15 @@ fn run_over<G: AllocGlobal + Sync, E: EngineOver<G>, R: Read, W: Write>(
     writer: W,
     options: Options,
 ) -> (Result<(), Fault>, R, W) {
-    let mut streams = Streams {
-        reader: Plain::new(reader),
-        writer: Plain::new(writer),
-    };
-    let outcome = run_script::<_, E, _, _>(rt, &mut streams, options);
-    let Streams { reader, writer } = streams;
+    let mut reader = Plain::new(reader);
+    let mut writer = Plain::new(writer);
+    let outcome = run_script::<_, E, _, _>(rt, &mut reader, &mut writer, options);
     (outcome, reader.into_inner(), writer.into_inner())
 }
 
 /// A reader that gives at most `step` bytes per call, and fails once, at the call numbered `fails`.
 #[derive(Drop)]
-struct Source<'a> {
+struct SlowReader<'a> {
     bytes: &'a [u8],
     step: usize,
     fails: usize,
@@ -95,7 +92,7 @@ struct Source<'a> {
     calls: usize,
 }
 
-impl Read for Source<'_> {
+impl Read for SlowReader<'_> {
     fn read(&mut self, buffer: &mut [u8]) -> io::Result<usize> {
         self.calls = self.calls.wrapping_add(1);
         if self.calls == self.fails {
@@ -151,8 +148,8 @@ impl Write for Sink {
     }
 }
 
-fn reader_of(bytes: &[u8], step: usize, fails: usize, kind: io::ErrorKind) -> Source<'_> {
-    Source {
+fn reader_of(bytes: &[u8], step: usize, fails: usize, kind: io::ErrorKind) -> SlowReader<'_> {
+    SlowReader {
         bytes,
         step,
         fails,

@@ -1,15 +1,16 @@
 -- The command that a line of a script is, by the JSON tree that it reads as.
-use Rattle.std.specs.Prelude.{ℕ, ◌+◌, ◌==◌, nat_lt, Bool, true, false, List, [], ◌∷◌, length, codes, Option}
+use Rattle.std.specs.Prelude.{ℕ, nat_lt, Bool, true, false, List, [], ◌∷◌, length, codes, Option}
 use Rattle.std.specs.Prelude.{Some, None, Result, Err, if◌then◌else◌, option_map, option_and_then}
+use Rattle.std.specs.List.{list_all, list_any}
 use Rattle.std.specs.Option.{ok_or}
 use Rattle.std.specs.Str.{is_utf8, bytes_eq}
 use Rattle.serde_json.specs.Data.{Data, object, Items, no_items, item, Members, no_members, member}
-use Rattle.serde_json.specs.Events.{members_len}
-use Rattle.serde_json.specs.Find.{get, as_str, as_bool, as_number, as_u64, as_array, as_object}
+use Rattle.serde_json.specs.Find.{get, as_str, as_bool, as_number, as_u64, as_array}
 use Rattle.serde_json.specs.Read.{read}
 use Rattle.fts_model.specs.declared.schema.Kind.{Kind}
 use Rattle.fts_model.specs.declared.schema.Kind.TheVariants as kinds
 use Rattle.fts_model.specs.declared.schema.Field.{Field}
+use Rattle.fts_model.specs.Documents.{member_names}
 use Rattle.fts_model.specs.declared.query.Order.{Order}
 use Rattle.fts_model.specs.declared.query.Order.TheVariants as orders
 use Rattle.fts_base.specs.declared.refusal.Refusal.{Refusal}
@@ -36,14 +37,14 @@ pub data Command : Type 0 where
   Merge : Command
   Find : Search → Command
 
--- how many members there are, if there is an object
-abbrev pub count_if : Option Members → ℕ
-count_if None = 0
-count_if (Some ms) = members_len ms
+-- whether each of these members has one of the names
+abbrev pub are_named : List (List ℕ) → Members → Bool
+are_named names ms = list_all (λ name. list_any (bytes_eq name) names) (member_names ms)
 
--- how many members a value has
-abbrev pub count_of : Data → ℕ
-count_of d = count_if (as_object d)
+-- whether an object has no other members than those of these names; what isn't an object has no member
+abbrev pub has_only : List (List ℕ) → Data → Bool
+has_only names (object ms) = are_named names ms
+has_only names d = true
 
 -- the text at a name
 abbrev pub text_at : List ℕ → Data → Option (List ℕ)
@@ -63,11 +64,6 @@ abbrev pub flag_or_false : Option Data → Option Bool
 flag_or_false None = Some false
 flag_or_false (Some d) = as_bool d
 
--- how many members a field's object has
-abbrev pub field_members : Option Data → ℕ
-field_members None = 2
-field_members (Some d) = 3
-
 -- a field of its parts, if each is there and there is nothing else
 abbrev pub field_of_parts : Bool → Option (List ℕ) → Option Kind → Option Bool → Option Field
 field_of_parts false name kind default = None
@@ -79,7 +75,7 @@ field_of_parts true (Some name) (Some kind) (Some default) =
 
 -- the field that an object is: `name`, `kind` and, if wanted, `default`
 abbrev pub field_in : Data → Option Field
-field_in d = field_of_parts (count_of d == field_members (get (codes "default") d))
+field_in d = field_of_parts (has_only (codes "name" ∷ codes "kind" ∷ codes "default" ∷ []) d)
     (text_at (codes "name") d) (option_and_then kind_named (text_at (codes "kind") d))
     (flag_or_false (get (codes "default") d))
 
@@ -97,10 +93,6 @@ only_member d = None
 abbrev pub if_there : {X : Type 0} → (Data → Option X) → Option Data → Option (Option X)
 if_there f None = Some None
 if_there f (Some d) = option_map Some (f d)
-
-abbrev pub one_if_there : Option Data → ℕ
-one_if_there None = 0
-one_if_there (Some d) = 1
 
 -- a whole number that fits 64 bits
 abbrev pub whole_number : Data → Option ℕ
@@ -123,7 +115,7 @@ top_of_parts (Some by) (Some k) (Some order) = Some (by, k, order)
 -- the top list that an object asks for: `by`, `k` and `order`, and nothing else
 abbrev pub top_in : Data → Option (List ℕ × ℕ × Order)
 top_in d =
-    if count_of d == 3
+    if has_only (codes "by" ∷ codes "k" ∷ codes "order" ∷ []) d
     then top_of_parts (text_at (codes "by") d) (option_and_then whole_number (get (codes "k") d))
     (option_and_then order_named (text_at (codes "order") d))
     else None
@@ -139,7 +131,7 @@ search_of_parts (Some query) (Some groups) (Some top) = Some (record { query = q
 -- the search that an object asks for: `query` and, if wanted, `groups` and `top`, and nothing else
 abbrev pub search_in : Data → Option Search
 search_in d =
-    if count_of d == 1 + one_if_there (get (codes "groups") d) + one_if_there (get (codes "top") d)
+    if has_only (codes "query" ∷ codes "groups" ∷ codes "top" ∷ []) d
     then search_of_parts (text_at (codes "query") d) (if_there as_str (get (codes "groups") d))
     (if_there top_in (get (codes "top") d))
     else None

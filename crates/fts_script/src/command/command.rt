@@ -1,18 +1,20 @@
 // The commands of a script, in their order in JSON.
 ghost use Rattle.std.specs.Prelude.{◌≡◌, ◌++◌, ◌∷◌, [], if◌then◌else◌, ℕ, List, Option, Some, None, IfOk, IfErr};
-ghost use Rattle.std.specs.Prelude.{option_map, OnErr};
+ghost use Rattle.std.specs.List.{list_any};
+ghost use Rattle.std.specs.Prelude.{map, option_map, OnErr};
+ghost use Rattle.std.specs.Str.{bytes_eq};
 ghost use Rattle.serde_json.specs.View.{view};
-ghost use Rattle.fts_script.specs.command.Commands.{count_of, text_at, kind_named, flag_or_false, field_in, fields_in};
+ghost use Rattle.fts_script.specs.command.Commands.{are_named, has_only, text_at, kind_named, flag_or_false, field_in, fields_in};
 ghost use Rattle.fts_script.specs.command.Commands.{only_member, if_there, order_named, whole_number, top_in};
 ghost use Rattle.fts_script.specs.command.Commands.{search_in, delete_in, Find, schema_in};
 ghost use Rattle.fts_script.specs.command.Commands.{command_if, command_named, command_in};
 ghost use Rattle.fts_script.specs.command.Commands.{json_in};
 ghost use Rattle.fts_script.specs.command.CommandViews.{command_value, search_value};
 ghost use Rattle.serde_json.specs.Find.{as_str, as_bool};
-ghost use Rattle.serde_json.specs.View.{items_view};
+ghost use Rattle.serde_json.specs.View.{items_view, members_view};
 
 use fts_model::{Field, Kind, Order, Text};
-use serde_json::Value;
+use serde_json::{Map, Value};
 use std::alloc::{AllocError, Global};
 
 /// What a search asks for.
@@ -41,12 +43,37 @@ pub enum Command<'a> {
     Search(Search<'a>),
 }
 
-fn count_of(json: &Value) -> usize
-    ensures { result ≡ count_of (view json.now) }
+/// Whether a name is one of these.
+fn is_one_of(name: &str, names: &[&str]) -> bool
+    ensures { result ≡ list_any (bytes_eq name.now) (map (λ n. n.now) names.now) }
+{
+    for known in names {
+        if name == *known {
+            return true;
+        }
+    }
+    false
+}
+
+/// Whether each member has one of these names.
+fn are_named(members: &Map<String, Value>, names: &[&str]) -> bool
+    ensures { result ≡ are_named (map (λ n. n.now) names.now) (members_view members.now.entries) }
+{
+    for (name, _) in members {
+        if !is_one_of(name.as_str(), names) {
+            return false;
+        }
+    }
+    true
+}
+
+/// Whether an object has no other members than those of these names. What isn't an object has no member.
+fn has_only(json: &Value, names: &[&str]) -> bool
+    ensures { result ≡ has_only (map (λ n. n.now) names.now) (view json.now) }
 {
     match json.as_object() {
-        None => 0,
-        Some(members) => members.len(),
+        None => true,
+        Some(members) => are_named(members, names),
     }
 }
 
@@ -80,9 +107,7 @@ fn flag(json: Option<&Value>) -> Option<bool>
 fn field_of(alloc: Global, json: &Value) -> Result<Option<Field>, AllocError>
     ensures { IfOk result (λ field. field ≡ field_in (view json.now)) }
 {
-    let default = json.get("default");
-    let members = if default.is_some() { 3 } else { 2 };
-    if count_of(json) != members {
+    if !has_only(json, &["name", "kind", "default"]) {
         return Ok(None);
     }
     let Some(name) = text_at(json, "name") else {
@@ -94,7 +119,7 @@ fn field_of(alloc: Global, json: &Value) -> Result<Option<Field>, AllocError>
     let Some(kind) = kind_named(kind) else {
         return Ok(None);
     };
-    let Some(default) = flag(default) else {
+    let Some(default) = flag(json.get("default")) else {
         return Ok(None);
     };
     let name = Text::new(String::from_str(alloc, name)?);
@@ -163,7 +188,7 @@ fn whole_number(json: &Value) -> Option<u64>
 fn top_of(json: &Value) -> Option<(&str, u64, Order)>
     ensures { option_map (λ top. (top.0.now, top.1, top.2)) result ≡ top_in (view json.entry.now) }
 {
-    if count_of(json) != 3 {
+    if !has_only(json, &["by", "k", "order"]) {
         return None;
     }
     let by = text_at(json, "by")?;
@@ -197,15 +222,12 @@ fn asked_top(json: Option<&Value>) -> Option<Option<(&str, u64, Order)>>
 fn search_of(json: &Value) -> Option<Search<'_>>
     ensures { option_map search_value result ≡ search_in (view json.entry.now) }
 {
-    let groups = json.get("groups");
-    let top = json.get("top");
-    let wanted = 1 + groups.is_some() as usize + top.is_some() as usize;
-    if count_of(json) != wanted {
+    if !has_only(json, &["query", "groups", "top"]) {
         return None;
     }
     let query = text_at(json, "query")?;
-    let groups = groups_of(groups)?;
-    let top = asked_top(top)?;
+    let groups = groups_of(json.get("groups"))?;
+    let top = asked_top(json.get("top"))?;
     Some(Search { query, groups, top })
 }
 

@@ -10,12 +10,12 @@ ghost use Rattle.fts_script.specs.session.Replaces.{after_replace, reply_to_repl
 ghost use Rattle.fts_script.specs.session.KeptLines.{TooLong, after_kept, reply_to_kept};
 ghost use Rattle.fts_script.specs.session.Sessions.{Appends, ChangesAtMost, IsAnswerable};
 
+use crate::session::blank::is_blank;
 use crate::session::commands::{answer_find, answer_whole};
 use crate::session::cut_search::answer_find_cut;
+use crate::session::maintenance::Maintenance;
 use crate::session::replace::answer_replace;
 use crate::session::reply::Reply;
-use crate::session::blank::is_blank;
-use crate::session::maintenance::Maintenance;
 use fts_engine::{Engine, EngineOver, Fork, Options, SubmitTwo};
 use fts_model::Refusal;
 use std::alloc::{AllocError, Global};

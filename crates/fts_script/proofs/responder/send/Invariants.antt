@@ -5,10 +5,10 @@ use Rattle.fts_script.proofs.responder.send.Given as goal
 abbrev pub invariant-loop-at : goal.invariant-loop-at
 invariant-loop-at g l = record {
   within : l.at ≤ length l.bytes;
-  sent : g.W.ScriptOut.taken l.writer ≡ g.W.ScriptOut.taken l.fn.writer ++ take l.at l.bytes;
-  held : GainsTaken (g.W.ScriptOut.taken l.fn.writer) (g.W.ScriptOut.taken l.writer) (g.W.ScriptOut.held l.fn.writer) (g.W.ScriptOut.held l.writer);
-  failed : g.W.ScriptOut.failed l.writer ≡ g.W.ScriptOut.failed l.fn.writer;
-  flushes : g.W.ScriptOut.flushes l.writer ≡ g.W.ScriptOut.flushes l.fn.writer;
+  sent : (g.W.ScriptOut.calls l.writer).taken ≡ (g.W.ScriptOut.calls l.fn.writer).taken ++ take l.at l.bytes;
+  held : GainsTaken (g.W.ScriptOut.calls l.fn.writer).taken (g.W.ScriptOut.calls l.writer).taken (g.W.ScriptOut.calls l.fn.writer).held (g.W.ScriptOut.calls l.writer).held;
+  failed : (g.W.ScriptOut.calls l.writer).failed ≡ (g.W.ScriptOut.calls l.fn.writer).failed;
+  flushes : (g.W.ScriptOut.calls l.writer).flushes ≡ (g.W.ScriptOut.calls l.fn.writer).flushes;
 }
 
 abbrev pub decreases-loop-at : goal.decreases-loop-at

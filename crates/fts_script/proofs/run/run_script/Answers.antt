@@ -10,10 +10,10 @@ use Rattle.fts_script.proofs.run.run_script.Goals as goal
 pub reads-preserved : goal.reads-preserved
 reads-preserved g c = record {
   input = c.reads.invariant.input ++ take c.in-Ok.n c.read.new.buffer;
-  given = append_more c.args.streams.now.given _ _ c.reads.invariant.input (take c.in-Ok.n c.read.new.buffer) c.reads.invariant.given c.in-Ok.ensures.given;
-  left = LosesGiven-read c.read.result c.read.new.buffer _ _ _ _ _ (g.R.ScriptIn.remaining c.read.new.self) c.reads.invariant.left c.read.ensures.given
+  given = append_more (g.R.ScriptIn.calls c.args.reader.now).given _ _ c.reads.invariant.input (take c.in-Ok.n c.read.new.buffer) c.reads.invariant.given c.in-Ok.ensures.given;
+  left = LosesGiven-read c.read.result c.read.new.buffer _ _ _ _ _ (g.R.ScriptIn.calls c.read.new.self).remaining c.reads.invariant.left c.read.ensures.given
       c.read.ensures.left;
-  held = GainsTaken-trans _ _ _ _ _ (g.W.ScriptOut.held c.feed.new.writer) c.reads.invariant.held c.feed.ensures.held;
+  held = GainsTaken-trans _ _ _ _ _ (g.W.ScriptOut.calls c.feed.new.writer).held c.reads.invariant.held c.feed.ensures.held;
   reached = c.in_ok-responder-in-Ok.ensures.ok _ _ c.reads.invariant.reached;
   none_wait = c.in_ok-responder-in-Ok.ensures.none_wait;
   ends = not_counted c.in-Ok.n _ _ _ c.in-Ok.n-test.1 c.in-Ok.ensures.end ∙ c.reads.invariant.ends;
@@ -36,7 +36,7 @@ returns-in-Ok-eq0-clause-ok g c =
     on_ok_weaker c.end.result
     (λ h. record {
       input = c.reads.invariant.input;
-      read = given_none c.args.streams.now.given _ _ c.reads.invariant.input c.read.new.buffer _ c.in-Ok-eq0.field-0-test c.reads.invariant.given
+      read = given_none (g.R.ScriptIn.calls c.args.reader.now).given _ _ c.reads.invariant.input c.read.new.buffer _ c.in-Ok-eq0.field-0-test c.reads.invariant.given
           c.in-Ok-eq0.ensures.given;
       wrote = h _ _ c.reads.invariant.reached;
     })
@@ -45,13 +45,13 @@ returns-in-Ok-eq0-clause-ok g c =
 pub returns-in-Ok-eq0-clause-err : goal.returns-in-Ok-eq0-clause-err
 returns-in-Ok-eq0-clause-err g c =
     let room : 0 < length c.read.new.buffer = omega (arith, c.in_ok-block.ensures) in
-    let told = counted_end (g.R.ScriptIn.ends c.reads.streams-inside.reader) (g.R.ScriptIn.ends c.read.new.self) c.in-Ok-eq0.field-0 (length c.read.new.buffer)
+    let told = counted_end (g.R.ScriptIn.calls c.reads.reader).ends (g.R.ScriptIn.calls c.read.new.self).ends c.in-Ok-eq0.field-0 (length c.read.new.buffer)
     c.in-Ok-eq0.field-0-test room c.in-Ok-eq0.ensures.end in
-    let ended : c.args.streams.now.ends < g.R.ScriptIn.ends c.read.new.self = omega (arith, c.reads.invariant.ends, told) in
+    let ended : (g.R.ScriptIn.calls c.args.reader.now).ends < (g.R.ScriptIn.calls c.read.new.self).ends = omega (arith, c.reads.invariant.ends, told) in
     on_err_weaker c.end.result
     (λ h. record {
       input = c.reads.invariant.input;
-      read = given_none c.args.streams.now.given _ _ c.reads.invariant.input c.read.new.buffer _ c.in-Ok-eq0.field-0-test c.reads.invariant.given
+      read = given_none (g.R.ScriptIn.calls c.args.reader.now).given _ _ c.reads.invariant.input c.read.new.buffer _ c.in-Ok-eq0.field-0-test c.reads.invariant.given
           c.in-Ok-eq0.ensures.given;
       wrote = Wrote-ended _ _ c.reads.invariant.input _ ended (h _ _ c.reads.invariant.reached);
     })
@@ -60,26 +60,26 @@ returns-in-Ok-eq0-clause-err g c =
 pub returns-in-Ok-eq0-clause-memory : goal.returns-in-Ok-eq0-clause-memory
 returns-in-Ok-eq0-clause-memory g c = λ e. record {
   input = c.reads.invariant.input;
-  read = given_none c.args.streams.now.given _ _ c.reads.invariant.input c.read.new.buffer _ c.in-Ok-eq0.field-0-test c.reads.invariant.given
+  read = given_none (g.R.ScriptIn.calls c.args.reader.now).given _ _ c.reads.invariant.input c.read.new.buffer _ c.in-Ok-eq0.field-0-test c.reads.invariant.given
       c.in-Ok-eq0.ensures.given;
-  wrote = Wrote-late _ _ c.reads.invariant.input 0 (length (g.R.ScriptIn.latest c.read.new.self)) (omega arith)
+  wrote = Wrote-late _ _ c.reads.invariant.input 0 (length (g.R.ScriptIn.calls c.read.new.self).latest) (omega arith)
       (c.end.ensures.memory e _ _ c.reads.invariant.reached);
 }
 
 pub returns-then-n-count-clause-err : goal.returns-then-n-count-clause-err
 returns-then-n-count-clause-err g c = record {
   input = c.reads.invariant.input ++ take c.in-Ok.n c.read.new.buffer;
-  read = append_more c.args.streams.now.given _ _ c.reads.invariant.input (take c.in-Ok.n c.read.new.buffer) c.reads.invariant.given c.in-Ok.ensures.given;
+  read = append_more (g.R.ScriptIn.calls c.args.reader.now).given _ _ c.reads.invariant.input (take c.in-Ok.n c.read.new.buffer) c.reads.invariant.given c.in-Ok.ensures.given;
   wrote = Wrote-unless _ _ (c.reads.invariant.input ++ take c.in-Ok.n c.read.new.buffer) _ (Wrote-begins _ _ _ _
       (Wrote-more _ _ _ _ c.reads.invariant.input (take c.in-Ok.n c.read.new.buffer) c.reads.invariant.reached));
 }
 
 pub returns-then-n-count-clause-used_up : goal.returns-then-n-count-clause-used_up
 returns-then-n-count-clause-used_up g c = λ _.
-    let wrote = Wrote-latest AnswersFirst _ _ _ (take c.in-Ok.n c.read.new.buffer) (g.R.ScriptIn.latest c.read.new.self) c.in-Ok.ensures.latest
+    let wrote = Wrote-latest AnswersFirst _ _ _ (take c.in-Ok.n c.read.new.buffer) (g.R.ScriptIn.calls c.read.new.self).latest c.in-Ok.ensures.latest
     (Wrote-more _ _ _ _ c.reads.invariant.input (take c.in-Ok.n c.read.new.buffer) c.reads.invariant.reached) in record {
       input = c.reads.invariant.input ++ take c.in-Ok.n c.read.new.buffer;
-      read = append_more c.args.streams.now.given _ _ c.reads.invariant.input (take c.in-Ok.n c.read.new.buffer) c.reads.invariant.given c.in-Ok.ensures.given;
+      read = append_more (g.R.ScriptIn.calls c.args.reader.now).given _ _ c.reads.invariant.input (take c.in-Ok.n c.read.new.buffer) c.reads.invariant.given c.in-Ok.ensures.given;
       wrote = record {
         bytes = wrote.bytes;
         taken = wrote.taken;
@@ -98,7 +98,7 @@ returns-then-n-count-clause-used_up g c = λ _.
 pub returns-in_err-responder-in-Ok-clause-err : goal.returns-in_err-responder-in-Ok-clause-err
 returns-in_err-responder-in-Ok-clause-err g c = on_err c.from_residual-in_err-responder-in-Ok.result _ (record {
   input = c.reads.invariant.input ++ take c.in-Ok.n c.read.new.buffer;
-  read = append_more c.args.streams.now.given _ _ c.reads.invariant.input (take c.in-Ok.n c.read.new.buffer) c.reads.invariant.given c.in-Ok.ensures.given;
+  read = append_more (g.R.ScriptIn.calls c.args.reader.now).given _ _ c.reads.invariant.input (take c.in-Ok.n c.read.new.buffer) c.reads.invariant.given c.in-Ok.ensures.given;
   wrote = Wrote-unless _ _ (c.reads.invariant.input ++ take c.in-Ok.n c.read.new.buffer) _ (c.in_err-responder-in-Ok.ensures.err _ _ c.reads.invariant.reached);
 })
 
@@ -106,39 +106,39 @@ pub returns-in_err-responder-in-Ok-clause-memory : goal.returns-in_err-responder
 returns-in_err-responder-in-Ok-clause-memory g c = λ e.
     let p = err_from_is_err_and c.from_residual-in_err-responder-in-Ok.result c.from_residual-in_err-responder-in-Ok.ensures.1 in record {
       input = c.reads.invariant.input ++ take c.in-Ok.n c.read.new.buffer;
-      read = append_more c.args.streams.now.given _ _ c.reads.invariant.input (take c.in-Ok.n c.read.new.buffer) c.reads.invariant.given c.in-Ok.ensures.given;
-      wrote = Wrote-latest StopsFirst _ _ _ (take c.in-Ok.n c.read.new.buffer) (g.R.ScriptIn.latest c.read.new.self) c.in-Ok.ensures.latest
+      read = append_more (g.R.ScriptIn.calls c.args.reader.now).given _ _ c.reads.invariant.input (take c.in-Ok.n c.read.new.buffer) c.reads.invariant.given c.in-Ok.ensures.given;
+      wrote = Wrote-latest StopsFirst _ _ _ (take c.in-Ok.n c.read.new.buffer) (g.R.ScriptIn.calls c.read.new.self).latest c.in-Ok.ensures.latest
           (c.in_err-responder-in-Ok.ensures.memory (cc (p.1, p.2, e)) _ _ c.reads.invariant.reached);
     }
 
 pub returns-in-Err-clause-err : goal.returns-in-Err-clause-err
 returns-in-Err-clause-err g c = record {
   input = c.reads.invariant.input;
-  read = c.in-Err.ensures.given ∙ append-nil (g.R.ScriptIn.given c.reads.streams-inside.reader) ∙ c.reads.invariant.given;
+  read = c.in-Err.ensures.given ∙ append-nil (g.R.ScriptIn.calls c.reads.reader).given ∙ c.reads.invariant.given;
   wrote = Wrote-unless _ _ c.reads.invariant.input _ (Wrote-begins _ _ _ 0 (Wrote-same _ _ _ _ _ c.reads.invariant.reached));
 }
 
 pub returns-in-Err-clause-read : goal.returns-in-Err-clause-read
 returns-in-Err-clause-read g c = λ _. record {
   input = c.reads.invariant.input;
-  read = c.in-Err.ensures.given ∙ append-nil (g.R.ScriptIn.given c.reads.streams-inside.reader) ∙ c.reads.invariant.given;
+  read = c.in-Err.ensures.given ∙ append-nil (g.R.ScriptIn.calls c.reads.reader).given ∙ c.reads.invariant.given;
   wrote = Wrote-reached _ _ _ _ _ c.reads.invariant.reached;
 }
 
 pub returns-then-n-count-clause-left : goal.returns-then-n-count-clause-left
 returns-then-n-count-clause-left g c =
-    LosesGiven-read c.read.result c.read.new.buffer _ _ _ _ _ (g.R.ScriptIn.remaining c.read.new.self) c.reads.invariant.left c.read.ensures.given
+    LosesGiven-read c.read.result c.read.new.buffer _ _ _ _ _ (g.R.ScriptIn.calls c.read.new.self).remaining c.reads.invariant.left c.read.ensures.given
     c.read.ensures.left
 
 pub returns-in_err-responder-in-Ok-clause-left : goal.returns-in_err-responder-in-Ok-clause-left
 returns-in_err-responder-in-Ok-clause-left g c =
-    LosesGiven-read c.read.result c.read.new.buffer _ _ _ _ _ (g.R.ScriptIn.remaining c.read.new.self) c.reads.invariant.left c.read.ensures.given
+    LosesGiven-read c.read.result c.read.new.buffer _ _ _ _ _ (g.R.ScriptIn.calls c.read.new.self).remaining c.reads.invariant.left c.read.ensures.given
     c.read.ensures.left
 
 pub returns-in-Ok-eq0-clause-held : goal.returns-in-Ok-eq0-clause-held
 returns-in-Ok-eq0-clause-held g c =
-    GainsTaken-trans _ _ _ _ _ (g.W.ScriptOut.held c.end.new.writer) c.reads.invariant.held c.end.ensures.held
+    GainsTaken-trans _ _ _ _ _ (g.W.ScriptOut.calls c.end.new.writer).held c.reads.invariant.held c.end.ensures.held
 
 pub returns-in_err-responder-in-Ok-clause-held : goal.returns-in_err-responder-in-Ok-clause-held
 returns-in_err-responder-in-Ok-clause-held g c =
-    GainsTaken-trans _ _ _ _ _ (g.W.ScriptOut.held c.feed.new.writer) c.reads.invariant.held c.feed.ensures.held
+    GainsTaken-trans _ _ _ _ _ (g.W.ScriptOut.calls c.feed.new.writer).held c.reads.invariant.held c.feed.ensures.held
