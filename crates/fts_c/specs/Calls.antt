@@ -5,8 +5,6 @@ use Rattle.fts_script.specs.session.Finds.{reply_to_search}
 use Rattle.fts_script.specs.session.Outputs.{SessionValue, after_line, reply_to}
 use Rattle.fts_script.specs.session.Text.{is_blank}
 use Rattle.fts_c.specs.declared.codes.TheConstants.{OK, MEMORY}
-use Rattle.fts_c.specs.declared.state.Call.{Call}
-use Rattle.fts_c.specs.declared.state.Call.TheVariants as calls
 use Rattle.fts_c.specs.declared.state.State.{State}
 use Rattle.fts_c.specs.Codes.{IsCodeOf, IsOfTried}
 
@@ -38,11 +36,6 @@ pub record Searches (old : State) (line : List ℕ) (new : State) (code : ℤ) :
   pub same : new.session ≡ old.session
   pub none : code ≢ OK → string_bytes new.reply ≡ []
   pub not_blank : code ≡ MEMORY → is_blank line ≡ false
-
--- What a call leaves of a line: it was executed, or a search was answered.
-abbrev pub Answers : Call → State → List ℕ → State → ℤ → Type 0
-Answers calls.Execute old line new code = Executes old line new code
-Answers calls.Search old line new code = Searches old line new code
 
 -- a buffer after a copy: the bytes are at its beginning if they fit, otherwise it is as it was
 abbrev pub copied : List ℕ → List ℕ → List ℕ

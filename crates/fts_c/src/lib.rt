@@ -15,10 +15,11 @@ ghost use Rattle.std.specs.Box.Ownership.{box_owns};
 ghost use Rattle.std.specs.contracts.impls.GlobalAllocator.TheImpl.{ghosts};
 ghost use Rattle.fts_c.specs.declared.state.State.{State};
 ghost use Rattle.fts_c.specs.contracts.state.State.{the_row};
+ghost use Rattle.fts_c.specs.Answers.{Answers};
 ghost use Rattle.fts_c.specs.Blocks.{ExecutesLines};
 ghost use Rattle.fts_c.specs.CutSearches.{SearchesFields};
 ghost use Rattle.fts_c.specs.Pairs.{Replaces};
-ghost use Rattle.fts_c.specs.Calls.{copied, Answers, Executes, Opens, Searches};
+ghost use Rattle.fts_c.specs.Calls.{copied, Executes, Opens, Searches};
 ghost use Rattle.fts_c.specs.Held.{held};
 ghost use Rattle.fts_c.specs.Merges.{BeginsMerge, EndsMerge, LimitsMerges, RunsMerge};
 ghost use Rattle.fts_c.specs.Open.{Closes, IfOpen, OpensSearcher, TellsIfOpen};
@@ -27,8 +28,8 @@ ghost use Rattle.fts_c.specs.Syntaxes.{IsSyntaxAt, TellsSyntaxAt};
 ghost use Rattle.fts_script.specs.session.Outputs.{start};
 
 mod codes;
-mod raw_box;
 mod maintenance;
+mod raw_box;
 mod state;
 
 use crate::raw_box::RawBox;
@@ -193,14 +194,14 @@ pub extern "C" fn dilforec_open(slot: &mut Slot, alloc: Global) -> i32
     open(slot, alloc, Session::new(options()))
 }
 
-/// Answers a line, as the call `call` does.
-fn answer(slot: &mut Slot, call: Call, alloc: Global, line: &[u8]) -> i32
-    ensures { IfOpen slot.old.state slot.new.state result (λ old new. Answers call old line.now new result) }
+/// Does what a call asks for with what is open in a place.
+fn answer(slot: &mut Slot, alloc: Global, call: Call<'_>) -> i32
+    ensures { IfOpen slot.old.state slot.new.state result (λ old new. Answers call old new result) }
 {
     match take(slot, alloc) {
         Some(handle) => {
             let mut state = unwrap(handle);
-            let code = state.answer(call, alloc, line);
+            let code = state.answer(call, alloc);
             *slot = Slot::full(wrap(state));
             code
         }
@@ -215,7 +216,7 @@ fn answer(slot: &mut Slot, call: Call, alloc: Global, line: &[u8]) -> i32
 pub extern "C" fn dilforec_execute(slot: &mut Slot, alloc: Global, line: &[u8]) -> i32
     ensures { IfOpen slot.old.state slot.new.state result (λ old new. Executes old line.now new result) }
 {
-    answer(slot, Call::Execute, alloc, line)
+    answer(slot, alloc, Call::Execute(line))
 }
 
 /// Executes the lines of a block, each ended by its LF or by the block's end, up to the first for which
@@ -254,31 +255,7 @@ pub extern "C" fn dilforec_replace(slot: &mut Slot, alloc: Global, delete: &[u8]
     ensures { IfOpen slot.old.state slot.new.state result
         (λ old new. Replaces old delete.now add.now new result) }
 {
-    match take(slot, alloc) {
-        Some(handle) => {
-            let mut state = unwrap(handle);
-            let code = state.replace(alloc, delete, add);
-            *slot = Slot::full(wrap(state));
-            code
-        }
-        None => CLOSED,
-    }
-}
-
-/// Answers a search whose reply shows only some fields of its documents.
-fn search_fields(slot: &mut Slot, alloc: Global, line: &[u8], names: &[u8]) -> i32
-    ensures { IfOpen slot.old.state slot.new.state result
-        (λ old new. SearchesFields old line.now names.now new result) }
-{
-    match take(slot, alloc) {
-        Some(handle) => {
-            let mut state = unwrap(handle);
-            let code = state.search_fields(alloc, line, names);
-            *slot = Slot::full(wrap(state));
-            code
-        }
-        None => CLOSED,
-    }
+    answer(slot, alloc, Call::Replace(delete, add))
 }
 
 /// Answers a search of the last commit, with the documents of its hits cut to the fields that `names` lists: a JSON
@@ -294,7 +271,7 @@ pub extern "C" fn dilforec_execute_fields(
     ensures { IfOpen slot.old.state slot.new.state result
         (λ old new. SearchesFields old line.now names.now new result) }
 {
-    search_fields(slot, alloc, line, names)
+    answer(slot, alloc, Call::SearchFields(line, names))
 }
 
 /// Copies bytes if they fit.
@@ -391,15 +368,7 @@ pub extern "C" fn dilforec_limit_merges(slot: &mut Slot, alloc: Global, limit: u
         (λ old new. LimitsMerges old new result) }
 {
     let limit = if limit == NO_LIMIT { None } else { Some(limit) };
-    match take(slot, alloc) {
-        Some(handle) => {
-            let mut state = unwrap(handle);
-            let code = state.limit_merges(limit);
-            *slot = Slot::full(wrap(state));
-            code
-        }
-        None => CLOSED,
-    }
+    answer(slot, alloc, Call::LimitMerges(limit))
 }
 
 /// Starts a merge of what is due next, in a place of its own, and forgets the one that was started before: 0, 1 if
@@ -432,15 +401,7 @@ pub extern "C" fn dilforec_merge_run(merge: &mut Slot, alloc: Global) -> i32
     ensures { IfOpen merge.old.state merge.new.state result
         (λ old new. RunsMerge old new result) }
 {
-    match take(merge, alloc) {
-        Some(handle) => {
-            let mut state = unwrap(handle);
-            let code = state.run_merge(alloc);
-            *merge = Slot::full(wrap(state));
-            code
-        }
-        None => CLOSED,
-    }
+    answer(merge, alloc, Call::RunMerge)
 }
 
 /// Ends the merge of an index that was started last: what it made takes the place of what it joined, without the
@@ -451,15 +412,7 @@ pub extern "C" fn dilforec_merge_end(index: &mut Slot, alloc: Global) -> i32
     ensures { IfOpen index.old.state index.new.state result
         (λ old new. EndsMerge old new result) }
 {
-    match take(index, alloc) {
-        Some(handle) => {
-            let mut state = unwrap(handle);
-            let code = state.end_merge();
-            *index = Slot::full(wrap(state));
-            code
-        }
-        None => CLOSED,
-    }
+    answer(index, alloc, Call::EndMerge)
 }
 
 /// Drops a merge, and leaves its place closed: 0, or 4 if it was closed before. What it made can still be ended.
@@ -536,7 +489,7 @@ pub extern "C" fn dilforec_searcher_again(
 pub extern "C" fn dilforec_search(searcher: &mut Slot, alloc: Global, line: &[u8]) -> i32
     ensures { IfOpen searcher.old.state searcher.new.state result (λ old new. Searches old line.now new result) }
 {
-    answer(searcher, Call::Search, alloc, line)
+    answer(searcher, alloc, Call::Search(line))
 }
 
 /// Answers a search cut to some fields, as `dilforec_execute_fields` does, over the searcher's commit.
@@ -550,7 +503,7 @@ pub extern "C" fn dilforec_search_fields(
     ensures { IfOpen searcher.old.state searcher.new.state result
         (λ old new. SearchesFields old line.now names.now new result) }
 {
-    search_fields(searcher, alloc, line, names)
+    answer(searcher, alloc, Call::SearchFields(line, names))
 }
 
 /// The reply to the last search, as by `dilforec_reply`.

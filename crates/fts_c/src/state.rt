@@ -1,7 +1,8 @@
 // A session and its last reply, or a merge.
 ghost use Rattle.std.specs.Prelude.{◌≡◌, ◌≢◌, [], None, MatchResult, string_bytes};
 ghost use Rattle.fts_c.specs.Blocks.{ExecutesLines, ExecutesNext};
-ghost use Rattle.fts_c.specs.Calls.{Answers, Executes, Searches};
+ghost use Rattle.fts_c.specs.Answers.{Answers};
+ghost use Rattle.fts_c.specs.Calls.{Executes, Searches};
 ghost use Rattle.fts_c.specs.CutSearches.{SearchesFields};
 ghost use Rattle.fts_c.specs.Codes.{IsFault, IsTried};
 ghost use Rattle.fts_c.specs.Merges.{EndsMerge, LimitsMerges, NotBegun, RunsMerge};
@@ -13,7 +14,7 @@ use crate::maintenance::{BeginMerge, EndMerge, LimitMerges};
 use fts_engine_local::{BegunMerge, LocalEngine, Stats};
 use fts_model::Refusal;
 use fts_script::LONGEST;
-use fts_script::session::{MOST_LINES, Session, Maintenance, first_line, is_blank};
+use fts_script::session::{MOST_LINES, Maintenance, Session, first_line, is_blank};
 use std::alloc::{AllocError, Global};
 
 /// The size of an index that has no schema.
@@ -33,9 +34,21 @@ pub struct State {
 
 /// The two ways to answer a line.
 #[derive(Clone, Copy)]
-pub(crate) enum Call {
-    Execute,
-    Search,
+pub(crate) enum Call<'a> {
+    /// Executes a line.
+    Execute(&'a [u8]),
+    /// Executes a deletion and an addition as one.
+    Replace(&'a [u8], &'a [u8]),
+    /// Answers a search.
+    Search(&'a [u8]),
+    /// Answers a search, cut to the fields that another line lists.
+    SearchFields(&'a [u8], &'a [u8]),
+    /// Limits what commits merge.
+    LimitMerges(Option<u32>),
+    /// Runs the merge that is here.
+    RunMerge,
+    /// Ends the merge that was begun last.
+    EndMerge,
 }
 
 /// The code of a line that was tried.
@@ -257,13 +270,18 @@ impl State {
         }
     }
 
-    /// Answers a line, as the call `call` does.
-    pub(crate) fn answer(&mut self, call: Call, alloc: Global, line: &[u8]) -> i32
-        ensures { Answers call self.old line.now self.new result }
+    /// Does what a call asks for, and returns its code.
+    pub(crate) fn answer(&mut self, call: Call<'_>, alloc: Global) -> i32
+        ensures { Answers call self.old self.new result }
     {
         match call {
-            Call::Execute => self.execute(alloc, line),
-            Call::Search => self.search(alloc, line),
+            Call::Execute(line) => self.execute(alloc, line),
+            Call::Replace(delete, add) => self.replace(alloc, delete, add),
+            Call::Search(line) => self.search(alloc, line),
+            Call::SearchFields(line, names) => self.search_fields(alloc, line, names),
+            Call::LimitMerges(limit) => self.limit_merges(limit),
+            Call::RunMerge => self.run_merge(alloc),
+            Call::EndMerge => self.end_merge(),
         }
     }
 }
