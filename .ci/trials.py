@@ -3,8 +3,13 @@ import gzip
 import os
 import pathlib
 import subprocess
+import sys
 
 ROOT = pathlib.Path(__file__).resolve().parents[1]
+sys.path.append(str(ROOT / "tests"))
+
+from counts import Counts  # noqa: E402
+
 VERSION = (ROOT / "VERSION").read_text(encoding="utf-8").strip()
 
 # Nothing of the caller's own Python, and no network.
@@ -14,37 +19,8 @@ PLAIN |= {
     "http_proxy": "http://127.0.0.1:9", "https_proxy": "http://127.0.0.1:9",
 }
 
-counts = {"passed": 0, "failed": 0, "skipped": 0}
-
-
-def check(name, good, words=""):
-    """Counts a check, and returns whether it passed; words are shown if it didn't."""
-    counts["passed" if good else "failed"] += 1
-    print(f"install: {name}: {'ok' if good else 'FAILED'}", flush=True)
-    if not good:
-        print(words, flush=True)
-    return good
-
-
-def skip(name, why):
-    """Counts what the machine can't try."""
-    counts["skipped"] += 1
-    print(f"install: {name}: skipped, since {why}", flush=True)
-
-
-def attempt(part, *given):
-    """Calls a part of the test; if it raises something, it fails."""
-    try:
-        part(*given)
-    except Exception as error:
-        check(part.__name__, False, f"{type(error).__name__}: {error}")
-
-
-def finish():
-    """Prints the counts, and returns the exit status."""
-    print(f"{counts['skipped']} skipped")
-    print(f"{counts['passed']} passed, {counts['failed']} failed")
-    return 1 if counts["failed"] else 0
+counts = Counts("install")
+check, skip, attempt, finish = counts.check, counts.skip, counts.attempt, counts.end
 
 
 def run(*words, **settings):

@@ -24,23 +24,17 @@ CC = os.environ.get("CC", "cc")
 COUNTS = r"(\d+) passed, (\d+) failed"
 STRICTLY = ["-pedantic", "-Wall", "-Wextra", "-Werror"]
 
-sys.path.insert(0, str(HERE / "python"))
+sys.path[:0] = [str(HERE / "python"), str(HERE.parent / "tests")]
 
 import link  # noqa: E402
+from counts import Counts  # noqa: E402
 
-passed = failed = 0
-
-
-def count(name, good, bad, words=""):
-    global passed, failed
-    passed, failed = passed + good, failed + bad
-    print(f"bindings: {name}: {f'{bad} FAILED' if bad else good}", flush=True)
-    if bad:
-        print(words, flush=True)
+counts = Counts("bindings")
+count = counts.add
 
 
 def skipped(name, what):
-    print(f"bindings: {name}: skipped, since {what} isn't there", flush=True)
+    counts.skip(name, f"{what} isn't there")
 
 
 def run(*words, **settings):
@@ -194,8 +188,7 @@ def main():
         in_rust()
     except (link.NotBuilt, OSError, subprocess.SubprocessError) as error:
         count("the library", 0, 1, error)
-    print(f"{passed} passed, {failed} failed")
-    return 1 if failed else 0
+    return counts.end()
 
 
 if __name__ == "__main__":

@@ -30,7 +30,7 @@ QUOTED = (
     ("fts_rounds/src/round.rt", ("Round::gather",)),
     ("fts_index/src/publications/reader.rt", ("Reader::searcher", "Reader::told")),
     ("fts_index/src/publications/searcher.rt", ("Searcher::commit_stamp", "Searcher::search",)),
-    ("fts_snapshots/src/merges/job.rt", ("MergeJob::run",)),
+    ("fts_snapshots/src/merges/merge_job.rt", ("MergeJob::run",)),
     ("fts_script/src/run.rt", ("run_script",)),
 )
 

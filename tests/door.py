@@ -13,6 +13,8 @@ import re
 import sys
 from collections.abc import Iterator
 
+from counts import Counts
+
 CRATES = pathlib.Path(__file__).resolve().parents[1] / "crates"
 DOOR = "dilforec"
 
@@ -120,13 +122,11 @@ def missing() -> Iterator[str]:
 
 
 def main() -> int:
+    counts = Counts("door", quiet=True)
     faults = [*unnamed(), *missing()]
-    for fault in faults:
-        print(fault)
     names = sum(len(it) for _, it in dependencies())
-    checks = names + len(cited())
-    print(f"{checks - len(faults)} passed, {len(faults)} failed")
-    return 1 if faults else 0
+    counts.add("what crates hand on", names + len(cited()) - len(faults), len(faults), "\n".join(faults))
+    return counts.end()
 
 
 if __name__ == "__main__":

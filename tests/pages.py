@@ -35,6 +35,7 @@ import textwrap
 from typing import Callable, Iterator, NamedTuple
 
 import definitions
+from counts import Counts
 
 ROOT = pathlib.Path(__file__).resolve().parents[1]
 DOCS = ROOT / "docs"
@@ -88,22 +89,8 @@ SCRIPT = re.compile(r'\{"(?:schema|add|delete|delete_all|commit|rollback|merge|s
 FRACTION = re.compile(r"(?<![\w.,-])\d[\d,]*\.\d+(?![\w.])")
 TIMED = re.compile(r"\d (?:ns|µs|ms|(?:nano|micro|milli)seconds?)\b")
 
-passed = failed = skipped = 0
-
-
-def check(name: str, good: bool, words: object = "") -> bool:
-    """Counts a check; one that failed is shown."""
-    global passed, failed
-    passed, failed = passed + good, failed + (not good)
-    if not good:
-        print(f"pages: {name}: FAILED\n{words}".rstrip(), flush=True)
-    return good
-
-
-def skip(name: str, why: str) -> None:
-    global skipped
-    skipped += 1
-    print(f"pages: {name}: skipped, since {why}", flush=True)
+counts = Counts("pages", quiet=True)
+check, skip = counts.check, counts.skip
 
 
 def named(page: pathlib.Path) -> str:
@@ -462,10 +449,7 @@ def main() -> int:
                 test(place)
     else:
         check("commands", False, f"{program()} isn't there: build it first, or name it")
-    if skipped:
-        print(f"{skipped} skipped")
-    print(f"{passed} passed, {failed} failed")
-    return 1 if failed else 0
+    return counts.end()
 
 
 if __name__ == "__main__":

@@ -20,6 +20,7 @@ from typing import Iterable, Iterator
 
 import faults
 from built import PLAIN, PROGRAM, ROOT
+from counts import Counts
 
 MEMORY, READ, WRITE = (3, b"out of memory\n"), (4, b"the input couldn't be read\n"), (4, b"the output couldn't be written\n")
 SCRIPT = (ROOT / "examples/groups.jsonl").read_bytes()
@@ -29,23 +30,14 @@ MOST_OPERATIONS, MOST_MERGED = 1_000_000, 1_048_576
 # What the runs of the limits may take: processor seconds together, and bytes at the peak of each.
 SECONDS, BYTES = 20, 2 * 10**9
 
-passed = failed = skipped = 0
-
-
-def check(name: str, good: bool, words: object = "") -> None:
-    """Counts a check; one that failed is shown."""
-    global passed, failed
-    passed, failed = passed + good, failed + (not good)
-    if not good:
-        print(f"program: {name}: FAILED {words}".rstrip(), flush=True)
+counts = Counts("program", quiet=True)
+check, skip = counts.check, counts.skip
 
 
 def said_of_faults() -> None:
     """A run that stops says why, in one line on standard error, and its status says it too."""
-    global skipped
     if not faults.compiler():
-        skipped += 1
-        print("program: what is said of a fault: skipped, since there is no C compiler", flush=True)
+        skip("what is said of a fault", "there is no C compiler")
         return
     with faults.shim() as shim:
         for name, (status, words), fault in [
@@ -136,10 +128,7 @@ def limits() -> None:
 def main() -> int:
     for test in (said_of_faults, unwritable, of_no_byte, limits):
         test()
-    if skipped:
-        print(f"{skipped} skipped")
-    print(f"{passed} passed, {failed} failed")
-    return 1 if failed else 0
+    return counts.end()
 
 
 if __name__ == "__main__":

@@ -25,6 +25,7 @@ import hostile
 import random_scripts
 import ways
 from built import PLAIN, PROGRAM, ROOT
+from counts import Counts
 
 DAMAGED = int(sys.argv[1]) if len(sys.argv) > 1 else 10_000
 LANES = os.cpu_count() or 1
@@ -190,17 +191,15 @@ def made_slow(_shim):
 
 
 def main():
-    passed = failed = 0
+    counts = Counts("sweeps", quiet=True)
 
     def sweep(name, look, shim=None):
-        nonlocal passed, failed
         begun = time.monotonic()
         try:
-            print(f"sweeps: {name}: {look(shim)} in {time.monotonic() - begun:.0f} s", flush=True)
-            passed += 1
+            counts.say(f"{name}: {look(shim)} in {time.monotonic() - begun:.0f} s")
+            counts.check(name, True)
         except AssertionError as error:
-            print(f"sweeps: {name} FAILED: {error}", flush=True)
-            failed += 1
+            counts.check(name, False, error)
 
     sweep("beginnings, answered as over a list", cut)
     sweep("damaged scripts, answered as over a list", damaged)
@@ -214,9 +213,8 @@ def main():
             sweep("options that change how often memory is asked for", heeded, shim)
             sweep("reads and writes that fail or come short", streams, shim)
     else:
-        print("sweeps: no C compiler, so no growth was refused, and no read or write failed")
-    print(f"{passed} passed, {failed} failed")
-    return 1 if failed else 0
+        counts.skip("growths that are refused, and reads and writes that fail", "there is no C compiler", 5)
+    return counts.end()
 
 
 if __name__ == "__main__":

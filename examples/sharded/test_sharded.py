@@ -20,6 +20,7 @@ ROOT = HERE.parents[1]
 sys.path[:0] = [str(ROOT / "tests")]
 
 import random_scripts  # noqa: E402
+from counts import Counts  # noqa: E402
 
 PROGRAM = str(pathlib.Path(sys.argv[1]).resolve()) if len(sys.argv) > 1 else str(ROOT / "crates/fts/out/fts")
 SHARDED = [sys.executable, str(HERE / "sharded.py")]
@@ -124,16 +125,14 @@ def refusals():
 
 
 def main():
-    passed = failed = 0
+    counts = Counts("sharded", quiet=True)
     for test in (random_answers, worked_answers, whole_documents, batches, documented, refusals):
         try:
             test()
-            passed += 1
+            counts.check(test.__name__, True)
         except AssertionError as error:
-            failed += 1
-            print(f"sharded: {test.__name__} FAILED: {error}")
-    print(f"{passed} passed, {failed} failed")
-    return 1 if failed else 0
+            counts.check(test.__name__, False, error)
+    return counts.end()
 
 
 if __name__ == "__main__":

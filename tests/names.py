@@ -1,0 +1,108 @@
+#!/usr/bin/env python3
+"""Looks at the names of the crates' sources.
+
+    python3 tests/names.py
+
+A type's name has one owner. A file has a public item of its name: a type, or else a function whose name has the file's words. A
+comment doesn't begin with 'The same', 'Of' or a comma, since an editor shows each alone. The last line is 'N passed, M failed'.
+"""
+from __future__ import annotations
+
+import collections
+import pathlib
+import re
+import sys
+
+from counts import Counts
+
+CRATES = pathlib.Path(__file__).resolve().parents[1] / "crates"
+
+# Names of types that two crates have, and why.
+SHARED: dict[str, str] = {}
+
+# Files of several functions or constants of one subject, which no single one names. A crate's root and a function that it hands
+# on can't have the name of a module, so that a file of such a function has another word in its name.
+OF_A_SUBJECT = {
+    "fts_base": {"buffers", "ghosts", "pieces"},
+    "fts_c": {"codes", "maintenance"},
+    "fts_cli": {"parser"},
+    "fts_collect": {"collector", "searches", "walk"},
+    "fts_cursor": {
+        "any", "filter", "hit_tests", "list_union", "phrase", "query_tree", "rows", "scan", "term_lists", "tree/live", "word_marks",
+    },
+    "fts_engine_local": {"local_policy"},
+    "fts_index": {"publications/left_right_rule", "publications/publication_log"},
+    "fts_merge": {"live_strike", "merge_plan", "segment_merge"},
+    "fts_model": {"limits", "operation", "value"},
+    "fts_pack": {"bits/signed", "bits/widths", "column/value_counts", "four_lanes", "prefix_sums"},
+    "fts_parts": {"order", "ranks"},
+    "fts_pool": {"deque", "workers"},
+    "fts_postings": {"bytes", "marks", "posting", "stretch", "window_bits"},
+    "fts_query": {"depth", "error", "parser", "reader"},
+    "fts_scan": {"answers", "matcher", "operations", "terms"},
+    "fts_script": {"session/commands", "session/cut_search", "streams"},
+    "fts_segment": {"binary_search", "dictionary_merge", "segment_join", "term_merge", "token_log"},
+    "fts_snapshots": {"entries/ids"},
+    "fts_text": {"case_fold", "characters", "tokenizer"},
+}
+ITEM = re.compile(r"^(?:pub|pub\(crate\)|pub\(super\)) (?:const )?(fn|struct|enum|trait|type) (\w+)", re.MULTILINE)
+MODULE = re.compile(r"^(?:pub |pub\(crate\) )?mod \w+;", re.MULTILINE)
+OWNED = re.compile(r"^(?:pub |pub\(crate\) |pub\(super\) )?(?:struct|enum|trait|type) (\w+)", re.MULTILINE)
+COMMENT = re.compile(r"^\s*(?:///?|//!|--)\s*(The same|Of|,)\b", re.MULTILINE)
+
+
+def snake(name: str) -> str:
+    return re.sub(r"(?<=[a-z0-9])(?=[A-Z])", "_", name).lower()
+
+
+def sources(pattern: str) -> dict[pathlib.Path, str]:
+    return {path: path.read_text(encoding="utf-8") for path in sorted(CRATES.glob(pattern)) if "out" not in path.relative_to(CRATES).parts}
+
+
+def is_named(stem: str, text: str) -> bool:
+    """Whether a file has a public item of its name: a type, or a function with the file's words."""
+    words = set(stem.split("_"))
+    return any(words <= set(snake(name).split("_")) if kind == "fn" else snake(name) == stem for kind, name in ITEM.findall(text))
+
+
+def files(counts: Counts) -> None:
+    excused = {f"{crate}/{name}" for crate, names in OF_A_SUBJECT.items() for name in names}
+    for path, text in sources("fts*/src/**/*.rt").items():
+        crate, _, *rest = path.relative_to(CRATES).with_suffix("").parts
+        name = f"{crate}/{'/'.join(rest)}"
+        if path.stem in ("lib", "main", "laws") or MODULE.search(text):
+            continue
+        named = is_named(path.stem, text)
+        counts.check(name, named or name in excused, f"{name}.rt has no public item of its name")
+        if named and name in excused:
+            counts.check(name, False, f"{name}.rt is excused, and needn't be")
+        excused.discard(name)
+    for name in sorted(excused):
+        counts.check(name, False, f"{name}.rt is excused, and isn't there")
+
+
+def owners(counts: Counts) -> None:
+    owned = collections.defaultdict(list)
+    for path, text in sources("*/src/**/*.rt").items():
+        for name in OWNED.findall(text):
+            owned[name].append(str(path.relative_to(CRATES)))
+    for name, paths in sorted(owned.items()):
+        counts.check(name, len(paths) == 1 or name in SHARED, f"{name} has several owners: {', '.join(paths)}")
+
+
+def comments(counts: Counts) -> None:
+    for path, text in {**sources("*/src/**/*.rt"), **sources("*/specs/**/*.antt"), **sources("*/proofs/**/*.antt")}.items():
+        begun = COMMENT.search(text)
+        counts.check(str(path.relative_to(CRATES)), begun is None, begun and f"a comment begins {begun[1]!r}")
+
+
+def main() -> int:
+    counts = Counts("names", quiet=True)
+    files(counts)
+    owners(counts)
+    comments(counts)
+    return counts.end()
+
+
+if __name__ == "__main__":
+    sys.exit(main())
