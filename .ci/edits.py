@@ -139,10 +139,13 @@ class Trials:
         self.rt = kit.module("rt")
         self.crate = crate
         self.edits = edits
+        self.untried = {edit.name for edit in edits}
         self.proved = pathlib.Path(room, crate.name)
         self.functions = sorted({edit.function for edit in edits if edit.function})
 
-    def check(self, texts: dict[str, str], functions: list[str], folder: pathlib.Path, jobs: int) -> tuple[int, list[str]]:
+    def check(
+        self, texts: dict[str, str], functions: list[str], folder: pathlib.Path, jobs: int
+    ) -> tuple[int, list[str]]:
         """The status and the lines of a check of these functions, with these texts in place of the crate's own."""
         flags = ["--jobs", str(jobs), *(word for function in functions for word in ("--only", function))]
         ran = self.rt.checked(self.crate, texts, flags, str(folder))
@@ -154,6 +157,8 @@ class Trials:
     def control(self, jobs: int) -> bool:
         """Whether the functions are proved without an edit."""
         self.proved.mkdir()
+        if not self.functions:
+            return True
         status, lines = self.check({}, self.functions, self.proved, jobs)
         if status:
             say(f"{self.crate.name}: without an edit its functions aren't proved (status {status})", *lines[:9])
@@ -172,10 +177,16 @@ class Trials:
             say(f"{edit.name} is refused by {edit.function}: {edit.goal}")
             return True
         except NotRefused as error:
-            say(edit.name + " " + "\n".join(error.args))
+            say(f"{edit.name} {error.args[0]}", *error.args[1:])
+            return False
+        except OSError as error:
+            say(f"{edit.name} isn't tried: {error}")
             return False
         finally:
             shutil.rmtree(folder, ignore_errors=True)
+            self.untried.remove(edit.name)
+            if not self.untried:
+                shutil.rmtree(self.proved, ignore_errors=True)
 
     def refuse(self, edit: Edit, folder: pathlib.Path) -> None:
         """Raises NotRefused unless the function of an edit's row refuses the edit, by the goal of the row."""
@@ -227,7 +238,7 @@ def try_here(edits: list[Edit], just_proved: bool) -> list[bool]:
             trials = Trials(crate, [edit for edit in edits if edit.crate == crate.name], room)
             # The kit names tasks so: what a crate's edits begin with, and its edits, which wait for that.
             first = crate.name, "seed"
-            tasks[first] = [], len(trials.functions), MEMORY, lambda _, jobs, it=trials: it.control(jobs)
+            tasks[first] = [], crate.count(rb"\n"), MEMORY, lambda _, jobs, it=trials: it.control(jobs)
             for edit in trials.edits:
                 call = lambda given, _, it=trials, edit=edit, first=first: it.attempt(edit, given[first])
                 tasks[crate.name, "edits", edit.name] = [first], 1, MEMORY, call
@@ -236,31 +247,39 @@ def try_here(edits: list[Edit], just_proved: bool) -> list[bool]:
     return list(given.values())
 
 
+def compare_all(edits: list[Edit], file: str) -> list[bool]:
+    """Whether `rt ci`, which printed what is in a file, said of each edit what its row says."""
+    said = dict(SAID.findall(pathlib.Path(file).read_text(encoding="utf-8", errors="replace")))
+    results = []
+    for edit in edits:
+        try:
+            compare(edit, said)
+            results.append(True)
+        except NotRefused as error:
+            say(f"{edit.name} {error}")
+            results.append(False)
+    return results
+
+
 def main() -> int:
     """Tries the edits that the command line names, and returns its status."""
     parser = argparse.ArgumentParser(description="Tries wrong bodies, which contracts must refuse.")
     parser.add_argument("--said", metavar="FILE", help="what `rt ci` printed, which tried the edits of must-fail/")
-    parser.add_argument("crates", metavar="CRATE", nargs="*", help="a crate whose edits are tried; all, if none is named")
+    parser.add_argument("crates", metavar="CRATE", nargs="*", help="a crate whose edits are tried; without any, all")
     words = parser.parse_args()
 
     of_gate = edits_in(CRATES.glob("*/must-fail/*.edit"), -3)
     ours = edits_in((HERE / "edits").glob("*/*.edit"), -2)
-    results = []
-    for name in sorted(rows().keys() - {edit.name for edit in of_gate + ours}):
+    lost = sorted(rows().keys() - {edit.name for edit in of_gate + ours})
+    for name in lost:
         say(f"{name} has a row, and there is no such edit")
-        results.append(False)
+    results = [False for _ in lost]
+    if words.crates:
+        of_gate, ours = ([edit for edit in edits if edit.crate in words.crates] for edits in (of_gate, ours))
     if words.said:
-        said = dict(SAID.findall(pathlib.Path(words.said).read_text(encoding="utf-8", errors="replace")))
-        for edit in of_gate:
-            try:
-                compare(edit, said)
-                results.append(True)
-            except NotRefused as error:
-                say(f"{edit.name} {error}")
-                results.append(False)
+        results += compare_all(of_gate, words.said)
     else:
         ours = sorted(of_gate + ours, key=lambda edit: edit.name)
-    ours = [edit for edit in ours if not words.crates or edit.crate in words.crates]
     results += try_here(ours, just_proved=bool(words.said))
     used = resource.getrusage(resource.RUSAGE_CHILDREN)
     say(f"{len(ours)} tried here, in {(used.ru_utime + used.ru_stime) / 60:.1f} minutes of a processor")

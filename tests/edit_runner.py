@@ -1,7 +1,7 @@
 #!/usr/bin/env python3
 """Tries the runner of the edits, `.ci/edits.py`, on a repository of one small crate.
 
-    python3 tests/edits.py
+    python3 tests/edit_runner.py
 
 One edit is refused as its row says. Each other one must count as failed, for its own reason: it changes nothing, it
 can't be parsed, it brings a function without a contract, another goal or another function refuses it, or it has no row.
@@ -46,15 +46,15 @@ EDITS = {
     "changes-nothing": (NEXT, "    1 + n", "next: returns", "isn't refused"),
     "cannot-be-parsed": (NEXT, "    n +", "next: returns", "is bad"),
     "stands-nowhere": ("    n + 2", "    n", "next: returns", "is bad"),
-    "without-contract": (SECOND, "    fn same(n: u8) -> u8 { n } same(next(next(n)))", "second: returns-clause-least", "is bad"),
-    "by-another-goal": (SECOND, "    next(n)", "second: returns-clause-most", "is refused by second: returns-clause-least"),
+    "without-contract": (SECOND, "    fn same(n: u8) -> u8 { n } same(n)", "second: returns-clause-least", "is bad"),
+    "by-another-goal": (SECOND, "    next(n)", "second: returns-clause-most", "is refused by second: returns-clause-"),
     "by-another-function": (NEXT, "    n + 2", "second: returns-clause-most", "is refused by "),
     "without-row": (NEXT, "    n", None, "isn't tried"),
 }
 GOOD = "gives-the-number"
 
 
-def repository(top, source):
+def repository(top: pathlib.Path, source: str) -> None:
     """Writes a repository whose one crate has this source, with the runner and the edits."""
     (top / ".git").mkdir()
     (top / "crates.txt").write_text("small:\n", encoding="utf-8")
@@ -68,10 +68,11 @@ def repository(top, source):
     for name, (old, new, row, _) in EDITS.items():
         (folder / f"{name}.edit").write_text(f"file: src/lib.rt\nold: {old}\nnew: {new}\n", encoding="utf-8")
         rows += [f"small/{name} {row}"] if row else []
-    (top / ".ci/edits.txt").write_text("\n".join(["# The rows.", "", *rows, "small/gone next: returns", ""]), encoding="utf-8")
+    table = ["# The rows.", "", *rows, "small/gone next: returns", ""]
+    (top / ".ci/edits.txt").write_text("\n".join(table), encoding="utf-8")
 
 
-def said(source):
+def said(source: str) -> tuple[str, int]:
     """What the runner says of such a repository, and its status."""
     with tempfile.TemporaryDirectory() as name:
         top = pathlib.Path(name)
@@ -80,10 +81,10 @@ def said(source):
         return done.stdout + done.stderr, done.returncode
 
 
-def main():
-    results = []
+def main() -> int:
+    results: list[bool] = []
 
-    def check(name, text, wanted):
+    def check(name: str, text: str, wanted: str) -> None:
         results.append(wanted in text)
         print(f"edits: {name}: {'ok' if wanted in text else f'FAILED: no {wanted!r} in'}")
         if wanted not in text:
