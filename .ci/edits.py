@@ -45,7 +45,7 @@ PLACED = re.compile(r"(?:note: )?\S+:\d+:\d+:")
 LOST_NAME = re.compile(r"(?:note: )?(?:\./)?proofs/.*(?:has no field|is not in scope|has no `|was not admitted)")
 
 # The most memory that a check of one function was seen to take, in bytes.
-MEMORY = 2_000_000_000
+MEMORY = 2_400_000_000
 
 
 @dataclasses.dataclass(frozen=True)
