@@ -1,72 +1,290 @@
 #!/usr/bin/env python3
-"""Compares what the gate told of each edit of must-fail/ with edits.txt: the function and its goal that refuse it.
+"""Tries the edits. Each makes one body wrong, and the function that edits.txt names for it must refuse it.
 
-    rt ci | tee said
-    python3 .ci/edits.py said [CRATE..]
-    python3 .ci/edits.py said --write
+    python3 .ci/edits.py [CRATE..]
+    rt ci | tee SAID; python3 .ci/edits.py --said SAID
 
-A goal that refuses an edit is false under it, so a row says which clause turns the wrong body away. Of crates that are
-named nothing but their edits is compared. With --write the rows of what was told are written; read them before they are
-committed. An edit without a row is skipped, and a row without an edit too if the edit is one of more_edits.py. The last
-line is 'N passed, M failed'.
+An edit of .ci/edits/CRATE/ is applied to a copy of its crate. The prover then checks one function, with what that
+calls, over the libraries below. The edit is refused if this function isn't proved and the first error is the goal of
+its row, which is false under the edit. Before that a control proves the functions that the crate's rows name, without
+an edit; the edits are tried over what the control leaves. Crates go side by side, as many as the kit's lanes hold.
+
+`rt ci` tries the edits of must-fail/ itself, in crates that it proves in less than a minute. With --said, what it
+printed of them is compared with their rows, and the others are tried over the libraries that it has just built.
+Without --said, all edits of these crates are tried here, over libraries that are proved first if they have changed.
+
+An edit is bad if it can't be applied, if the prover can't read it, or if it brings a function without a contract. A
+caller knows nothing of such a function, so the right result would be refused as well. The last line is
+'N passed, M failed'.
 """
+from __future__ import annotations
+
+import argparse
+import dataclasses
 import pathlib
 import re
+import resource
+import shutil
+import signal
 import sys
+import tempfile
+from collections.abc import Callable, Iterable
+from typing import Any
+
+import kit
 
 HERE = pathlib.Path(__file__).resolve().parent
-CRATES = HERE.parent / "crates"
+CRATES = kit.ROOT / "crates"
 TABLE = HERE / "edits.txt"
-MORE = HERE / "edits"
-TOLD = re.compile(r"must-fail ((\w+)/[\w.-]+)\.edit: refused, as it must be(?:: (?:note: )?)?(.*)")
+
+# What `rt ci` prints of an edit that is refused.
+SAID = re.compile(r"must-fail (\w+/[\w.-]+)\.edit: refused, as it must be(?:: (?:note: )?)?(.*)")
+
+# A line of a check about a place, and one about a name that a proof file cites and the edit took away.
+PLACED = re.compile(r"(?:note: )?\S+:\d+:\d+:")
+LOST_NAME = re.compile(r"(?:note: )?(?:\./)?proofs/.*(?:has no field|is not in scope|has no `|was not admitted)")
+
+# The most memory that a check of one function was seen to take, in bytes.
+MEMORY = 2_400_000_000
 
 
-def refused_by(crate, told):
-    """The function and the goal that an error or a note names."""
-    if told.startswith(" (only"):
-        return "names or limits alone"
-    goal = re.search(r"error: `([^`]+)|\(`([^`]+)", told)
-    proof = re.match(r"(?:\./)?proofs/(?:\S+/)?([^/\s]+)/\w+\.antt:", told)
-    source = re.match(r"(src/\S+\.rt):(\d+):", told)
+@dataclasses.dataclass(frozen=True)
+class Edit:
+    """A wrong body: its name as in the table, its file, and the function and the goal of its row."""
+
+    name: str
+    path: pathlib.Path
+    function: str = ""
+    goal: str = ""
+
+    @property
+    def crate(self) -> str:
+        """The crate that the edit changes."""
+        return self.name.split("/")[0]
+
+
+class NotRefused(Exception):
+    """Why an edit doesn't count as refused, and maybe lines that show it."""
+
+
+def rows() -> dict[str, tuple[str, str]]:
+    """The function and the goal of each row of the table, by the name of its edit."""
+    _, _, table = TABLE.read_text(encoding="utf-8").partition("\n\n")
+    return {name: (function, goal) for name, function, goal in re.findall(r"^(\S+) (\S+): (\S+)$", table, re.M)}
+
+
+def edits_in(paths: Iterable[pathlib.Path], crate_at: int) -> list[Edit]:
+    """The edits of these files, each with its row; the crate is this part of a path."""
+    table, named = rows(), {f"{path.parts[crate_at]}/{path.stem}": path for path in paths}
+    return [Edit(name, path, *table.get(name, ())) for name, path in sorted(named.items())]
+
+
+def refused_by(crate: str, line: str) -> tuple[str, str]:
+    """The function, without its module, and the goal that a line of a check names."""
+    goal = re.search(r"error: `([^`]+)|\(`([^`]+)", line)
+    proof = re.match(r"(?:\./)?proofs/(?:\S+/)?([^/\s]+)/\w+\.antt:", line)
+    source = re.match(r"(?:\./)?(src/\S+\.rt):(\d+):", line)
     function = proof[1] if proof else "?"
     if source:
         # The line is the function's first, maybe an attribute, or one of its body.
-        lines, number = (CRATES / crate / source[1]).read_text().split("\n"), int(source[2]) - 1
-        while lines[number].lstrip().startswith("#["):
+        text, number = (CRATES / crate / source[1]).read_text(encoding="utf-8").split("\n"), int(source[2]) - 1
+        while text[number].lstrip().startswith("#["):
             number += 1
-        function = (re.findall(r"\bfn (\w+)", "\n".join(lines[: number + 1])) or ["?"])[-1]
-    return f"{function}: {goal[1] or goal[2] if goal else '?'}"
+        function = (re.findall(r"\bfn (\w+)", "\n".join(text[: number + 1])) or ["?"])[-1]
+    return function, (goal[1] or goal[2]) if goal else "?"
 
 
-def edits_in(folder, pattern, crate_at):
-    """The edits of a folder, as the table names them."""
-    return {f"{path.parts[crate_at]}/{path.stem}" for path in folder.glob(pattern)}
+def compare(edit: Edit, said: dict[str, str]) -> None:
+    """Raises NotRefused unless `rt ci` said of an edit what its row says."""
+    if edit.name not in said:
+        raise NotRefused("isn't refused, as far as rt ci says")
+    function, goal = refused_by(edit.crate, said[edit.name])
+    if (function, goal) != (edit.function.split("::")[-1], edit.goal):
+        raise NotRefused(f"is refused by {function}: {goal}, and its row says {edit.function}: {edit.goal}")
 
 
-def main():
-    tried, kept = edits_in(CRATES, "*/must-fail/*.edit", -3), edits_in(MORE, "*/*.edit", -2)
-    crates = [word for word in sys.argv[2:] if word != "--write"]
-    told = {name: refused_by(crate, text)
-            for name, crate, text in TOLD.findall(pathlib.Path(sys.argv[1]).read_text(errors="replace"))}
-    head, *rows = TABLE.read_text().split("\n\n")
-    wanted = dict(re.findall(r"(\S+) (.+)", "\n".join(rows)))
-    if "--write" in sys.argv:
-        wanted.update(told)
-        lines = [f"{name} {wanted[name]}" for name in sorted((tried | kept) & wanted.keys())]
-        TABLE.write_text(f"{head}\n\n" + "\n".join(lines) + "\n")
-    told, wanted = ({name: goal for name, goal in all.items() if not crates or name.split("/")[0] in crates}
-                    for all in (told, wanted))
-    wanted = {name: goal for name, goal in wanted.items() if name in tried or name not in kept}
-    without = told.keys() - wanted.keys()
-    wrong = {name for name in wanted if told.get(name) != wanted[name]}
-    for name in sorted(wrong | without):
-        print(f"{name}: refused by {told.get(name, 'nothing that was told')}, "
-              f"and .ci/edits.txt says {wanted.get(name, 'nothing')}")
-    print(f"edits: {len(told)} refused, {len(wanted) - len(wrong)} of them as .ci/edits.txt says")
-    if without:
-        print(f"{len(without)} skipped")
-    print(f"{len(wanted) - len(wrong)} passed, {len(wrong)} failed")
-    return 1 if wrong else 0
+def without_contract(text: str) -> list[str]:
+    """The functions that an edit brings without an `ensures`."""
+    lines = text.splitlines()
+    known = {name for line in lines if line.startswith("old:") for name in re.findall(r"\bfn (\w+)", line)}
+    brought = [part for line in lines if line.startswith("new:") for part in re.split(r"\bfn (?=\w)", line)[1:]]
+    names = [re.findall(r"^\w+", part)[0] for part in brought if "ensures" not in part]
+    return [name for name in names if name not in known]
+
+
+def judge(edit: Edit, status: int, lines: list[str], is_unread: Callable[[str], bool]) -> None:
+    """Raises NotRefused unless a check of an edit's function says what the edit's row says."""
+    if status == 0:
+        raise NotRefused(f"isn't refused: {edit.function} is proved with it")
+    if status != 1 or not lines[-1].startswith("only="):
+        raise NotRefused(f"is bad, since it doesn't reach the prover (status {status})", *lines[:6])
+    unread = [line for line in lines if is_unread(line)]
+    if unread:
+        raise NotRefused("is bad, since the prover can't read it", *unread[:3])
+    failed = re.findall(r"^fn (\S+): (?:not proved|no proof)\b", "\n".join(lines), re.M)
+    if not any(name.endswith(f"::{edit.function}") for name in failed):
+        raise NotRefused(f"is refused by {', '.join(failed) or 'no function'}, and its row says {edit.function}")
+    placed = [line for line in lines if PLACED.match(line)]
+    errors = [line for line in placed if ": error" in line or line.startswith("note: ")] or placed
+    first = next((line for line in errors if not LOST_NAME.match(line)), "")
+    _, goal = refused_by(edit.crate, first.removeprefix("note: "))
+    if goal != edit.goal:
+        raise NotRefused(f"is refused by {edit.function}: {goal}, and its row says {edit.goal}", first)
+
+
+class Trials:
+    """The edits of one crate, which are tried over what its control leaves in a folder."""
+
+    def __init__(self, crate: Any, edits: list[Edit], room: str) -> None:
+        self.rt = kit.module("rt")
+        self.crate = crate
+        self.edits = edits
+        self.untried = {edit.name for edit in edits}
+        self.proved = pathlib.Path(room, crate.name)
+        self.functions = sorted({edit.function for edit in edits if edit.function})
+
+    def check(
+        self, texts: dict[str, str], functions: list[str], folder: pathlib.Path, jobs: int
+    ) -> tuple[int, list[str]]:
+        """The status and the lines of a check of these functions, with these texts in place of the crate's own."""
+        flags = ["--jobs", str(jobs), *(word for function in functions for word in ("--only", function))]
+        ran = self.rt.checked(self.crate, texts, flags, str(folder))
+        if ran.returncode == -signal.SIGKILL:
+            # Most likely the machine ran out of memory.
+            ran = self.rt.checked(self.crate, texts, flags, str(folder))
+        return ran.returncode, ran.stdout.splitlines()
+
+    def control(self, jobs: int) -> bool:
+        """Whether the functions are proved without an edit."""
+        self.proved.mkdir()
+        if not self.functions:
+            return True
+        status, lines = self.check({}, self.functions, self.proved, jobs)
+        if status:
+            say(f"{self.crate.name}: without an edit its functions aren't proved (status {status})", *lines[:9])
+        else:
+            say(f"{self.crate.name}: its functions are proved without an edit")
+        return status == 0
+
+    def attempt(self, edit: Edit, is_sound: bool) -> bool:
+        """Whether an edit is refused as its row says."""
+        folder = self.proved.with_name(edit.name.replace("/", "."))
+        try:
+            if not is_sound:
+                raise NotRefused("isn't tried, since its crate's functions aren't proved without it")
+            self.rt.linked(self.proved, folder)
+            self.refuse(edit, folder)
+            say(f"{edit.name} is refused by {edit.function}: {edit.goal}")
+            return True
+        except NotRefused as error:
+            say(f"{edit.name} {error.args[0]}", *error.args[1:])
+            return False
+        except OSError as error:
+            say(f"{edit.name} isn't tried: {error}")
+            return False
+        finally:
+            shutil.rmtree(folder, ignore_errors=True)
+            self.untried.remove(edit.name)
+            if not self.untried:
+                shutil.rmtree(self.proved, ignore_errors=True)
+
+    def refuse(self, edit: Edit, folder: pathlib.Path) -> None:
+        """Raises NotRefused unless the function of an edit's row refuses the edit, by the goal of the row."""
+        texts, why = self.rt.read_edit(str(edit.path), self.crate.folder)
+        if why:
+            raise NotRefused(f"is bad: {why}")
+        brought = without_contract(edit.path.read_text(encoding="utf-8"))
+        if brought:
+            raise NotRefused(f"is bad, since it brings functions without ensures: {', '.join(brought)}")
+        if not edit.function:
+            raise NotRefused("isn't tried, since it has no row")
+        status, lines = self.check(texts, [edit.function], folder, 1)
+        judge(edit, status, lines, lambda line: bool(self.rt.unread(line, texts)))
+
+
+def say(*lines: str) -> None:
+    """Prints what came of an edit or a control; lines after the first show it."""
+    print(f"edits: {lines[0]}", *lines[1:], sep="\n    ", flush=True)
+
+
+def build_below(crate: Any, just_proved: bool) -> None:
+    """Proves and builds the libraries below a crate, except those that are built.
+
+    The kit marks a library with a sum of its sources. `rt ci` leaves those that it has just built without this mark.
+
+    Raises SystemExit if one isn't proved.
+    """
+    for library in crate.below():
+        made = pathlib.Path(library.rlib)
+        if just_proved and made.is_dir() and not made.with_name("stamp").exists():
+            continue
+        library.out = sys.stderr
+        if library.build_rlib(["--jobs", "1"], anew=False):
+            sys.exit(f"edits: {library.name}, which {crate.name} stands on, isn't proved")
+
+
+def try_here(edits: list[Edit], just_proved: bool) -> list[bool]:
+    """Whether each edit is refused as its row says, and each crate's functions are proved without an edit."""
+    rt = kit.module("rt")
+    all_crates = kit.crates(rt.rtlib)
+    # Its first call sets a signal's handler, which only the main thread may.
+    rt.rtlib.guarded()
+    crates = [all_crates[name] for name in dict.fromkeys(edit.crate for edit in edits)]
+    held = rt.rtlib.lock(list({it.name: it for crate in crates for it in (*crate.below(), crate)}.values()))
+    tasks: dict[tuple[str, ...], Any] = {}
+    with tempfile.TemporaryDirectory(prefix="edits-") as room:
+        for crate in crates:
+            build_below(crate, just_proved)
+            trials = Trials(crate, [edit for edit in edits if edit.crate == crate.name], room)
+            # The kit names tasks so: what a crate's edits begin with, and its edits, which wait for that.
+            first = crate.name, "seed"
+            tasks[first] = [], crate.count(rb"\n"), MEMORY, lambda _, jobs, it=trials: it.control(jobs)
+            for edit in trials.edits:
+                call = lambda given, _, it=trials, edit=edit, first=first: it.attempt(edit, given[first])
+                tasks[crate.name, "edits", edit.name] = [first], 1, MEMORY, call
+        given = rt.in_lanes(tasks)
+    del held
+    return list(given.values())
+
+
+def compare_all(edits: list[Edit], file: str) -> list[bool]:
+    """Whether `rt ci`, which printed what is in a file, said of each edit what its row says."""
+    said = dict(SAID.findall(pathlib.Path(file).read_text(encoding="utf-8", errors="replace")))
+    results = []
+    for edit in edits:
+        try:
+            compare(edit, said)
+            results.append(True)
+        except NotRefused as error:
+            say(f"{edit.name} {error}")
+            results.append(False)
+    return results
+
+
+def main() -> int:
+    """Tries the edits that the command line names, and returns its status."""
+    parser = argparse.ArgumentParser(description="Tries wrong bodies, which contracts must refuse.")
+    parser.add_argument("--said", metavar="FILE", help="what `rt ci` printed, which tried the edits of must-fail/")
+    parser.add_argument("crates", metavar="CRATE", nargs="*", help="a crate whose edits are tried; without any, all")
+    words = parser.parse_args()
+
+    of_gate = edits_in(CRATES.glob("*/must-fail/*.edit"), -3)
+    ours = edits_in((HERE / "edits").glob("*/*.edit"), -2)
+    lost = sorted(rows().keys() - {edit.name for edit in of_gate + ours})
+    for name in lost:
+        say(f"{name} has a row, and there is no such edit")
+    results = [False for _ in lost]
+    if words.crates:
+        of_gate, ours = ([edit for edit in edits if edit.crate in words.crates] for edits in (of_gate, ours))
+    if words.said:
+        results += compare_all(of_gate, words.said)
+    else:
+        ours = sorted(of_gate + ours, key=lambda edit: edit.name)
+    results += try_here(ours, just_proved=bool(words.said))
+    used = resource.getrusage(resource.RUSAGE_CHILDREN)
+    say(f"{len(ours)} tried here, in {(used.ru_utime + used.ru_stime) / 60:.1f} minutes of a processor")
+    print(f"{sum(results)} passed, {len(results) - sum(results)} failed")
+    return 0 if all(results) else 1
 
 
 if __name__ == "__main__":
