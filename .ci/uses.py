@@ -263,15 +263,12 @@ def run_examples(python, name, folder, variables):
 def serves(python, name, variables):
     """The service of an installed package takes a document, finds it, and stops at SIGTERM."""
     with tempfile.TemporaryDirectory() as folder:
-        # It is Python alone, so Debian's does for each Python.
-        if not service.DEBIAN.is_dir():
-            service.install("python3-waitress")
-        if service.DEBIAN.is_dir():
-            os.symlink(service.DEBIAN, f"{folder}/waitress")
-        paths = os.pathsep.join(filter(None, [variables.get("PYTHONPATH"), folder]))
+        modules = pathlib.Path(folder, "modules")
+        modules.mkdir()
+        if not service.serves(str(python), str(modules)):
+            return skip(f"{name}: the service", "uvicorn or httptools isn't there for it")
+        paths = os.pathsep.join(filter(None, [variables.get("PYTHONPATH"), str(modules)]))
         variables = {**variables, "PYTHONPATH": paths}
-        if run(python, "-c", "import waitress", cwd=folder, env=variables).returncode:
-            return skip(f"{name}: the service", "waitress isn't there")
         pathlib.Path(folder, "schema.json").write_text('[{"name":"title","kind":"text","default":true}]')
         words = [python, "-m", "dilforec", "serve", "--schema", "schema.json", "--journal", "journal",
                  "--listen", "127.0.0.1:0"]

@@ -24,6 +24,21 @@ logging.getLogger("dilforec.service").addHandler(logging.NullHandler())
 logging.getLogger("dilforec.service").propagate = False
 HERE = pathlib.Path(__file__).resolve().parent
 
+# What a service has that is tried over HTTP.
+SCHEMA = [
+    {"name": "title", "kind": "text", "default": True}, {"name": "day", "kind": "keyword"},
+    {"name": "year", "kind": "u64"},
+]
+
+# The command over a disk whose syncs take half a second.
+SLOWLY = """
+import sys, time
+from dilforec.service import _command, _disk
+sync = _disk._sync
+_disk._sync = lambda fd: (time.sleep(0.5), sync(fd))
+sys.exit(_command.main(sys.argv[1:]))
+"""
+
 
 class Failing(Disk):
     """A disk whose calls of a name fail, as many as `fails` says of it, after as many as `after` says."""
@@ -104,10 +119,10 @@ def child(code, *words, **more):
     return subprocess.Popen(command, stdout=subprocess.PIPE, env=environment, **more)
 
 
-def need_waitress():
-    """Skips a test that serves, without waitress."""
-    if importlib.util.find_spec("waitress") is None:
-        raise unittest.SkipTest("waitress isn't there")
+def need_uvicorn():
+    """Skips a test that serves, without uvicorn."""
+    if any(importlib.util.find_spec(name) is None for name in ("uvicorn", "httptools")):
+        raise unittest.SkipTest("uvicorn or httptools isn't there")
 
 
 class Server:
@@ -163,3 +178,25 @@ class Server:
             return response.status, json.loads(told) if is_json and told else told.decode()
         finally:
             connection.close()
+
+
+class Served(Stored):
+    def setUp(self):
+        need_uvicorn()
+        super().setUp()
+        self.schema = self.folder / "schema.json"
+        self.schema.write_text(json.dumps(SCHEMA))
+
+    def serve(self, *words, journal=None, slow_syncs=False, **more):
+        if slow_syncs:
+            more["program"] = ("-c", SLOWLY)
+        server = Server("--schema", self.schema, "--journal", journal or self.journal, *words, **more)
+        self.addCleanup(server.__exit__)
+        return server
+
+    def refused(self, *words, **more):
+        """What the command says if it can't begin."""
+        command = [sys.executable, "-m", "dilforec", *map(str, words)]
+        done = subprocess.run(command, capture_output=True, text=True, timeout=60, **more)
+        self.assertEqual(done.returncode, 2, done.stderr)
+        return done.stderr

@@ -19,45 +19,9 @@ from unittest import mock
 
 import dilforec
 from dilforec.service import Store
-from service_tools import Server, Stored, need_waitress
+from service_tools import SCHEMA, Served, Server
 
 GUIDE = pathlib.Path(__file__).resolve().parents[3] / "docs/SERVICE.md"
-SCHEMA = [
-    {"name": "title", "kind": "text", "default": True}, {"name": "day", "kind": "keyword"},
-    {"name": "year", "kind": "u64"},
-]
-
-
-# The command over a disk whose syncs take half a second.
-SLOWLY = """
-import sys, time
-from dilforec.service import _disk, _serve
-sync = _disk._sync
-_disk._sync = lambda fd: (time.sleep(0.5), sync(fd))
-sys.exit(_serve.main(sys.argv[1:]))
-"""
-
-
-class Served(Stored):
-    def setUp(self):
-        need_waitress()
-        super().setUp()
-        self.schema = self.folder / "schema.json"
-        self.schema.write_text(json.dumps(SCHEMA))
-
-    def serve(self, *words, journal=None, **more):
-        server = Server("--schema", self.schema, "--journal", journal or self.journal, *words, **more)
-        self.addCleanup(server.__exit__)
-        return server
-
-    def refused(self, *words, **more):
-        """What the command says where it can't begin."""
-        command = [sys.executable, "-m", "dilforec", *map(str, words)]
-        done = subprocess.run(command, capture_output=True, text=True, timeout=60, **more)
-        self.assertEqual(done.returncode, 2, done.stderr)
-        return done.stderr
-
-
 class Answers(Served):
     def test_calls(self):
         """Each call, as docs/SERVICE.md has it."""
@@ -146,7 +110,7 @@ class Answers(Served):
             ("GET", "/search?q=" + "a" * 70_000, None, 414, "TooLong", None, {}),
             ("GET", "/nowhere", None, 404, "NotFound", None, {}),
             ("POST", "/search", b"{}", 405, "MethodNotAllowed", None, {}),
-            ("BREW", "/documents", b"{}", 405, "MethodNotAllowed", None, {}),
+            ("BREW", "/documents", b"{}", 501, "NotImplemented", None, {}),
         ]:
             with self.subTest(method=method, path=path[:40], name=name):
                 got, told = server.ask(method, path, body, **headers)
@@ -312,7 +276,7 @@ class Connections(Served):
 
     def test_end_in_progress(self):
         """What is on its way to the disk when it ends is answered."""
-        server = self.serve(program=("-c", SLOWLY))
+        server = self.serve(slow_syncs=True)
         sock, before = self.opened(server), self.journal.stat().st_size
         sock.sendall(b"".join(self.request(server, "the last")))
         while self.journal.stat().st_size == before:
@@ -322,7 +286,7 @@ class Connections(Served):
 
     def test_together(self):
         """Changes that wait at the same time share a sync, and each is answered by itself."""
-        server = self.serve(program=("-c", SLOWLY))
+        server = self.serve(slow_syncs=True)
         self.assertEqual(server.ask("POST", "/documents", [{"title": "a"}, {"title": "b"}])[0], 201)
         asked = [
             ("POST", "/documents", {"title": "c"}, 201, None), ("POST", "/documents", b"{", 400, "BadJson"),
@@ -384,11 +348,11 @@ class Starts(Served):
         self.assertRegex(self.refused("serve", *schema, *journal), "line 4, byte [0-9]+: WrongKind")
         self.assertEqual(self.journal.read_bytes(), before)
 
-    def test_without_waitress(self):
-        (self.folder / "waitress.py").write_text("raise ImportError\n")
+    def test_without_uvicorn(self):
+        (self.folder / "uvicorn.py").write_text("raise ImportError\n")
         path = os.pathsep.join([str(self.folder), os.environ.get("PYTHONPATH", "")])
         told = self.refused("serve", "--example", env={**os.environ, "PYTHONPATH": path})
-        self.assertIn("python3-waitress", told)
+        self.assertIn("python3-uvicorn", told)
 
     def test_torn(self):
         """A torn tail is cut off and told."""

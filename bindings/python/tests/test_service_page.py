@@ -11,7 +11,7 @@ import tempfile
 import time
 import unittest
 
-from service_tools import Server, need_waitress
+from service_tools import Server, need_uvicorn
 
 CHROMIUM = next(filter(None, map(shutil.which, ("chromium", "chromium-browser", "google-chrome"))), None)
 
@@ -113,7 +113,7 @@ PICK = "document.querySelector('.pick[data-of=\\'%s\\']')"
 @unittest.skipUnless(CHROMIUM, "there is no Chromium")
 class Page(unittest.TestCase):
     def setUp(self):
-        need_waitress()
+        need_uvicorn()
         self.server = Server("--example")
         self.addCleanup(self.server.__exit__)
         self.browser = Browser()

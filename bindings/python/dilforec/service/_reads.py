@@ -1,0 +1,84 @@
+"""The calls that read, and the one that compacts: each is a call of a store."""
+from __future__ import annotations
+
+from http import HTTPStatus
+
+from dilforec.refusals import Syntax
+from dilforec.service import _parameters as parameters
+from dilforec.service._changes import document_id
+from dilforec.service._errors import NoSuchDocument
+from dilforec.service._http import Request, Response, answer, bad
+from dilforec.service._metrics import Metrics, resident_bytes
+from dilforec.service._store import Store
+from dilforec.values import as_json
+
+
+class Reads:
+    """Answers from the last commit of a store."""
+
+    def __init__(self, store: Store, metrics: Metrics) -> None:
+        self._store, self._metrics = store, metrics
+
+    def search(self, request: Request) -> Response:
+        """A search."""
+        given = request.parameters("q", "top", lists=("groups", "fields"))
+        top = parameters.top(given["top"]) if "top" in given else None
+        fields = parameters.names(given["fields"]) if "fields" in given else None
+        query, groups = given.get("q", "*"), parameters.names(given.get("groups", ""))
+        try:
+            with self._metrics.timed("searches"), self._store.snapshot() as snapshot:
+                found = snapshot.search_json(query, groups=groups, top=top, fields=fields)
+        except Syntax as error:
+            # The package tells it in characters.
+            raise bad("Syntax", str(error), None if error.at is None else len(query[:error.at].encode())) from None
+        return Response(HTTPStatus.OK, found)
+
+    def list(self, request: Request) -> Response:
+        """The documents with the next numbers."""
+        given = request.parameters("after", "limit")
+        after, limit = parameters.number("after", given.get("after", "0")), parameters.limit(given.get("limit", "100"))
+        with self._store.snapshot() as snapshot:
+            return answer({"documents": snapshot.documents(after, limit)})
+
+    def get(self, request: Request) -> Response:
+        """A document."""
+        request.parameters()
+        id = document_id(request)
+        document = self._store.get(id)
+        if document is None:
+            raise NoSuchDocument(id)
+        return answer(document)
+
+    def status(self, request: Request) -> Response:
+        """How large the store is, and its schema."""
+        request.parameters()
+        store = self._store
+        with store.snapshot() as snapshot:
+            stats = snapshot.stats()
+            return answer({
+                "documents": stats.live, "segments": stats.segments, "commit": snapshot.commit,
+                "writable": store.writable, "journal_bytes": store.journal_bytes, "resident_bytes": resident_bytes(),
+                "schema": [as_json(field) for field in store.fields],
+            })
+
+    def metrics(self, request: Request) -> Response:
+        """What the service counts, for Prometheus."""
+        request.parameters()
+        store = self._store
+        with store.snapshot() as snapshot:
+            stats = snapshot.stats()
+        text = self._metrics.text({
+            "documents": ("Documents of the last commit.", stats.live),
+            "deleted_documents": ("Documents that were deleted, and aren't merged away yet.", stats.documents - stats.live),
+            "segments": ("Segments of the last commit.", stats.segments),
+            "commits": ("The number of the last commit.", store.commits),
+            "journal_bytes": ("The size of the journal.", store.journal_bytes),
+            "resident_bytes": ("The memory of the process.", resident_bytes()),
+            "writable": ("1, or 0 after a write whose outcome is unknown.", int(store.writable)),
+        })
+        return Response(HTTPStatus.OK, text.encode(), "text/plain; version=0.0.4; charset=utf-8")
+
+    def compact(self, request: Request) -> Response:
+        """Writes the journal anew."""
+        request.parameters()
+        return answer(self._store.compact()._asdict())
