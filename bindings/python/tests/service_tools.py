@@ -9,9 +9,11 @@ import os
 import pathlib
 import re
 import signal
+import socket
 import subprocess
 import sys
 import tempfile
+import time
 import unittest
 
 import dilforec
@@ -125,21 +127,40 @@ def need_uvicorn():
         raise unittest.SkipTest("uvicorn or httptools isn't there")
 
 
+def free_port():
+    """A port that is free now."""
+    with socket.create_server(("127.0.0.1", 0)) as sock:
+        return sock.getsockname()[1]
+
+
 class Server:
     """A service in a process of its own, at a port that is free."""
 
-    def __init__(self, *words, program=("-m", "dilforec")):
-        self.log = tempfile.TemporaryFile()
+    def __init__(self, *words, program=("-m", "dilforec"), waits=True):
+        """Starts it, and waits until it is ready, or only until it listens."""
+        self.log, port = tempfile.TemporaryFile(), 0 if waits else free_port()
         self.process = subprocess.Popen(
-            [sys.executable, *program, "serve", "--listen", "127.0.0.1:0", *map(str, words)],
+            [sys.executable, *program, "serve", "--listen", f"127.0.0.1:{port}", *map(str, words)],
             stdout=subprocess.PIPE, stderr=self.log,
         )
+        if not waits:
+            self.port = port
+            self.await_port()
+            return
         self.ready = self.process.stdout.readline().decode()
         found = re.search(r":([0-9]+)/", self.ready)
         if not found:
             self.stop(signal.SIGKILL)
             raise AssertionError(f"the service didn't begin: {self.said()}")
         self.port = int(found[1])
+
+    def await_port(self):
+        for _ in range(200):
+            try:
+                return socket.create_connection(("127.0.0.1", self.port)).close()
+            except ConnectionRefusedError:
+                time.sleep(0.05)
+        raise AssertionError(f"the service doesn't listen: {self.said()}")
 
     def __enter__(self):
         return self

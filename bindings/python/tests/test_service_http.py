@@ -326,6 +326,10 @@ class Starts(Served):
         self.assertIn("--journal", self.refused("serve", *schema))
         self.assertIn("HOST:PORT", self.refused("serve", *schema, *journal, "--listen", "nowhere"))
         self.assertIn("--token-file", self.refused("serve", *schema, *journal, "--token-reads"))
+        self.assertIn("--token-file", self.refused("serve", *schema, *journal, "--read-token-file", bad))
+        bad.write_text("sixteen-letters-")
+        same = ("--token-file", bad, "--read-token-file", bad)
+        self.assertIn("are the same", self.refused("serve", *schema, *journal, *same))
         bad.write_text("short")
         self.assertIn("16 letters", self.refused("serve", *schema, *journal, "--token-file", bad))
         self.assertIn("isn't there", self.refused("compact", *journal))
@@ -364,6 +368,32 @@ class Starts(Served):
         with self.serve() as server:
             self.assertEqual(server.ask("GET", "/status")[1]["documents"], 1)
             self.assertIn("cut 14 bytes", server.said())
+
+    def test_not_ready(self):
+        """While the journal is read the port is open: it says how far it is, and answers nothing else."""
+        server = self.serve()
+        for _ in range(3):
+            server.ask("POST", "/documents", [{"title": "x" * 5000}] * 250)
+        server.stop(signal.SIGTERM)
+        slow = "import sys, time; from dilforec.service import _command, _files; blocks = _files.blocks\n"
+        slow += "_files.blocks = lambda *given: (time.sleep(0.7) or each for each in blocks(*given))\n"
+        server = self.serve(program=("-c", slow + "sys.exit(_command.main(sys.argv[1:]))"), waits=False)
+        self.assertEqual(server.ask("GET", "/healthz"), (200, {"healthy": True}))
+        found = []
+        while (told := server.ask("GET", "/readyz", Host="anything"))[0] == 503:
+            self.assertFalse(told[1]["ready"])
+            found.append(told[1]["documents"])
+            status, told = server.ask("GET", "/search")
+            self.assertIn((status, told.get("error")), [(503, "Starting"), (200, None)])
+            time.sleep(0.1)
+        self.assertEqual(told[1], {"ready": True, "documents": 750, "writable": True})
+        self.assertEqual((found, found[0]), (sorted(found), 0))
+        self.assertIn(found[-1], range(1, 751))
+        self.assertEqual(server.ask("GET", "/search")[1]["count"], 750)
+        # It may be ended, too, before it is ready.
+        server.stop(signal.SIGTERM)
+        server = self.serve(program=("-c", slow + "sys.exit(_command.main(sys.argv[1:]))"), waits=False)
+        self.assertEqual(server.stop(signal.SIGTERM), 0)
 
     def test_systemd(self):
         """systemd is told when it is ready, and when it ends."""
@@ -420,6 +450,100 @@ class Guards(Served):
                 self.assertEqual(server.ask("GET", path)[0], 401 if reads else 200)
                 self.assertEqual(server.ask("GET", path, **right)[0], 200)
             self.assertEqual(server.ask("GET", "/")[0], 200)
+
+    def test_read_token(self):
+        """A token that only reads: reads need one of the two, changes the other, and SIGHUP reads both again."""
+        write, read = self.folder / "write", self.folder / "read"
+        write.write_text("writes-and-reads-all")
+        read.write_text("reads-and-no-more")
+        server = self.serve("--token-file", write, "--read-token-file", read)
+
+        def statuses(token):
+            given = {"Authorization": f"Bearer {token}"} if token else {}
+            return [server.ask(*asked, **given)[0] for asked in (
+                ("GET", "/search"), ("GET", "/status"), ("POST", "/documents", {}), ("DELETE", "/documents/9"),
+            )]
+
+        self.assertEqual(statuses(""), [401] * 4)
+        self.assertEqual(statuses("neither-of-the-two"), [401] * 4)
+        self.assertEqual(statuses("reads-and-no-more"), [200, 200, 403, 403])
+        self.assertEqual(statuses("writes-and-reads-all"), [200, 200, 201, 404])
+        self.assertEqual(server.ask("GET", "/readyz")[0], 200)
+        read.write_text("reads-from-now-on")
+        server.process.send_signal(signal.SIGHUP)
+        for _ in range(100):
+            if statuses("reads-from-now-on")[0] == 200:
+                break
+            time.sleep(0.05)
+        self.assertEqual(statuses("reads-from-now-on"), [200, 200, 403, 403])
+        self.assertEqual(statuses("reads-and-no-more"), [401] * 4)
+        read.write_text("short")
+        server.process.send_signal(signal.SIGHUP)
+        for _ in range(100):
+            if "the tokens stay as they are" in server.said():
+                break
+            time.sleep(0.05)
+        self.assertIn("the tokens stay as they are", server.said())
+        self.assertEqual(statuses("reads-from-now-on"), [200, 200, 403, 403])
+
+    def test_log(self):
+        """Who isn't let in is logged with the address, and no path can forge a line."""
+        token = self.folder / "token"
+        token.write_text("abcdefghijklmnop")
+        server = self.serve("--token-file", token, "--log", "debug")
+        forged = "/documents%0a2026-11-28%2000:00:00,000%20INFO%20ended%1b[31m"
+        server.ask("POST", forged, {})
+        server.ask("POST", "/documents", {}, X_Forwarded_For="203.0.113.7\x9b0m")
+        server.ask("POST", "/documents", {}, Origin="http://evil.example")
+        said = server.said()
+        self.assertRegex(said, r"WARNING 'POST' '/documents' 401, asked by 127\.0\.0\.1 for '203\.0\.113\.7\\x9b0m'\n")
+        self.assertRegex(said, r"WARNING 'POST' '/documents' 403, asked by 127\.0\.0\.1\n")
+        self.assertIn(r"'/documents\n2026-11-28 00:00:00,000 INFO ended\x1b[31m' 404", said)
+        self.assertNotIn("\x1b", said)
+
+    def test_other_sites(self):
+        """Pages of a site that is allowed may search, and none may change anything."""
+        friend, other = "https://www.example.org", "https://www.example.net"
+        server = self.serve("--allow-origin", friend, "--allow-origin", "http://localhost:3000")
+        shown = "Access-Control-Allow-Origin"
+        for path in "/search?q=x", "/documents", "/documents/1", "/status":
+            for origin, wanted in (friend, friend), ("http://localhost:3000", "http://localhost:3000"), (other, None):
+                server.ask("GET", path, Origin=origin)
+                self.assertEqual((server.headers.get(shown), server.headers["Vary"]), (wanted, "Origin"))
+        server.ask("GET", "/metrics", Origin=friend)
+        self.assertNotIn(shown, server.headers)
+        asks = {"Access-Control-Request-Method": "GET", "Access-Control-Request-Headers": "authorization"}
+        self.assertEqual(server.ask("OPTIONS", "/search", Origin=friend, **asks), (204, ""))
+        self.assertEqual((server.headers[shown], server.headers["Access-Control-Allow-Methods"]), (friend, "GET, HEAD"))
+        self.assertIn("Authorization", server.headers["Access-Control-Allow-Headers"])
+        self.assertEqual(server.ask("OPTIONS", "/search", Origin=other, **asks)[0], 405)
+        asks["Access-Control-Request-Method"] = "POST"
+        self.assertEqual(server.ask("OPTIONS", "/documents", Origin=friend, **asks)[0], 405)
+        self.assertEqual(server.ask("POST", "/documents", {}, Origin=friend)[0], 403)
+        self.assertEqual(server.ask("DELETE", "/documents/1", Origin=friend)[0], 403)
+        for bad in "www.example.org", "https://www.example.org/", "*", "null", "https://a,b":
+            with self.subTest(origin=bad):
+                told = self.refused("serve", "--example", "--allow-origin", bad)
+                self.assertIn("isn't an origin", told)
+
+    def test_local_socket(self):
+        """A local socket, which only its owner and group may use, and which is gone at the end."""
+        path = self.folder / "socket"
+        with socket.socket(socket.AF_UNIX) as left:
+            left.bind(str(path))
+        words = [sys.executable, "-m", "dilforec", "serve", "--example", "--listen", f"unix:{path}"]
+        with subprocess.Popen(words, stdout=subprocess.PIPE, stderr=subprocess.DEVNULL) as served:
+            self.assertIn(f"at unix:{path}", served.stdout.readline().decode())
+            self.assertEqual(path.stat().st_mode & 0o777, 0o660)
+            self.assertIn("can't listen", self.refused("serve", "--example", "--listen", f"unix:{path}"))
+            for host, status in ("localhost", b" 200 "), ("elsewhere", b" 421 "):
+                with socket.socket(socket.AF_UNIX) as sock:
+                    sock.connect(str(path))
+                    sock.sendall(f"GET /search HTTP/1.1\r\nHost: {host}\r\n\r\n".encode())
+                    self.assertIn(status, sock.recv(100))
+            served.send_signal(signal.SIGTERM)
+            self.assertEqual(served.wait(30), 0)
+        self.assertFalse(path.exists())
 
     def test_beyond_the_machine(self):
         """Where it listens beyond the machine, nothing can be changed without a token, and it says so."""

@@ -12,8 +12,8 @@ from dilforec.service._index import execute_lines
 from dilforec.service._journal import Journal
 from dilforec.service._lines import ADD, ADDS, COMMIT, MARK, OTHERS
 
-# It is called with how many bytes of how many were replayed.
-Progress = Callable[[int, int], None]
+# It is called with how many bytes of how many were replayed, and how many documents there are so far.
+Progress = Callable[[int, int, int], None]
 
 
 @dataclass
@@ -48,7 +48,7 @@ def _replay(journal: Journal, index: Index, progress: Progress) -> "tuple[Index,
         for at, block in files.blocks(journal.fd, len(journal.schema), journal.end):
             _look(numbers, journal, at, block)
             _execute(journal, index, at, block)
-            progress(at + len(block), journal.end)
+            progress(at + len(block), journal.end, index.stats().live)
     except BaseException:
         index.close()
         raise

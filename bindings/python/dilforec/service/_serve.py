@@ -91,10 +91,11 @@ class _Opening(threading.Thread):
                     transaction.add(document)
         return store
 
-    def _progress(self, done: int, of: int) -> None:
+    def _progress(self, done: int, of: int, documents: int) -> None:
         if self._is_ending:
             raise Stopped("it was ended before the journal was read")
-        self._told(done, of)
+        self._application.replayed = documents
+        self._told(done, of, documents)
 
     def end(self) -> None:
         """Tells that the service ends."""

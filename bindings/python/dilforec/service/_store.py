@@ -110,15 +110,15 @@ class Store:
         """Opens a store, from its journal if there is one, else with a new journal.
 
         The schema is without `id`, which the store adds. `progress` is called now and then, with how many bytes of how
-        many were replayed. BadSchema, Locked, BadJournal, MemoryError or OSError is raised, and the journal is as it
-        was then.
+        many were replayed, and how many documents there are so far. BadSchema, Locked, BadJournal, MemoryError or
+        OSError is raised, and the journal is as it was then.
         """
         self.fields = list(schema)
         self._all_fields = _with_id(self.fields)
         _opened(self._all_fields).close()
         self._journal = Journal(os.fspath(journal), disk or Disk())
         try:
-            self._start(progress or (lambda done, of: None))
+            self._start(progress or (lambda done, of, documents: None))
         except BaseException:
             self._journal.close()
             raise
