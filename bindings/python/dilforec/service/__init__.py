@@ -17,7 +17,7 @@ from __future__ import annotations
 from collections.abc import Iterable
 from typing import Optional
 
-from dilforec.service._app import Application, Limits
+from dilforec.service._app import Application
 from dilforec.service._asgi import Asgi
 from dilforec.service._errors import (
     BadJournal, BadSchema, Busy, Locked, NoSuchDocument, NotWritten, OutcomeUnknown, Stopped, TransactionRefused,
@@ -25,6 +25,7 @@ from dilforec.service._errors import (
 )
 from dilforec.service._compact import Sizes
 from dilforec.service._guard import Guard, Tokens
+from dilforec.service._reads import Limits
 from dilforec.service._snapshot import Answer, Hit, Snapshot
 from dilforec.service._store import Done, Store, Transaction
 
@@ -38,22 +39,24 @@ __all__ = [
 def application(
     store: Store, *, hosts: Iterable[str], token: Optional[str] = None, read_token: Optional[str] = None,
     token_reads: bool = False, changes: bool = True, origins: Iterable[str] = (), body_limit: int = 16 << 20,
+    answer_limit: int = 16 << 20, clauses: int = 256,
 ) -> Application:
     """A WSGI application of a store, for a server that has one process, with threads.
 
     `hosts` are the values of the header Host that it answers to: `name:port`, or `name` for any port. With a token,
     what changes something needs it, and with `token_reads` what reads too; with a `read_token` what reads needs one of
     the two. Without a token, `changes` says whether anybody may change something. `origins` are sites whose pages may
-    search, as `https://www.example.org`. `body_limit` is in bytes.
+    search, as `https://www.example.org`. `body_limit` and `answer_limit` are in bytes; `clauses` is how many words and
+    ranges a query may have.
     """
     guard = Guard(hosts, Tokens(token, read_token, token_reads), changes, origins)
-    return Application(store, guard, Limits(body_limit))
+    return Application(store, guard, Limits(body_limit, answer_limit, clauses))
 
 
 def asgi(
     store: Store, *, hosts: Iterable[str], token: Optional[str] = None, read_token: Optional[str] = None,
     token_reads: bool = False, changes: bool = True, origins: Iterable[str] = (), body_limit: int = 16 << 20,
-    threads: int = 16, body_seconds: float = 60,
+    answer_limit: int = 16 << 20, clauses: int = 256, threads: int = 16, body_seconds: float = 60,
 ) -> Asgi:
     """An ASGI application of a store, for a server that has one process. Close it at the end.
 
@@ -62,6 +65,6 @@ def asgi(
     """
     made = application(
         store, hosts=hosts, token=token, read_token=read_token, token_reads=token_reads, changes=changes,
-        origins=origins, body_limit=body_limit,
+        origins=origins, body_limit=body_limit, answer_limit=answer_limit, clauses=clauses,
     )
     return Asgi(made, threads, body_seconds)

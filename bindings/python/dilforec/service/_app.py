@@ -6,7 +6,7 @@ import re
 from collections.abc import Callable, Iterable
 from functools import partial
 from http import HTTPStatus
-from typing import TYPE_CHECKING, NamedTuple, Optional, TypeVar, Union
+from typing import TYPE_CHECKING, Optional, TypeVar, Union
 
 from dilforec.refusals import Refused
 from dilforec.service import _changes as changes
@@ -16,7 +16,7 @@ from dilforec.service._guard import Guard
 from dilforec.service._http import HttpError, Request, Response, answer, bad, failure
 from dilforec.service._metrics import Metrics
 from dilforec.service._page import PAGE, POLICY
-from dilforec.service._reads import Reads
+from dilforec.service._reads import Limits, Reads
 from dilforec.service._store import Store
 
 if TYPE_CHECKING:
@@ -37,12 +37,6 @@ _SHARED = ("/search", "/documents", "/documents/ID", "/status")
 # To read these takes less time than to hand them to another thread; so does to begin a change with a short body.
 _BRIEF = ("/", *_HEALTH, "/status", "/documents/ID")
 _BRIEF_BODY = 65_536
-
-
-class Limits(NamedTuple):
-    """What one request may have: the bytes of its body."""
-
-    body: int = 16 << 20
 
 
 class Application:
@@ -66,7 +60,7 @@ class Application:
 
     def open(self, store: Store) -> None:
         """Answers from a store from now on."""
-        reads = Reads(store, self.metrics)
+        reads = Reads(store, self.metrics, self.limits)
         self._store = store
         self._calls.update({
             "/documents": {"GET": reads.list, "POST": changes.add},

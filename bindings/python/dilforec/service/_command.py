@@ -54,6 +54,8 @@ def _add_serving(serve: argparse.ArgumentParser) -> None:
         ("body-seconds", 60, "SECONDS", "how long the body of a request may take to arrive"),
         ("grace", 30, "SECONDS", "how long answers in progress may take at the end"),
         ("body", 16 << 20, "BYTES", "the longest body of a request"),
+        ("answer", 16 << 20, "BYTES", "the longest answer to a search"),
+        ("clauses", 256, "N", "the most words and ranges of a query"),
     ]:
         serve.add_argument(f"--{name}", metavar=unit, type=_at_least(1), default=default, help=f"{words} ({default})")
 

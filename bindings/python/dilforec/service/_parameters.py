@@ -1,13 +1,21 @@
 """What the parameters of a request mean, or why they mean nothing."""
 from __future__ import annotations
 
+import heapq
 import re
+from collections.abc import Iterable
 
 from dilforec.service._http import bad
 from dilforec.values import Top
 
 # Hits of an answer, and documents of a page, at most.
 MOST_HITS = 1000
+# Fields whose groups one search counts; the values of each, if nothing is said, and at most.
+MOST_FIELDS, MOST_VALUES, VALUES = 8, 10_000, 100
+
+# What a query has between its parentheses: ranges, quoted texts, and words, of which one before a range names its field.
+_UNIT = re.compile(r'(?P<range>[\[{][^\]}]*)[\]}]?|"(?P<text>(?:\\.|[^"\\])*)"?|(?P<word>[^\s()"\[\]{}]+)')
+_OPERATORS = ("AND", "OR", "NOT", "+", "-")
 
 
 def number(name: str, text: str) -> int:
@@ -39,3 +47,37 @@ def top(text: str) -> Top:
     if not 1 <= most <= MOST_HITS:
         raise bad("BadLimit", f"a search has 1 to {MOST_HITS} hits")
     return Top(words[0], most, "rising" if words[2] == "rising" else "falling")
+
+
+def groups(text: str) -> "dict[str, int]":
+    """The fields whose groups are counted, each with how many of its values are told, the most frequent ones."""
+    found: "dict[str, int]" = {}
+    for name in names(text):
+        field, colon, most = name.partition(":")
+        found[field] = number("the number of values", most) if colon else VALUES
+        if not 1 <= found[field] <= MOST_VALUES:
+            raise bad("BadLimit", f"groups have 1 to {MOST_VALUES} values")
+    if len(found) > MOST_FIELDS:
+        raise bad("TooManyGroups", f"a search counts the groups of {MOST_FIELDS} fields at most")
+    return found
+
+
+def most_frequent(counts: "Iterable[tuple[str | int, int]]", most: int) -> "list[tuple[str | int, int]]":
+    """The values that most hits have, with their counts. Those of equal counts stay in their order."""
+    return heapq.nsmallest(most, counts, key=lambda group: -group[1])
+
+
+def check_clauses(query: str, most: int) -> None:
+    """Refuses a query of too many clauses: words, each of a phrase too, and ranges."""
+    count = sum(_clauses(unit) for unit in _UNIT.finditer(query))
+    if count > most:
+        raise bad("TooManyClauses", f"the query has {count} words and ranges, and {most} are the most")
+
+
+def _clauses(unit: "re.Match[str]") -> int:
+    """How many clauses a unit of a query is."""
+    word = unit["word"]
+    if unit["range"] is None and (word in _OPERATORS or (word or "").endswith(":")):
+        return 0
+    text = unit["text"] if word is None else word.rpartition(":")[2]
+    return max(1, len(re.findall(r"\w+", text or "")))

@@ -2,6 +2,7 @@
 from __future__ import annotations
 
 from http import HTTPStatus
+from typing import NamedTuple
 
 from dilforec.refusals import Syntax
 from dilforec.service import _parameters as parameters
@@ -13,32 +14,51 @@ from dilforec.service._store import Store
 from dilforec.values import as_json
 
 
+class Limits(NamedTuple):
+    """What one request may ask for: the bytes of its body and of the answer, and the clauses of a query."""
+
+    body: int = 16 << 20
+    answer: int = 16 << 20
+    clauses: int = 256
+
+
 class Reads:
     """Answers from the last commit of a store."""
 
-    def __init__(self, store: Store, metrics: Metrics) -> None:
-        self._store, self._metrics = store, metrics
+    def __init__(self, store: Store, metrics: Metrics, limits: Limits) -> None:
+        self._store, self._metrics, self._limits = store, metrics, limits
 
     def search(self, request: Request) -> Response:
         """A search."""
         given = request.parameters("q", "top", lists=("groups", "fields"))
         top = parameters.top(given["top"]) if "top" in given else None
         fields = parameters.names(given["fields"]) if "fields" in given else None
-        query, groups = given.get("q", "*"), parameters.names(given.get("groups", ""))
+        query, groups = given.get("q", "*"), parameters.groups(given.get("groups", ""))
+        parameters.check_clauses(query, self._limits.clauses)
         try:
             with self._metrics.timed("searches"), self._store.snapshot() as snapshot:
-                found = snapshot.search_json(query, groups=groups, top=top, fields=fields)
+                found = snapshot.search(query, groups=list(groups), top=top, fields=fields)
         except Syntax as error:
             # The package tells it in characters.
             raise bad("Syntax", str(error), None if error.at is None else len(query[:error.at].encode())) from None
-        return Response(HTTPStatus.OK, found)
+        counted = {name: parameters.most_frequent(found.groups[name].items(), most) for name, most in groups.items()}
+        hits = [hit._asdict() for hit in found.hits]
+        return self._limited({"count": found.count, "groups": counted, "hits": hits, "commit": found.commit})
+
+    def _limited(self, told: object) -> Response:
+        """An answer that isn't over the limit."""
+        response, most = answer(told), self._limits.answer
+        if len(response.body) > most:
+            words = f"the answer has {len(response.body)} bytes, and {most} are the most: ask for fewer documents"
+            raise bad("AnswerTooLarge", f"{words}, or for less of them by `fields`")
+        return response
 
     def list(self, request: Request) -> Response:
         """The documents with the next numbers."""
         given = request.parameters("after", "limit")
         after, limit = parameters.number("after", given.get("after", "0")), parameters.limit(given.get("limit", "100"))
         with self._store.snapshot() as snapshot:
-            return answer({"documents": snapshot.documents(after, limit)})
+            return self._limited({"documents": snapshot.documents(after, limit)})
 
     def get(self, request: Request) -> Response:
         """A document."""

@@ -18,10 +18,11 @@ from typing import TYPE_CHECKING, Optional
 
 from dilforec.service import _example as example
 from dilforec.service import _schema as schema
-from dilforec.service._app import Application, Limits
+from dilforec.service._app import Application
 from dilforec.service._errors import Stopped
 from dilforec.service._guard import Guard, Tokens, hosts_of
 from dilforec.service._http import is_loopback
+from dilforec.service._reads import Limits
 from dilforec.service._refusal import Refusal
 from dilforec.service._store import Store
 
@@ -138,7 +139,7 @@ def _application(given: argparse.Namespace, tokens: Tokens, bound: socket.socket
         log.warning("it listens beyond this machine: everybody can read; --read-token-file has reads need a token too")
     if host in ("0.0.0.0", "::") and not given.host:
         log.warning("it answers to localhost alone: --host gives the name that others use for it")
-    return Application(None, Guard(hosts, tokens, not beyond, given.allow_origin), Limits(given.body))
+    return Application(None, Guard(hosts, tokens, not beyond, given.allow_origin), Limits(given.body, given.answer, given.clauses))
 
 
 # Tokens
