@@ -164,7 +164,7 @@ class Answers(Served):
         server = self.serve()
         blocks = re.findall(r"(?:^    .*\n)+", GUIDE.read_text("utf-8"), re.MULTILINE)
         lines = [line for block in blocks if "localhost:8090" in block for line in block.splitlines()]
-        script = "\n".join(line[4:] for line in lines if "dilforec serve" not in line)
+        script = "\n".join(line[4:] for line in lines if "-m dilforec" not in line)
         (self.folder / "books.jsonl").write_text('{"title":"Managing Gigabytes","year":1994,"day":"2026-11-25"}\n' * 3)
         script = script.replace("localhost:8090", f"localhost:{server.port}").replace("curl ", "curl -sS ")
         done = subprocess.run(["sh", "-ec", script], cwd=self.folder, capture_output=True, text=True, timeout=60)

@@ -1,4 +1,4 @@
-"""The command: dilforec serve, and compact."""
+"""The command dilforec: serve, compact and load."""
 from __future__ import annotations
 
 import argparse
@@ -10,8 +10,9 @@ from typing import Any, Optional
 
 from dilforec.service import _schema as schema
 from dilforec.service._errors import BadJournal, BadSchema, Locked, Unavailable
-from dilforec.service._journal import journal_schema
+from dilforec.service._load import load
 from dilforec.service._refusal import Refusal
+from dilforec.service._serve import serve
 from dilforec.service._store import Store
 
 _ORIGIN = re.compile(r"https?://[^/\s,;*@?#]+", re.IGNORECASE)
@@ -21,12 +22,17 @@ def parser() -> argparse.ArgumentParser:
     """The command's arguments."""
     made = argparse.ArgumentParser(prog="dilforec", description="A full-text index that survives, over HTTP.")
     commands = made.add_subparsers(dest="command", required=True)
-    serve = commands.add_parser("serve", help="serve an index over HTTP", description="Serves an index over HTTP.")
-    _add_serving(serve)
+    serving = commands.add_parser("serve", help="serve an index over HTTP", description="Serves an index over HTTP.")
+    _add_serving(serving)
     compact = commands.add_parser("compact", help="write a journal anew, with its live documents alone",
                                   description="Writes a journal anew, with its live documents alone.")
     compact.add_argument("--journal", metavar="FILE", required=True)
-    for each in serve, compact:
+    loading = commands.add_parser("load", help="put files of documents into a journal",
+                                  description="Puts files of documents into a journal, while no service has it open.")
+    loading.add_argument("files", metavar="FILE", nargs="+", help="a JSON text on each line; CSV if it ends with .csv")
+    loading.add_argument("--journal", metavar="FILE", required=True, help="where the documents are kept; made if it isn't there")
+    loading.add_argument("--schema", metavar="FILE", help="the fields, as a JSON list; those of the journal if it is there")
+    for each in serving, compact, loading:
         each.add_argument("--log", metavar="LEVEL", default="info", choices=["debug", "info", "warning", "error"],
                           help="debug, info (default), warning or error")
     return made
@@ -85,18 +91,21 @@ def _at_least(least: int) -> Any:
 
 
 def main(arguments: Optional[Sequence[str]] = None) -> int:
-    """Runs the command, and returns its status: 0, 2 if it can't begin, 3 if memory ran out, 4 if a file failed."""
+    """Runs the command, and returns its status.
+
+    It is 0, 2 if it can't begin, or go on by what it was given, 3 if memory ran out, 4 if a file failed, 130 if it was
+    interrupted.
+    """
     given = parser().parse_args(arguments)
     logging.basicConfig(format="%(asctime)s %(levelname)s %(message)s", level=given.log.upper())
     try:
-        if given.command == "compact":
-            return _compact(given)
-        from dilforec.service import _serve
-        return _serve.serve(given)
+        return _COMMANDS[given.command](given)
     except (Refusal, BadSchema, BadJournal, Locked) as error:
         return _said(error, 2)
     except MemoryError:
         return _said("there is no memory for the index", 3)
+    except KeyboardInterrupt:
+        return _said("it was interrupted", 130)
     except (OSError, Unavailable) as error:
         return _said(error, 4)
 
@@ -107,12 +116,11 @@ def _said(error: object, status: int) -> int:
 
 
 def _compact(given: argparse.Namespace) -> int:
-    try:
-        line = journal_schema(given.journal)
-    except FileNotFoundError:
-        raise Refusal(f"{given.journal} isn't there") from None
-    fields = schema.of_journal(line, given.journal)
+    fields = schema.of_journal(given.journal)
     with Store(fields, given.journal, progress=schema.Progress()) as store:
         before, after = store.compact()
         print(f"{len(store):,} documents; the journal had {before:,} bytes, and has {after:,}")
     return 0
+
+
+_COMMANDS = {"serve": serve, "compact": _compact, "load": load}

@@ -5,8 +5,9 @@ import json
 import logging
 import pathlib
 import time
-from typing import Any, Optional
+from typing import Any
 
+from dilforec.service._journal import journal_schema
 from dilforec.service._refusal import Refusal
 from dilforec.values import Field
 
@@ -23,8 +24,12 @@ def of_file(path: str) -> "list[Field]":
         raise Refusal(f"{path} can't be read: {error.strerror}") from None
 
 
-def of_journal(line: Optional[bytes], path: str) -> "list[Field]":
-    """The fields of a journal's first line, without the store's own."""
+def of_journal(path: str) -> "list[Field]":
+    """The fields of a journal that is there, without the store's own."""
+    try:
+        line = journal_schema(path)
+    except FileNotFoundError:
+        raise Refusal(f"{path} isn't there") from None
     fields = _fields(json.loads(line) if line and line.startswith(b"{") else None, path)
     return [field for field in fields if field.name != "id"]
 
