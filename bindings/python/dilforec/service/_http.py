@@ -58,6 +58,22 @@ _ALWAYS = (
 )
 
 
+def _tags(text: str) -> "list[str]":
+    """The tags of a header, without their quotes."""
+    found = (tag.strip() for tag in text.split(","))
+    return [tag[2:].strip('"') if tag.startswith("W/") else tag.strip('"') for tag in found]
+
+
+def tagged(response: Response, tag: str) -> Response:
+    """A response that a browser may keep, if it asks with the tag whether it still is so."""
+    return response._replace(headers=(*response.headers, ("ETag", f'"{tag}"'), ("Cache-Control", "private, no-cache")))
+
+
+def unchanged(tag: str) -> Response:
+    """The answer to a client that has what a tag is of already."""
+    return tagged(Response(HTTPStatus.NOT_MODIFIED, b""), tag)
+
+
 def is_loopback(host: str) -> bool:
     """Whether an address is of this machine alone."""
     return host in ("localhost", "::1") or host.startswith("127.")
@@ -155,6 +171,10 @@ class Request:
         if int(length) > limit:
             raise too_large(limit)
         return int(length)
+
+    def knows(self, tag: str) -> bool:
+        """Whether the client has what a tag is of already (If-None-Match)."""
+        return tag in _tags(self.headers.get("if-none-match", ""))
 
     def parameters(self, *allowed: str, lists: "tuple[str, ...]" = ()) -> "dict[str, str]":
         """The members of the query string, none but the allowed ones, and each once; one of `lists` may come again.

@@ -1,6 +1,7 @@
 """The calls that read, and the one that compacts: each is a call of a store."""
 from __future__ import annotations
 
+import secrets
 from http import HTTPStatus
 from typing import NamedTuple
 
@@ -8,8 +9,9 @@ from dilforec.refusals import Syntax
 from dilforec.service import _parameters as parameters
 from dilforec.service._changes import document_id
 from dilforec.service._errors import NoSuchDocument
-from dilforec.service._http import Request, Response, answer, bad
+from dilforec.service._http import Request, Response, answer, bad, tagged, unchanged
 from dilforec.service._metrics import Metrics, resident_bytes
+from dilforec.service._snapshot import Snapshot
 from dilforec.service._store import Store
 from dilforec.values import as_json
 
@@ -27,6 +29,7 @@ class Reads:
 
     def __init__(self, store: Store, metrics: Metrics, limits: Limits) -> None:
         self._store, self._metrics, self._limits = store, metrics, limits
+        self._process = secrets.token_hex(8)
 
     def search(self, request: Request) -> Response:
         """A search."""
@@ -36,14 +39,23 @@ class Reads:
         query, groups = given.get("q", "*"), parameters.groups(given.get("groups", ""))
         parameters.check_clauses(query, self._limits.clauses)
         try:
-            with self._metrics.timed("searches"), self._store.snapshot() as snapshot:
+            with self._store.snapshot() as snapshot, self._metrics.timed("searches"):
+                tag = self._tag(snapshot)
+                if request.knows(tag):
+                    return unchanged(tag)
                 found = snapshot.search(query, groups=list(groups), top=top, fields=fields)
         except Syntax as error:
             # The package tells it in characters.
             raise bad("Syntax", str(error), None if error.at is None else len(query[:error.at].encode())) from None
         counted = {name: parameters.most_frequent(found.groups[name].items(), most) for name, most in groups.items()}
         hits = [hit._asdict() for hit in found.hits]
-        return self._limited({"count": found.count, "groups": counted, "hits": hits, "commit": found.commit})
+        told = {"count": found.count, "groups": counted, "hits": hits, "commit": found.commit}
+        return tagged(self._limited(told), tag)
+
+    def _tag(self, snapshot: Snapshot) -> str:
+        """What an answer depends on beside the address: the commit, of this process, since another may have a journal
+        that was restored."""
+        return f"{self._process}-{snapshot.commit}"
 
     def _limited(self, told: object) -> Response:
         """An answer that isn't over the limit."""
@@ -58,7 +70,10 @@ class Reads:
         given = request.parameters("after", "limit")
         after, limit = parameters.number("after", given.get("after", "0")), parameters.limit(given.get("limit", "100"))
         with self._store.snapshot() as snapshot:
-            return self._limited({"documents": snapshot.documents(after, limit)})
+            tag = self._tag(snapshot)
+            if request.knows(tag):
+                return unchanged(tag)
+            return tagged(self._limited({"documents": snapshot.documents(after, limit)}), tag)
 
     def get(self, request: Request) -> Response:
         """A document."""
