@@ -19,18 +19,20 @@ from typing import Optional
 
 from dilforec.service._app import Application
 from dilforec.service._errors import (
-    BadJournal, BadSchema, Busy, Locked, NoSuchDocument, NotWritten, OutcomeUnknown, Stopped, TransactionRefused,
-    Unavailable,
+    BadJournal, BadSchema, Busy, KeyTaken, Locked, NoSuchDocument, NotWritten, OutcomeUnknown, Stopped,
+    TransactionRefused, Unavailable, VersionChanged,
 )
 from dilforec.service._compact import Sizes
 from dilforec.service._guard import Guard
 from dilforec.service._snapshot import Answer, Hit, Snapshot
-from dilforec.service._store import Done, Store, Transaction
+from dilforec.service._store import Store
+from dilforec.service._transaction import Done, Transaction
+from dilforec.service._versions import version_of
 
 __all__ = [
-    "Answer", "Application", "BadJournal", "BadSchema", "Busy", "Done", "Hit", "Locked", "NoSuchDocument", "NotWritten",
-    "OutcomeUnknown", "Sizes", "Snapshot", "Stopped", "Store", "Transaction", "TransactionRefused", "Unavailable",
-    "application",
+    "Answer", "Application", "BadJournal", "BadSchema", "Busy", "Done", "Hit", "KeyTaken", "Locked", "NoSuchDocument",
+    "NotWritten", "OutcomeUnknown", "Sizes", "Snapshot", "Stopped", "Store", "Transaction", "TransactionRefused",
+    "Unavailable", "VersionChanged", "application", "version_of",
 ]
 
 

@@ -10,14 +10,13 @@ from http import HTTPStatus
 from typing import TYPE_CHECKING, Any, NamedTuple, Optional, TypeVar, Union
 
 from dilforec.refusals import Refused, Syntax
-from dilforec.service import _lines as lines
 from dilforec.service._errors import Busy, NoSuchDocument, TransactionRefused, Unavailable
 from dilforec.service._guard import Guard
 from dilforec.service._http import HttpError, Request, Response, answer, bad, failure
 from dilforec.service._metrics import Metrics, resident_bytes
 from dilforec.service._page import PAGE, POLICY
 from dilforec.service._store import Store
-from dilforec.service._writer import Pending
+from dilforec.service._transaction import Transaction
 from dilforec.values import Top, as_json
 
 if TYPE_CHECKING:
@@ -42,7 +41,7 @@ BEGUN = "dilforec.begun"
 class Change(NamedTuple):
     """A change that a request asks for. If its operations are a body's, `places` are their places in it, from 1."""
 
-    transaction: Pending
+    transaction: Transaction
     status: HTTPStatus
     began: float
     places: "Optional[list[int]]" = None
@@ -98,7 +97,7 @@ class Application:
 
     def do(self, begun: "Iterable[Begun]") -> None:
         """Does the changes that were begun."""
-        self._store.do([told.transaction for _, told in begun if isinstance(told, Change)])
+        self._store.do(*[told.transaction for _, told in begun if isinstance(told, Change)])
 
     def _called(self, request: Request) -> "Union[Response, Change]":
         self._guard.host(request)
@@ -205,45 +204,45 @@ class Application:
     # What changes something
 
     def _add(self, request: Request) -> Change:
-        return self._posted(request, lines.add)
+        return self._posted(request, Transaction.add)
 
     def _transaction(self, request: Request) -> Change:
-        return self._posted(request, lines.command)
+        return self._posted(request, Transaction.command)
 
-    def _posted(self, request: Request, operation: "Callable[[Any], lines.Operation]") -> Change:
+    def _posted(self, request: Request, operation: "Callable[[Transaction, Any], None]") -> Change:
         """A transaction of the body's values. A refusal tells the line, or the place in a list."""
         request.parameters()
         began = time.perf_counter()
         places: "list[int]" = []
-        operations: "list[lines.Operation]" = []
+        transaction = self._store.new_transaction()
         for place, value in request.values():
             places.append(place)
-            operations.append(_operation(operation, value, place))
+            _operation(operation, transaction, value, place)
         if not places:
             raise bad("Empty", "there is nothing in the body")
-        return Change(Pending(tuple(operations)), HTTPStatus.CREATED, began, places)
+        return Change(transaction, HTTPStatus.CREATED, began, places)
 
     def _replace(self, request: Request) -> Change:
         request.parameters()
         document, id = request.json(), _id(request)
+        transaction = self._store.new_transaction()
         try:
-            return self._change_of(id, lines.delete("id", id), lines.add(document, id))
+            transaction.replace(id, document)
         except ValueError as error:
             raise bad("BadId", str(error)) from None
+        return Change(transaction, HTTPStatus.OK, time.perf_counter())
 
     def _delete(self, request: Request) -> Change:
         request.parameters()
-        id = _id(request)
-        return self._change_of(id, lines.delete("id", id))
-
-    def _change_of(self, id: int, *operations: lines.Operation) -> Change:
-        return Change(Pending(operations, id), HTTPStatus.OK, time.perf_counter())
+        transaction = self._store.new_transaction()
+        transaction.delete_document(_id(request))
+        return Change(transaction, HTTPStatus.OK, time.perf_counter())
 
     def _done(self, change: Change) -> Response:
         """What came of a change, which is done now if it wasn't."""
         transaction = change.transaction
         if not transaction.is_done:
-            self._store.do([transaction])
+            self._store.do(transaction)
         self._metrics.took("transactions", change.began)
         error = transaction.error
         if isinstance(error, TransactionRefused):
@@ -260,9 +259,11 @@ class Application:
         return answer(sizes._asdict())
 
 
-def _operation(operation: "Callable[[Any], lines.Operation]", value: Any, place: int) -> lines.Operation:
+def _operation(
+    operation: "Callable[[Transaction, Any], None]", transaction: Transaction, value: Any, place: int,
+) -> None:
     try:
-        return operation(value)
+        operation(transaction, value)
     except Refused as error:
         raise bad(error.name, str(error), place) from None
     except ValueError as error:

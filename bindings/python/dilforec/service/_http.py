@@ -1,7 +1,6 @@
 """Requests and responses of the application, over WSGI's environment."""
 from __future__ import annotations
 
-import json
 import re
 from collections.abc import Iterator
 from http import HTTPStatus
@@ -9,6 +8,7 @@ from typing import TYPE_CHECKING, Any, NamedTuple, Optional
 from urllib.parse import parse_qsl
 
 from dilforec.index import encoder
+from dilforec.service._lines import read_json
 
 if TYPE_CHECKING:
     from _typeshed.wsgi import WSGIEnvironment
@@ -61,16 +61,9 @@ def bad(name: str, message: str, at: Optional[int] = None) -> HttpError:
     return HttpError(HTTPStatus.BAD_REQUEST, name, message, at)
 
 
-def _refused_constant(name: str) -> None:
-    raise ValueError(f"{name} isn't JSON")
-
-
-_load = json.JSONDecoder(parse_constant=_refused_constant).decode
-
-
 def _loaded(data: bytes, at: Optional[int] = None) -> Any:
     try:
-        return _load(data.decode())
+        return read_json(data.decode())
     except UnicodeDecodeError as error:
         raise bad("BadJson", f"byte {error.start} of the text isn't UTF-8", at) from None
     except (ValueError, RecursionError) as error:

@@ -140,10 +140,10 @@ class _Progress:
     def __init__(self) -> None:
         self._next = time.monotonic() + 1
 
-    def __call__(self, done: int, of: int) -> None:
+    def __call__(self, done: int, of: int, documents: int) -> None:
         if time.monotonic() >= self._next:
             self._next = time.monotonic() + 1
-            log.info("replayed %d of %d MB, %d %%", done >> 20, of >> 20, 100 * done // of)
+            log.info("%d documents from %d of %d MB, %d %%", documents, done >> 20, of >> 20, 100 * done // of)
 
 
 def _serve(given: argparse.Namespace) -> int:
