@@ -20,19 +20,21 @@ from typing import Optional
 from dilforec.service._app import Application
 from dilforec.service._asgi import Asgi
 from dilforec.service._errors import (
-    BadJournal, BadSchema, Busy, Locked, NoSuchDocument, NotWritten, OutcomeUnknown, Stopped, TransactionRefused,
-    Unavailable,
+    BadJournal, BadSchema, Busy, KeyTaken, Locked, NoSuchDocument, NotWritten, OutcomeUnknown, Stopped,
+    TransactionRefused, Unavailable, VersionChanged,
 )
 from dilforec.service._compact import Sizes
 from dilforec.service._guard import Guard, Tokens
 from dilforec.service._reads import Limits
 from dilforec.service._snapshot import Answer, Hit, Snapshot
-from dilforec.service._store import Done, Store, Transaction
+from dilforec.service._store import Store
+from dilforec.service._transaction import Done, Transaction
+from dilforec.service._versions import version_of
 
 __all__ = [
-    "Answer", "Application", "Asgi", "BadJournal", "BadSchema", "Busy", "Done", "Hit", "Locked", "NoSuchDocument",
-    "NotWritten", "OutcomeUnknown", "Sizes", "Snapshot", "Stopped", "Store", "Transaction", "TransactionRefused",
-    "Unavailable", "application", "asgi",
+    "Answer", "Application", "Asgi", "BadJournal", "BadSchema", "Busy", "Done", "Hit", "KeyTaken", "Locked",
+    "NoSuchDocument", "NotWritten", "OutcomeUnknown", "Sizes", "Snapshot", "Stopped", "Store", "Transaction",
+    "TransactionRefused", "Unavailable", "VersionChanged", "application", "asgi", "version_of",
 ]
 
 

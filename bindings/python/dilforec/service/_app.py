@@ -9,9 +9,8 @@ from http import HTTPStatus
 from typing import TYPE_CHECKING, Optional, TypeVar, Union
 
 from dilforec.refusals import Refused
-from dilforec.service import _changes as changes
-from dilforec.service._changes import Change
-from dilforec.service._errors import Busy, NoSuchDocument, Unavailable
+from dilforec.service._changes import Change, Changes
+from dilforec.service._errors import BadSchema, Busy, KeyTaken, NoSuchDocument, Unavailable, VersionChanged
 from dilforec.service._guard import Guard
 from dilforec.service._http import HttpError, Request, Response, answer, bad, failure
 from dilforec.service._metrics import Metrics
@@ -33,9 +32,11 @@ _DOCUMENT = re.compile("/documents/(0|[1-9][0-9]{0,19})")
 _HEALTH = ("/healthz", "/readyz")
 _OPEN = ("/", *_HEALTH)
 # What pages of other sites may read, if their origin is allowed.
-_SHARED = ("/search", "/documents", "/documents/ID", "/status")
+_SHARED = ("/search", "/documents", "/documents/ID", "/documents/key/KEY", "/status", "/openapi.json")
+# These stand for many paths.
+_NAMED = ("/documents/ID", "/documents/key/KEY")
 # To read these takes less time than to hand them to another thread; so does to begin a change with a short body.
-_BRIEF = ("/", *_HEALTH, "/status", "/documents/ID")
+_BRIEF = ("/", *_HEALTH, "/status", "/documents/ID", "/documents/key/KEY")
 _BRIEF_BODY = 65_536
 
 
@@ -43,7 +44,7 @@ class Application:
     """Answers requests from a store. Any WSGI server runs it that has one process; several threads may call it.
 
     A server of another kind asks in steps, so that a body is read only once its head was let in, and so that changes
-    of several clients share a sync: `admit`, `begin`, `do` and `finish`, and `answered` at the end.
+    of several clients share a sync: `admit`, `begin`, `submit` and `finish`, and `answered` at the end.
     """
 
     def __init__(self, store: Optional[Store], guard: Guard, limits: Limits = Limits()) -> None:
@@ -60,16 +61,20 @@ class Application:
 
     def open(self, store: Store) -> None:
         """Answers from a store from now on."""
-        reads = Reads(store, self.metrics, self.limits)
+        reads, changes = Reads(store, self.metrics, self.limits), Changes(store)
         self._store = store
         self._calls.update({
             "/documents": {"GET": reads.list, "POST": changes.add},
             "/documents/ID": {"GET": reads.get, "PUT": changes.replace, "DELETE": changes.delete},
+            "/documents/key/KEY": {
+                "GET": reads.get_by_key, "PUT": changes.put_by_key, "DELETE": changes.delete_by_key,
+            },
             "/transaction": {"POST": changes.transaction},
             "/search": {"GET": reads.search},
             "/status": {"GET": reads.status},
             "/metrics": {"GET": reads.metrics},
             "/compact": {"POST": reads.compact},
+            "/openapi.json": {"GET": reads.openapi},
         })
 
     def __call__(self, environ: WSGIEnvironment, start_response: StartResponse) -> "Iterable[bytes]":
@@ -90,7 +95,8 @@ class Application:
         begun = self.begin(request, call)
         if isinstance(begun, Response):
             return begun
-        self.do([begun])
+        assert self._store is not None
+        self._store.do(begun.transaction)
         return self.finish(request, begun)
 
     # The steps
@@ -109,10 +115,10 @@ class Application:
         """Does all of a request but its change."""
         return self._tried(request, partial(call, request))
 
-    def do(self, begun: "Iterable[Change]") -> None:
-        """Does changes that were begun."""
+    def submit(self, begun: "Iterable[Change]", then: "Callable[[], None]") -> None:
+        """Has changes done that were begun, and calls `then` from another thread once they are."""
         assert self._store is not None
-        self._store.do([each.transaction for each in begun])
+        self._store.submit(*[each.transaction for each in begun], then=then)
 
     def finish(self, request: Request, change: Change) -> Response:
         """The answer to a change that was done."""
@@ -134,7 +140,7 @@ class Application:
         name = _name(request.path)
         if name not in _HEALTH:
             self.guard.host(request)
-        calls = self._calls.get(name)
+        calls = self._calls.get(name) if name == request.path or name in _NAMED else None
         if calls is None:
             raise self._no_call()
         asked = self.guard.asks_to_read(request) if name in _SHARED else None
@@ -170,8 +176,14 @@ class Application:
             return failure(error)
         except NoSuchDocument as error:
             return failure(HttpError(HTTPStatus.NOT_FOUND, "NoSuchDocument", str(error)))
+        except VersionChanged as error:
+            return failure(HttpError(HTTPStatus.PRECONDITION_FAILED, "VersionChanged", str(error)))
+        except KeyTaken as error:
+            return failure(HttpError(HTTPStatus.CONFLICT, "KeyTaken", str(error)))
         except Refused as error:
             return failure(bad(error.name, str(error)))
+        except BadSchema as error:
+            return failure(bad("BadSchema", str(error)))
         except Busy as error:
             return failure(HttpError(HTTPStatus.CONFLICT, "Busy", str(error)))
         except Unavailable as error:
@@ -201,7 +213,9 @@ class Application:
 
 def _name(path: str) -> str:
     """The name of a path's calls."""
-    return "/documents/ID" if _DOCUMENT.fullmatch(path) else path
+    if _DOCUMENT.fullmatch(path):
+        return "/documents/ID"
+    return "/documents/key/KEY" if path.startswith("/documents/key/") and path != "/documents/key/" else path
 
 
 def _request(environ: WSGIEnvironment) -> Request:

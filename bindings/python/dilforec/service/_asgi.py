@@ -1,25 +1,20 @@
-"""The application for servers of ASGI: one loop has all connections, threads read, and one more does the changes.
+"""The application for servers of ASGI: one loop has all connections, threads search, and the store's does the changes.
 
-With a thread for each change, most of the time would go to waking threads. So what waits is done at once, and what
-arrives in one round of the loop is handed on together.
+With a thread for each change, most of the time would go to waking threads. So what arrives in one round of the loop is
+handed on together, and wakes the loop together.
 """
 from __future__ import annotations
 
 import asyncio
-import logging
-import queue
-import threading
 from collections.abc import Awaitable, Callable, Iterator, Mapping
 from concurrent.futures import ThreadPoolExecutor
-from contextlib import contextmanager
+from contextlib import contextmanager, suppress
 from http import HTTPStatus
 from typing import Any, Dict, NamedTuple, Optional
 
 from dilforec.service._app import Application
 from dilforec.service._changes import Change
 from dilforec.service._http import HttpError, Request, Response, failure, too_large
-
-log = logging.getLogger("dilforec.service")
 
 Scope = Mapping[str, Any]
 Receive = Callable[[], Awaitable[Dict[str, Any]]]
@@ -46,8 +41,7 @@ class Asgi:
         self._together = Together(application)
 
     def close(self) -> None:
-        """Ends its threads, after the changes that wait."""
-        self._together.close()
+        """Ends its threads."""
         self._threads.shutdown(wait=False)
 
     async def __call__(self, scope: Scope, receive: Receive, send: Send) -> None:
@@ -118,7 +112,7 @@ class Asgi:
         return None
 
 
-class _Waiting(NamedTuple):
+class Waiting(NamedTuple):
     """A change that waits, and who waits for it."""
 
     change: Change
@@ -126,14 +120,12 @@ class _Waiting(NamedTuple):
 
 
 class Together:
-    """A thread that does changes: all that wait at a time at once, so that they share a sync."""
+    """Hands on changes to the store's thread: what comes in one round of the loop together."""
 
     def __init__(self, application: Application) -> None:
         self._application = application
-        # What has come in this round of the loop.
-        self._round: "list[_Waiting]" = []
-        self._waiting: "queue.SimpleQueue[Optional[list[_Waiting]]]" = queue.SimpleQueue()
-        self._thread: Optional[threading.Thread] = None
+        # What has come in this round.
+        self._round: "list[Waiting]" = []
 
     async def do(self, change: Change) -> None:
         """Has a change done. It says itself what came of it."""
@@ -141,56 +133,24 @@ class Together:
         done: "asyncio.Future[None]" = loop.create_future()
         if not self._round:
             loop.call_soon(self._hand_on, loop)
-        self._round.append(_Waiting(change, done))
+        self._round.append(Waiting(change, done))
         await done
 
-    def close(self) -> None:
-        """Ends the thread, after what waits."""
-        if self._thread:
-            self._waiting.put(None)
-            self._thread.join()
-            self._thread = None
-
     def _hand_on(self, loop: asyncio.AbstractEventLoop) -> None:
-        if self._thread is None:
-            self._thread = threading.Thread(target=self._work, args=(loop,), name="dilforec-changes", daemon=True)
-            self._thread.start()
-        self._waiting.put(self._round)
-        self._round = []
+        jobs, self._round = self._round, []
 
-    def _work(self, loop: asyncio.AbstractEventLoop) -> None:
-        ends = False
-        while not ends:
-            given = [self._waiting.get()]
-            while not self._waiting.empty():
-                given.append(self._waiting.get())
-            ends = None in given
-            jobs = [job for each in given for job in each or ()]
-            if jobs:
-                self._do(loop, jobs)
+        def then() -> None:
+            # If the loop was closed, so were the connections of those who wait.
+            with suppress(RuntimeError):
+                loop.call_soon_threadsafe(_settle, jobs)
 
-    def _do(self, loop: asyncio.AbstractEventLoop, jobs: "list[_Waiting]") -> None:
-        error: Optional[BaseException] = None
-        try:
-            self._application.do([job.change for job in jobs])
-        except BaseException as raised:
-            log.exception("changes failed")
-            error = raised
-        try:
-            loop.call_soon_threadsafe(_settle, jobs, error)
-        except RuntimeError:
-            # The loop was closed, and with it the connections of those who wait.
-            pass
+        self._application.submit([job.change for job in jobs], then)
 
 
-def _settle(jobs: "list[_Waiting]", error: Optional[BaseException]) -> None:
+def _settle(jobs: "list[Waiting]") -> None:
     for job in jobs:
-        if job.done.done():
-            continue
-        if error is None:
+        if not job.done.done():
             job.done.set_result(None)
-        else:
-            job.done.set_exception(RuntimeError(f"changes failed: {error!r}"))
 
 
 def head_too_large() -> HttpError:

@@ -15,6 +15,7 @@ from dilforec.service._refusal import Refusal
 from dilforec.service._serve import serve
 from dilforec.service._store import Store
 
+_KEY = "a keyword or number field by whose values documents are known, each value once"
 _ORIGIN = re.compile(r"https?://[^/\s,;*@?#]+", re.IGNORECASE)
 
 
@@ -32,6 +33,10 @@ def parser() -> argparse.ArgumentParser:
     loading.add_argument("files", metavar="FILE", nargs="+", help="a JSON text on each line; CSV if it ends with .csv")
     loading.add_argument("--journal", metavar="FILE", required=True, help="where the documents are kept; made if it isn't there")
     loading.add_argument("--schema", metavar="FILE", help="the fields, as a JSON list; those of the journal if it is there")
+    loading.add_argument("--key", metavar="FIELD", help=_KEY)
+    compact.add_argument("--schema", metavar="FILE", help="the fields from now on, as a JSON list")
+    compact.add_argument("--drop", metavar="FIELD", action="append", default=[],
+                         help="a field that isn't in the schema any more; again for more")
     for each in serving, compact, loading:
         each.add_argument("--log", metavar="LEVEL", default="info", choices=["debug", "info", "warning", "error"],
                           help="debug, info (default), warning or error")
@@ -43,6 +48,7 @@ def _add_serving(serve: argparse.ArgumentParser) -> None:
     kept.add_argument("--schema", metavar="FILE", help="the fields, as a JSON list; `id` is added")
     kept.add_argument("--example", action="store_true", help="serve a few books, in a journal that is new")
     serve.add_argument("--journal", metavar="FILE", help="where the documents are kept; made if it isn't there")
+    serve.add_argument("--key", metavar="FIELD", help=_KEY)
     serve.add_argument("--listen", metavar="HOST:PORT", type=_address, default=("127.0.0.1", 8090),
                        help="where to listen (127.0.0.1:8090), or unix:PATH")
     serve.add_argument("--host", metavar="NAME[:PORT]", action="append", default=[],
@@ -116,9 +122,11 @@ def _said(error: object, status: int) -> int:
 
 
 def _compact(given: argparse.Namespace) -> int:
-    fields = schema.of_journal(given.journal)
-    with Store(fields, given.journal, progress=schema.Progress()) as store:
-        before, after = store.compact()
+    if given.drop and not given.schema:
+        raise Refusal("--drop needs --schema, the fields that are left")
+    wanted = schema.of_file(given.schema) if given.schema else None
+    with Store(schema.of_journal(given.journal), given.journal, progress=schema.Progress()) as store:
+        before, after = store.compact(schema=wanted, drop=given.drop)
         print(f"{len(store):,} documents; the journal had {before:,} bytes, and has {after:,}")
     return 0
 

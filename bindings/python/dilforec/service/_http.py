@@ -1,7 +1,6 @@
 """Requests and responses, whichever server has them: their parts, their bodies, and errors as JSON."""
 from __future__ import annotations
 
-import json
 import re
 from collections.abc import Iterator, Mapping
 from http import HTTPStatus
@@ -9,6 +8,7 @@ from typing import Any, NamedTuple, Optional
 from urllib.parse import parse_qsl
 
 from dilforec.index import encoder
+from dilforec.service._lines import read_json
 
 JSON = "application/json"
 JSON_LINES = "application/x-ndjson"
@@ -102,16 +102,9 @@ def too_large(limit: int) -> HttpError:
     return HttpError(HTTPStatus.REQUEST_ENTITY_TOO_LARGE, "BodyTooLarge", f"the body is over {limit} bytes")
 
 
-def _refused_constant(name: str) -> None:
-    raise ValueError(f"{name} isn't JSON")
-
-
-_load = json.JSONDecoder(parse_constant=_refused_constant).decode
-
-
 def _loaded(data: bytes, at: Optional[int] = None) -> Any:
     try:
-        return _load(data.decode())
+        return read_json(data.decode())
     except UnicodeDecodeError as error:
         raise bad("BadJson", f"byte {error.start} of the text isn't UTF-8", at) from None
     except (ValueError, RecursionError) as error:

@@ -58,7 +58,7 @@ def load(given: argparse.Namespace) -> int:
     fields = schema.of_file(given.schema) if given.schema else schema.of_journal(given.journal)
     files = [os.path.abspath(path) for path in given.files]
     sizes = [_size(path) for path in files]
-    with Store(fields, given.journal, progress=schema.Progress()) as store:
+    with Store(fields, given.journal, key=given.key, progress=schema.Progress()) as store:
         notes = _Notes(given.journal, store, files)
         before, bar = len(store), _Bar(sum(sizes))
         for path, size in zip(files, sizes):
@@ -215,8 +215,10 @@ class _Notes:
     def _go_on(self, left: Loading, store: Store, files: "Sequence[str]") -> None:
         if left.file not in files:
             raise Refusal(f"a load of {left.file} was cut off: load it again, which goes on there, or remove {self._path}")
-        is_there = left.end != left.start and store.commits >= left.commit and _is_there(left, store)
-        if store.commits > left.commit and left.end != left.start and not is_there:
+        # What is loaded again replaces itself in a store with a key.
+        is_pending = left.end != left.start and store.key is None
+        is_there = is_pending and store.commits >= left.commit and _is_there(left, store)
+        if is_pending and not is_there and store.commits > left.commit:
             raise Refusal(
                 f"others changed the journal after a load of {left.file} was cut off, so that it isn't known whether its "
                 f"lines {left.start.line} to {left.end.line - 1} are there: look, and remove {self._path}"

@@ -38,6 +38,14 @@ def limit(text: str) -> int:
     return found
 
 
+def after(text: str) -> "tuple[int, int]":
+    """The last hit of the page before: the value that it is ordered by, and its number."""
+    found = re.fullmatch("(-?[0-9]{1,20}),([0-9]{1,20})", text)
+    if not found:
+        raise bad("BadParameter", "after is the value and the id of a hit, as 1986,7")
+    return int(found[1]), number("the id of `after`", found[2])
+
+
 def top(text: str) -> Top:
     """A top list."""
     words = text.split(",")

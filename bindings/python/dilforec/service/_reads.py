@@ -3,17 +3,19 @@ from __future__ import annotations
 
 import secrets
 from http import HTTPStatus
-from typing import NamedTuple
+from typing import Any, NamedTuple
 
 from dilforec.refusals import Syntax
 from dilforec.service import _parameters as parameters
-from dilforec.service._changes import document_id
+from dilforec.service._changes import document_id, document_key
 from dilforec.service._errors import NoSuchDocument
 from dilforec.service._http import Request, Response, answer, bad, tagged, unchanged
 from dilforec.service._metrics import Metrics, resident_bytes
+from dilforec.service._openapi import described
 from dilforec.service._snapshot import Snapshot
 from dilforec.service._store import Store
-from dilforec.values import as_json
+from dilforec.service._versions import version_of
+from dilforec.values import Field, as_json
 
 
 class Limits(NamedTuple):
@@ -33,7 +35,8 @@ class Reads:
 
     def search(self, request: Request) -> Response:
         """A search."""
-        given = request.parameters("q", "top", lists=("groups", "fields"))
+        given = request.parameters("q", "top", "after", lists=("groups", "fields"))
+        after = parameters.after(given["after"]) if "after" in given else None
         top = parameters.top(given["top"]) if "top" in given else None
         fields = parameters.names(given["fields"]) if "fields" in given else None
         query, groups = given.get("q", "*"), parameters.groups(given.get("groups", ""))
@@ -43,7 +46,7 @@ class Reads:
                 tag = self._tag(snapshot)
                 if request.knows(tag):
                     return unchanged(tag)
-                found = snapshot.search(query, groups=list(groups), top=top, fields=fields)
+                found = snapshot.search(query, groups=list(groups), top=top, fields=fields, after=after)
         except Syntax as error:
             # The package tells it in characters.
             raise bad("Syntax", str(error), None if error.at is None else len(query[:error.at].encode())) from None
@@ -76,13 +79,20 @@ class Reads:
             return tagged(self._limited({"documents": snapshot.documents(after, limit)}), tag)
 
     def get(self, request: Request) -> Response:
-        """A document."""
-        request.parameters()
+        """The document of a number."""
         id = document_id(request)
         document = self._store.get(id)
         if document is None:
             raise NoSuchDocument(id)
-        return answer(document)
+        return _document(request, document)
+
+    def get_by_key(self, request: Request) -> Response:
+        """The document of a key."""
+        key = document_key(request, self._store)
+        document = self._store.get_by_key(key)
+        if document is None:
+            raise NoSuchDocument(key)
+        return _document(request, document)
 
     def status(self, request: Request) -> Response:
         """How large the store is, and its schema."""
@@ -93,7 +103,7 @@ class Reads:
             return answer({
                 "documents": stats.live, "segments": stats.segments, "commit": snapshot.commit,
                 "writable": store.writable, "journal_bytes": store.journal_bytes, "resident_bytes": resident_bytes(),
-                "schema": [as_json(field) for field in store.fields],
+                "schema": [as_json(field) for field in store.fields], "key": store.key,
             })
 
     def metrics(self, request: Request) -> Response:
@@ -114,6 +124,25 @@ class Reads:
         return Response(HTTPStatus.OK, text.encode(), "text/plain; version=0.0.4; charset=utf-8")
 
     def compact(self, request: Request) -> Response:
-        """Writes the journal anew."""
+        """Writes the journal anew, maybe with another schema."""
         request.parameters()
-        return answer(self._store.compact()._asdict())
+        if not request.body.strip():
+            return answer(self._store.compact()._asdict())
+        given = request.json()
+        if not isinstance(given, dict) or set(given) - {"schema", "drop"} or not isinstance(given.get("drop", []), list):
+            raise bad("BadSchema", "a compaction takes nothing, or a schema and the names of fields to drop")
+        try:
+            fields = [Field(**field) for field in given["schema"]]
+        except (KeyError, TypeError, ValueError) as error:
+            raise bad("BadSchema", f"a schema is a list of fields with name, kind and default: {error}") from None
+        return answer(self._store.compact(schema=fields, drop=given.get("drop", []))._asdict())
+
+    def openapi(self, request: Request) -> Response:
+        """What the service answers, as OpenAPI describes it."""
+        request.parameters()
+        return answer(described(self._store.fields, self._store.key))
+
+
+def _document(request: Request, document: "dict[str, Any]") -> Response:
+    version = version_of(document)
+    return unchanged(version) if request.knows(version) else tagged(answer(document), version)

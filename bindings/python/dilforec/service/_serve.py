@@ -83,7 +83,7 @@ class _Opening(threading.Thread):
         """The store, with the example's documents if it is new and they are wanted."""
         given = self._given
         fields = example.SCHEMA if given.example else schema.of_file(given.schema)
-        store = Store(fields, self._path, progress=self._progress)
+        store = Store(fields, self._path, key=given.key, progress=self._progress)
         if store.torn:
             log.warning("cut %d bytes off the journal, of a transaction that wasn't acknowledged", store.torn)
         if given.example and not store.commits:

@@ -4,90 +4,43 @@ from __future__ import annotations
 import json
 import logging
 import os
+import re
 import threading
-from collections.abc import Callable, Iterable, Iterator, Mapping, Sequence
+from collections.abc import Callable, Collection, Iterable, Iterator, Mapping, Sequence
 from contextlib import contextmanager
-from typing import Any, NamedTuple, Optional, Union
+from typing import Any, Optional, Union
+from weakref import WeakSet
 
-from dilforec.index import Index
+from dilforec import sentences
+from dilforec.index import Index, Searcher
+from dilforec.library import Closed
 from dilforec.refusals import Refused
 from dilforec.service import _lines as lines
 from dilforec.service._compact import Compaction, Sizes
 from dilforec.service._disk import Disk
-from dilforec.service._errors import (
-    BadSchema, Busy, NotWritten, OutcomeUnknown, Stopped, TransactionRefused,
-)
+from dilforec.service._errors import BadSchema, Busy, NotWritten, OutcomeUnknown, Stopped, TransactionRefused
 from dilforec.service._journal import Journal
+from dilforec.service._lines import Key
 from dilforec.service._merger import Merger
-from dilforec.service._replay import Progress, replay
+from dilforec.service._replay import Progress, replay, replay_source
 from dilforec.service._snapshot import Answer, Snapshot
-from dilforec.service._turns import Turns
-from dilforec.service._writer import Pending, Writer
+from dilforec.service._top import After
+from dilforec.service._transaction import Done, Transaction
+from dilforec.service._worker import Call, Job, Worker
+from dilforec.service._writer import Writer
 from dilforec.values import Field, Top
 
 log = logging.getLogger("dilforec.service")
 
 PathLike = Union[str, "os.PathLike[str]"]
 
-
-class Done(NamedTuple):
-    """What came of a transaction: the numbers of the documents that it added, in its order, and its commit's."""
-
-    ids: "tuple[int, ...]"
-    commit: int
+_NUMBER = re.compile("0|-?[1-9][0-9]{0,19}")
 
 
-class Transaction:
-    """Operations that are done together, in their order, or not at all. Store.transaction opens one."""
+class _Compacting(Job):
+    """A compaction that was asked for."""
 
-    def __init__(self) -> None:
-        self._operations: "list[lines.Operation]" = []
-        self._done: Optional[Done] = None
-
-    def add(self, document: "Mapping[str, Any]") -> None:
-        """Adds a document, to which the store gives a number, so it has none: else ValueError is raised."""
-        self._operations.append(lines.add(document))
-
-    def delete(self, field: str, value: "Union[str, int]") -> None:
-        """Deletes the documents that have a value: a whole keyword, a number, `id` too, or a word of a text."""
-        self._operations.append(lines.delete(field, value))
-
-    def delete_all(self) -> None:
-        """Deletes all documents."""
-        self._operations.append(lines.delete_all())
-
-    def command(self, command: object) -> None:
-        """Does what a script's line says, read from its JSON: {"add": ..}, {"delete": ..} or {"delete_all": true}."""
-        self._operations.append(lines.command(command))
-
-    def __len__(self) -> int:
-        """How many operations there are so far."""
-        return len(self._operations)
-
-    @property
-    def done(self) -> Done:
-        """What came of it, once it is committed."""
-        if self._done is None:
-            raise ValueError("the transaction isn't committed")
-        return self._done
-
-    @property
-    def ids(self) -> "tuple[int, ...]":
-        """The numbers of the documents that it added, in its order, once it is committed."""
-        return self.done.ids
-
-    @property
-    def commit(self) -> int:
-        """The number of its commit, once it is committed."""
-        return self.done.commit
-
-
-class _Alone:
-    """What has to be done while nothing is written."""
-
-    def __init__(self, call: "Callable[[], None]") -> None:
-        self.call = call
-        self.error: Optional[Exception] = None
+    sizes: Sizes
 
 
 class Store:
@@ -101,20 +54,27 @@ class Store:
     Each document has a number, which the store gives and which is never given again. What a call answered is on disk.
     Calls that change something raise NotWritten if the disk or memory refused, and then nothing was done;
     OutcomeUnknown if even that can't be said, and then Stopped until the store is opened again. Searches go on.
+
+    A thread of the store does all that changes it, and a call waits for that. If the wait is interrupted, as by Ctrl-C,
+    the change is done whole or not at all. In a child of a fork the store is closed; a snapshot that was taken before
+    may be searched there.
     """
 
     def __init__(
-        self, schema: Iterable[Field], journal: PathLike, *, progress: Optional[Progress] = None,
-        disk: Optional[Disk] = None,
+        self, schema: Iterable[Field], journal: PathLike, *, key: Optional[str] = None,
+        progress: Optional[Progress] = None, disk: Optional[Disk] = None,
     ) -> None:
         """Opens a store, from its journal if there is one, else with a new journal.
 
-        The schema is without `id`, which the store adds. `progress` is called now and then, with how many bytes of how
-        many were replayed, and how many documents there are so far. BadSchema, Locked, BadJournal, MemoryError or
-        OSError is raised, and the journal is as it was then.
+        The schema is without `id`, which the store adds. With a `key`, the name of a keyword or number field, each
+        document has a value there, and one that is added replaces the one of its key. `progress` is called now and
+        then, with how many bytes of how many were replayed, and how many documents there are so far. BadSchema, Locked,
+        BadJournal, MemoryError or OSError is raised, and the journal is as it was then.
         """
         self.fields = list(schema)
+        self.key = key
         self._all_fields = _with_id(self.fields)
+        self._key = _key_field(self.fields, key)
         _opened(self._all_fields).close()
         self._journal = Journal(os.fspath(journal), disk or Disk())
         try:
@@ -132,13 +92,16 @@ class Store:
         self.torn = journal.cut_tail() if journal.schema else journal.size
         if not journal.schema:
             journal.begin(schema)
-        self._writer = Writer(index, journal, numbers)
-        self._published = threading.Lock()
-        self._searcher, self._commit = index.searcher(), numbers.commit
-        self._turns: "Turns[Union[Pending, _Alone]]" = Turns(self._lead)
+        self._writer = Writer(index, journal, numbers, self._key)
+        # Why nothing can be searched any more.
+        self._closed: Optional[str] = None
+        # The last commit, and its number.
+        self._published = index.searcher(), numbers.commit
         self._merger = Merger(index, self._alone, self._show_merged)
-        self._compacting = threading.Lock()
-        self._closing = self._closed = False
+        self._compacting: Optional[threading.Thread] = None
+        self._closing = False
+        self._worker: "Worker[Job]" = Worker("dilforec-store", self._work)
+        _OPEN.add(self)
 
     def __enter__(self) -> Store:
         return self
@@ -152,22 +115,35 @@ class Store:
         Later calls raise Stopped, except `close`.
         """
         self._closing = True
-        with self._compacting:
-            self._alone(self._close)
+        call = Call(self._close)
+        self._worker.do(call)
+        # Another thread may have closed it, and not be done.
+        self._worker.wait_for_end()
+        if call.error and not isinstance(call.error, Stopped):
+            raise call.error
 
     def _check_open(self) -> None:
         if self._closing:
             raise Stopped("the store is closed")
 
     def _close(self) -> None:
-        if not self._closed:
-            self._closed = True
-            self._merger.close()
-            self._writer.stopped = "the store is closed"
-            with self._published:
-                self._searcher.close()
-            self._writer.index.close()
-            self._journal.close()
+        why = "the store is closed"
+        self._worker.end(why)
+        if self._compacting:
+            self._compacting.join()
+        self._merger.close()
+        self._writer.stopped = why
+        self._closed = why
+        self._published[0].close()
+        self._writer.index.close()
+        self._journal.close()
+        _OPEN.discard(self)
+
+    def _leave_to_parent(self) -> None:
+        """Closes the store in a child of a fork: the threads, the file and its lock are the parent's."""
+        why = "the store is closed in a child of a fork, and open in its parent"
+        self._closing, self._closed, self._writer.stopped = True, why, why
+        self._worker.forget(why)
 
     # What changes something
 
@@ -182,80 +158,117 @@ class Store:
 
         An operation that the index refuses raises TransactionRefused at the end.
         """
-        transaction = Transaction()
+        transaction = self.new_transaction()
         yield transaction
-        transaction._done = self._do(tuple(transaction._operations))
+        self.do(transaction)
+        if transaction.error:
+            raise transaction.error
+
+    def new_transaction(self) -> Transaction:
+        """A transaction for `do` or `submit`."""
+        return Transaction(self._key)
 
     def add(self, document: "Mapping[str, Any]") -> int:
-        """Adds a document, and returns its number. A refusal is an exception of its name, as dilforec.WrongKind."""
-        return self._do_one((lines.add(document),)).ids[0]
+        """Adds a document, and returns its number. A refusal is an exception of its name, as dilforec.WrongKind.
 
-    def replace(self, id: int, document: "Mapping[str, Any]") -> Done:
-        """Puts a document in the place of another, with its number. NoSuchDocument is raised if there is none."""
-        return self._do_one((lines.delete("id", id), lines.add(document, id)), id)
+        In a store with a key it replaces the document of its key, and has that one's number. ValueError is raised if it
+        has no key, or an `id`.
+        """
+        transaction = self.new_transaction()
+        transaction.add(document)
+        return self._done(transaction).ids[0]
 
-    def delete(self, id: int) -> Done:
-        """Deletes a document. NoSuchDocument is raised if there is none."""
-        return self._do_one((lines.delete("id", id),), id)
+    def replace(self, id: int, document: "Mapping[str, Any]", *, version: Optional[str] = None) -> Done:
+        """Puts a document in the place of another, with its number. NoSuchDocument is raised if there is none.
 
-    def _do_one(self, operations: "tuple[lines.Operation, ...]", needs: Optional[int] = None) -> Done:
+        With a version, which `version_of` tells of a document, VersionChanged is raised if it has another by now.
+        KeyTaken is raised if another document has its key.
+        """
+        transaction = self.new_transaction()
+        transaction.replace(id, document, version=version)
+        return self._done(transaction)
+
+    def delete(self, id: int, *, version: Optional[str] = None) -> Done:
+        """Deletes a document. NoSuchDocument is raised if there is none, VersionChanged as by `replace`."""
+        transaction = self.new_transaction()
+        transaction.delete_document(id, version=version)
+        return self._done(transaction)
+
+    def put_by_key(self, key: Key, document: "Mapping[str, Any]", *, version: Optional[str] = None) -> Done:
+        """Adds the document of a key, or puts it in the place of the one that is there, with its number.
+
+        With a version, as for `replace`, or "*", NoSuchDocument is raised if none is there. ValueError is raised if the
+        document has another key, or the store none.
+        """
+        transaction = self.new_transaction()
+        transaction.put_by_key(key, document, version=version)
+        return self._done(transaction)
+
+    def delete_by_key(self, key: Key, *, version: Optional[str] = None) -> Done:
+        """Deletes the document of a key. NoSuchDocument is raised if there is none, VersionChanged as by `replace`."""
+        transaction = self.new_transaction()
+        transaction.delete_by_key(key, version=version)
+        return self._done(transaction)
+
+    def key_of(self, text: str) -> Key:
+        """The key that a text means, as a part of an address. ValueError is raised if it is none, or there are none."""
+        if self._key is None:
+            raise ValueError("the store has no key")
+        if self._key.kind == "keyword":
+            return text
+        if not _NUMBER.fullmatch(text) or not sentences.is_of(self._key.kind, int(text)):
+            raise ValueError(f"{text!r} is no {self._key.kind} number, as {self.key!r} has")
+        return int(text)
+
+    def _done(self, transaction: Transaction) -> Done:
+        """What came of a transaction of one operation."""
+        self.do(transaction)
+        if isinstance(transaction.error, TransactionRefused):
+            raise transaction.error.refusal
+        return transaction.done
+
+    def do(self, *transactions: Transaction) -> None:
+        """Does transactions, each whole or not at all, in their order. Each has an `error` then, or is `done`.
+
+        ValueError is raised, and nothing done, if one of them has no operation or was handed in before.
+        """
+        _check_new(transactions)
+        self._worker.do(*transactions)
+
+    def submit(self, *transactions: Transaction, then: "Optional[Callable[[], None]]" = None) -> None:
+        """Hands in transactions, as `do` does, and doesn't wait.
+
+        `then` is called when all of them are done, in the thread of the store; in this one, if the store is closed. It
+        should take no time, and raise nothing.
+        """
+        _check_new(transactions)
+        self._worker.submit(*transactions, then=then)
+
+    def _work(self, waiting: "Iterable[Job]") -> int:
+        """Does what waits up to the next call, or that call."""
+        first = next(iter(waiting))
+        if isinstance(first, Call):
+            first.run()
+            return 1
+        taken = self._writer.commit(_transactions(waiting))
         try:
-            return self._do(operations, needs)
-        except TransactionRefused as error:
-            raise error.refusal from None
-
-    def _do(self, operations: "tuple[lines.Operation, ...]", needs: Optional[int] = None) -> Done:
-        if not operations:
-            raise ValueError("a transaction has at least one operation")
-        pending = Pending(operations, needs)
-        self.do([pending])
-        if pending.error:
-            raise pending.error
-        return Done(tuple(pending.ids), pending.commit)
-
-    def do(self, transactions: "Sequence[Pending]") -> None:
-        """Does transactions, each whole or not at all, and notes in each what came of it."""
-        self._turns.do(*transactions)
-
-    def _lead(self, jobs: "list[Union[Pending, _Alone]]") -> int:
-        try:
-            return self._lead_first(jobs)
-        except BaseException:
-            # The thread was interrupted, and all of them count as done.
-            for job in jobs:
-                if not (job.is_done if isinstance(job, Pending) else job.error):
-                    job.error = NotWritten("nothing was done: the thread whose turn it was was interrupted")
-            raise
-
-    def _lead_first(self, jobs: "list[Union[Pending, _Alone]]") -> int:
-        """Does the transactions of the beginning, or what comes first if that isn't one."""
-        transactions: "list[Pending]" = []
-        for job in jobs:
-            if isinstance(job, _Alone):
-                break
-            transactions.append(job)
-        if transactions:
-            taken = self._writer.commit(transactions)
             self._publish()
             self._merger.begin()
-            return taken
-        alone = jobs[0]
-        assert isinstance(alone, _Alone)
-        try:
-            alone.call()
-        except Exception as error:
-            alone.error = error
-        return 1
+        except Exception:
+            # The transactions are done all the same.
+            log.exception("searches don't see the last commit yet")
+        return taken
 
     def _alone(self, call: "Callable[[], None]") -> None:
-        job = _Alone(call)
-        self._turns.do(job)
+        """Has a call made while nothing is written."""
+        job = Call(call)
+        self._worker.do(job)
         if job.error:
             raise job.error
 
     def _publish(self) -> None:
         """Lets searches see the last commit. Without memory they see the one before, until the next."""
-        if self._commit != self._writer.numbers.commit:
+        if self.commits != self._writer.numbers.commit:
             self._show()
 
     def _show_merged(self) -> None:
@@ -269,31 +282,40 @@ class Store:
         except MemoryError:
             log.error("there was no memory for searches to see what the index has now")
             return
-        with self._published:
-            old, self._searcher, self._commit = self._searcher, searcher, self._writer.numbers.commit
+        (old, _), self._published = self._published, (searcher, self._writer.numbers.commit)
         old.close()
 
     # What searches
 
     def snapshot(self) -> Snapshot:
         """The last commit. It never waits for what is being written. Close it soon: it holds the commit's memory."""
-        with self._published:
+        while True:
             if self._closed:
-                raise Stopped("the store is closed")
-            return Snapshot(self._searcher.searcher(), self._commit)
+                raise Stopped(self._closed)
+            searcher, commit = self._published
+            try:
+                return Snapshot(searcher.searcher(), commit, self._key)
+            except Closed:
+                # A later commit was published meanwhile, or the store was closed.
+                continue
 
     def search(
         self, query: str, *, groups: Sequence[str] = (), top: Optional[Top] = None,
-        fields: Optional[Sequence[str]] = None,
+        fields: Optional[Sequence[str]] = None, after: Optional[After] = None,
     ) -> Answer:
         """What a query finds in the last commit, as Snapshot.search says."""
         with self.snapshot() as snapshot:
-            return snapshot.search(query, groups=groups, top=top, fields=fields)
+            return snapshot.search(query, groups=groups, top=top, fields=fields, after=after)
 
     def get(self, id: int) -> "Optional[dict[str, Any]]":
         """The document of a number, its `id` in it; None if there is none."""
         with self.snapshot() as snapshot:
             return snapshot.get(id)
+
+    def get_by_key(self, key: Key) -> "Optional[dict[str, Any]]":
+        """The document of a key, its `id` in it; None if there is none. ValueError if the store has no key."""
+        with self.snapshot() as snapshot:
+            return snapshot.get_by_key(key)
 
     def documents(self, after: int = 0, limit: int = 100) -> "list[dict[str, Any]]":
         """The documents with the smallest numbers above one, at most `limit`; none at the end."""
@@ -312,7 +334,7 @@ class Store:
     @property
     def commits(self) -> int:
         """The number of the last commit. It never falls."""
-        return self._commit
+        return self._published[1]
 
     @property
     def journal_bytes(self) -> int:
@@ -326,38 +348,83 @@ class Store:
 
     # The journal
 
-    def compact(self) -> Sizes:
+    def compact(self, *, schema: Optional[Iterable[Field]] = None, drop: Collection[str] = ()) -> Sizes:
         """Writes the journal anew with the live documents alone, while searches and transactions go on.
 
-        No answer changes by it. Busy is raised if another thread does it, NotWritten if there is no room; the journal
-        is as it was then.
+        No answer changes by it. With a schema, the store has those fields then: new ones are empty, those that it has no
+        more are named in `drop`, and are gone from the documents, default marks are as they are there. Transactions wait
+        for that as for a start, and there is an index of each schema meanwhile.
+
+        Busy is raised if another thread does it, BadSchema if a field would be lost or have another kind, NotWritten if
+        there is no room, or the file can't be given to the journal's owner; the journal is as it was then. So it is if
+        the wait is interrupted.
         """
-        if not self._compacting.acquire(blocking=False):
-            raise Busy("the journal is being compacted already")
+        compacting = _Compacting()
+        fields = [field for field in self.fields if field.name not in drop] if schema is None else list(schema)
         try:
-            return self._compact()
+            if schema is None and not drop:
+                self._alone(lambda: self._begin_compaction(compacting))
+                self._worker.wait(compacting)
+            else:
+                self._alone(lambda: self._change_schema(compacting, fields, frozenset(drop)))
+            if compacting.error:
+                raise compacting.error
+            return compacting.sizes
         except OSError as error:
             raise NotWritten(f"the journal wasn't compacted, and is as it was: {error.strerror or error}") from error
         finally:
-            self._compacting.release()
+            compacting.withdrawn = True
 
-    def _compact(self) -> Sizes:
-        begun: "list[tuple[Compaction, Snapshot]]" = []
-        self._alone(lambda: begun.append(self._begin_compaction()))
-        ((compaction, snapshot),) = begun
-        sizes: "list[Sizes]" = []
+    def _change_schema(self, compacting: _Compacting, fields: "list[Field]", drop: "frozenset[str]") -> None:
+        """Compacts to a schema, and makes an index of that, while nothing is written."""
+        if self._compacting:
+            raise Busy("the journal is being compacted already")
+        _check_change(self.fields, fields, drop, self.key)
+        all_fields = _with_id(fields)
+        empty = _opened(all_fields)
+        compaction, snapshot = self._compaction(compacting, lines.schema_line(all_fields), drop)
         try:
             with snapshot:
                 compaction.write(snapshot.ids())
-            compaction.follow()
-            self._alone(lambda: sizes.append(self._finish_compaction(compaction)))
-        except BaseException as error:
-            if not isinstance(error, OutcomeUnknown):
-                compaction.abandon()
+            index, _ = replay_source(compaction.source(), empty, lambda *_: self._check_wanted(compacting))
+            searcher = index.searcher()
+            compacting.sizes = self._finished(compaction)
+        except BaseException:
+            empty.close()
+            compaction.abandon()
             raise
-        return sizes[0]
+        self._adopt(index, searcher, fields)
 
-    def _begin_compaction(self) -> "tuple[Compaction, Snapshot]":
+    def _adopt(self, index: Index, searcher: Searcher, fields: "list[Field]") -> None:
+        """Goes on with another index of the same documents."""
+        old, (old_searcher, commit) = self._writer.index, self._published
+        self._merger.close()
+        self.fields, self._all_fields, self._key = fields, _with_id(fields), _key_field(fields, self.key)
+        self._writer.index, self._published = index, (searcher, commit)
+        self._merger = Merger(index, self._alone, self._show_merged)
+        old_searcher.close()
+        old.close()
+
+    def _begin_compaction(self, compacting: _Compacting) -> None:
+        """Begins a compaction up to the last commit, which a thread of its own writes."""
+        if self._compacting:
+            raise Busy("the journal is being compacted already")
+        compaction, snapshot = self._compaction(compacting)
+        thread = threading.Thread(
+            target=self._run_compaction, args=(compacting, compaction, snapshot), name="dilforec-compact", daemon=True,
+        )
+        self._compacting = thread
+        try:
+            thread.start()
+        except RuntimeError as error:
+            self._compacting = None
+            snapshot.close()
+            compaction.abandon()
+            raise NotWritten(f"the journal wasn't compacted, and is as it was: {error}") from error
+
+    def _compaction(
+        self, compacting: _Compacting, schema: Optional[bytes] = None, drop: Collection[str] = (),
+    ) -> "tuple[Compaction, Snapshot]":
         if self._writer.stopped:
             raise Stopped(self._writer.stopped)
         self._publish()
@@ -365,19 +432,71 @@ class Store:
         try:
             if snapshot.commit != self._writer.numbers.commit:
                 raise MemoryError("there was no memory to look at the last commit")
-            return Compaction(self._journal, self._writer.numbers, self._check_open), snapshot
+            return Compaction(
+                self._journal, self._writer.numbers, lambda: self._check_wanted(compacting), schema=schema, drop=drop,
+            ), snapshot
         except BaseException:
             snapshot.close()
             raise
 
-    def _finish_compaction(self, compaction: Compaction) -> Sizes:
+    def _check_wanted(self, compacting: _Compacting) -> None:
+        self._check_open()
+        if compacting.withdrawn:
+            raise Stopped("nobody waits for the compaction any more")
+
+    def _run_compaction(self, compacting: _Compacting, compaction: Compaction, snapshot: Snapshot) -> None:
+        try:
+            with snapshot:
+                compaction.write(snapshot.ids())
+            compaction.follow()
+            self._alone(lambda: self._finish_compaction(compacting, compaction))
+        except BaseException as error:
+            compacting.error = error if isinstance(error, Exception) else RuntimeError(repr(error))
+            compaction.abandon()
+        finally:
+            self._compacting = None
+            compacting.finish()
+
+    def _finish_compaction(self, compacting: _Compacting, compaction: Compaction) -> None:
         if self._writer.stopped:
             raise Stopped(self._writer.stopped)
+        compacting.sizes = self._finished(compaction)
+
+    def _finished(self, compaction: Compaction) -> Sizes:
         try:
             return compaction.finish()
         except OutcomeUnknown as error:
-            self._writer._stop(str(error))
+            self._writer.stop(str(error))
             raise
+
+
+# The stores of this process that are open.
+_OPEN: "WeakSet[Store]" = WeakSet()
+
+
+def _after_fork_in_child() -> None:
+    for store in list(_OPEN):
+        store._leave_to_parent()
+    _OPEN.clear()
+
+
+os.register_at_fork(after_in_child=_after_fork_in_child)
+
+
+def _check_new(transactions: "tuple[Transaction, ...]") -> None:
+    for each in transactions:
+        if not len(each):
+            raise ValueError("a transaction has at least one operation")
+        if each.is_submitted:
+            raise ValueError("a transaction is done once")
+
+
+def _transactions(waiting: "Iterable[Job]") -> "Iterator[Transaction]":
+    """The transactions that come first."""
+    for job in waiting:
+        if not isinstance(job, Transaction):
+            return
+        yield job
 
 
 def _is_schema(line: bytes, fields: "list[Field]") -> bool:
@@ -395,6 +514,32 @@ def _with_id(fields: "list[Field]") -> "list[Field]":
     if len(fields) >= 32:
         raise BadSchema(f"the schema has {len(fields)} fields: 31 at most, since the store adds `id`")
     return [*fields, Field("id", "u64")]
+
+
+def _key_field(fields: "list[Field]", key: Optional[str]) -> Optional[Field]:
+    if key is None:
+        return None
+    field = next((field for field in fields if field.name == key), None)
+    if field is None or field.kind == "text":
+        raise BadSchema(f"the key {key!r} is no keyword or number field of the schema")
+    return field
+
+
+def _check_change(old: "list[Field]", new: "list[Field]", drop: "frozenset[str]", key: Optional[str]) -> None:
+    """Raises BadSchema if a change of the schema would lose a field that isn't named, or the key."""
+    kinds = {field.name: field.kind for field in new}
+    unknown = sorted(drop - {field.name for field in old})
+    if unknown:
+        raise BadSchema(f"there is no field {unknown[0]!r} to drop")
+    if key in drop:
+        raise BadSchema(f"{key!r} can't be dropped, since it is the store's key")
+    for field in old:
+        if field.name in drop:
+            continue
+        if field.name not in kinds:
+            raise BadSchema(f"{field.name!r} isn't in the schema any more: it has to be named as dropped")
+        if kinds[field.name] != field.kind:
+            raise BadSchema(f"{field.name!r} is a {field.kind} field, and can't become a {kinds[field.name]} field")
 
 
 def _opened(fields: "list[Field]") -> Index:

@@ -1,0 +1,205 @@
+"""A thread that does jobs one after the other. Whoever hands one in waits for it at most, and does nothing of it."""
+from __future__ import annotations
+
+import logging
+import queue
+import threading
+from collections import deque
+from collections.abc import Callable, Iterable
+from typing import Generic, Optional, TypeVar
+
+from dilforec.service._errors import Stopped
+
+log = logging.getLogger("dilforec.service")
+
+
+class Event:
+    """Something that happens once. Unlike that of threading, no interrupt of a wait is in the way of `set`."""
+
+    def __init__(self) -> None:
+        # Each wait has a lock of its own, so that it leaves nothing that others need.
+        self._waits: "list[threading.Lock]" = []
+        self.is_set = False
+
+    def set(self) -> None:
+        """Ends all waits, also later ones."""
+        self.is_set = True
+        while self._waits:
+            self._waits.pop().release()
+
+    def wait(self) -> None:
+        """Returns when it has happened."""
+        lock = threading.Lock()
+        lock.acquire()
+        self._waits.append(lock)
+        if not self.is_set:
+            lock.acquire()
+
+
+class Job:
+    """Something that a worker does once. `error` is what was in its way."""
+
+    def __init__(self) -> None:
+        self.error: Optional[Exception] = None
+        # It was handed in; nobody waits for it any more, so it isn't begun if it wasn't.
+        self.is_submitted = self.withdrawn = False
+        self._over = Event()
+        self._then: Optional[_Countdown] = None
+
+    @property
+    def is_done(self) -> bool:
+        """Whether it is over."""
+        return self._over.is_set
+
+    def wait(self) -> None:
+        """Returns when it is over."""
+        self._over.wait()
+
+    def finish(self) -> None:
+        """Notes that it is over."""
+        self._over.set()
+        if self._then is not None:
+            self._then.less()
+
+
+class Call(Job):
+    """A call that a worker makes."""
+
+    def __init__(self, call: "Callable[[], None]") -> None:
+        super().__init__()
+        self._call = call
+
+    def run(self) -> None:
+        """Makes the call, and keeps its exception."""
+        try:
+            self._call()
+        except Exception as error:
+            self.error = error
+
+
+class _Countdown:
+    """A call that is made once each of several jobs is over, whatever threads they end in."""
+
+    def __init__(self, count: int, call: "Callable[[], None]") -> None:
+        self._left, self._call = list(range(count)), call
+
+    def less(self) -> None:
+        if self._left.pop() == 0:
+            self._call()
+
+
+J = TypeVar("J", bound=Job)
+
+
+class Worker(Generic[J]):
+    """A thread that has all the work, so that no other is ever in the middle of it.
+
+    `work` is given what waits, does a beginning of it, one job at least, and returns how many jobs that were. Signals
+    come to a program's first thread alone, so an interrupt may end a wait, and never the work.
+    """
+
+    def __init__(self, name: str, work: "Callable[[Iterable[J]], int]") -> None:
+        """Starts the thread. RuntimeError is raised if the system has none."""
+        self._work = work
+        self._queue: "queue.SimpleQueue[tuple[J, ...]]" = queue.SimpleQueue()
+        self._waiting: "deque[J]" = deque()
+        self._awaited: "set[Job]" = set()
+        # Why it takes no more jobs.
+        self._ended: Optional[str] = None
+        self._over = Event()
+        threading.Thread(target=self._run, name=name, daemon=True).start()
+
+    def submit(self, *jobs: J, then: "Optional[Callable[[], None]]" = None) -> None:
+        """Hands in jobs. `then` is called once all are over, in the worker's thread, or in this one if it has ended."""
+        if then is not None and not jobs:
+            then()
+        countdown = _Countdown(len(jobs), then) if then is not None else None
+        for job in jobs:
+            job.is_submitted, job._then = True, countdown
+        self._queue.put(jobs)
+        if self._ended is not None:
+            self._refuse_queued()
+
+    def do(self, *jobs: J) -> None:
+        """Hands in jobs, and returns when they are over. After an interrupt, those that weren't begun aren't."""
+        self.submit(*jobs)
+        self.wait(*jobs)
+
+    def wait(self, *jobs: Job) -> None:
+        """Returns when jobs are over; after an interrupt they are withdrawn."""
+        self._awaited.update(jobs)
+        try:
+            for job in jobs:
+                job.wait()
+        except BaseException:
+            for job in jobs:
+                job.withdrawn = True
+            raise
+        finally:
+            self._awaited.difference_update(jobs)
+
+    def end(self, why: str) -> None:
+        """Takes no more jobs: each that waits, or is handed in later, has the error Stopped. A job of its own calls it."""
+        self._ended = why
+        # The first is the one that calls this.
+        while len(self._waiting) > 1:
+            self._refuse(self._waiting.pop())
+        self._refuse_queued()
+
+    def wait_for_end(self) -> None:
+        """Returns when the thread has done its last job."""
+        self._over.wait()
+
+    def forget(self, why: str) -> None:
+        """Ends it in a child of a fork, which has no such thread. A wait that the fork interrupted ends, too."""
+        self._ended = why
+        self._queue = queue.SimpleQueue()
+        self._over.set()
+        for job in self._awaited:
+            if not job.is_done:
+                self._refuse(job)
+
+    def _run(self) -> None:
+        try:
+            while self._ended is None:
+                self._take()
+                if self._waiting:
+                    for _ in range(self._worked()):
+                        self._waiting.popleft().finish()
+        finally:
+            self._over.set()
+
+    def _take(self) -> None:
+        """Takes what was handed in; if nothing waits, as soon as something is."""
+        if not self._waiting:
+            self._add(self._queue.get())
+        while not self._queue.empty():
+            self._add(self._queue.get())
+
+    def _add(self, jobs: "tuple[J, ...]") -> None:
+        for job in jobs:
+            if job.withdrawn:
+                self._refuse(job)
+            else:
+                self._waiting.append(job)
+
+    def _worked(self) -> int:
+        try:
+            return self._work(self._waiting)
+        except BaseException as error:
+            log.exception("a job of the store failed")
+            self._waiting[0].error = error if isinstance(error, Exception) else RuntimeError(repr(error))
+            return 1
+
+    def _refuse_queued(self) -> None:
+        while True:
+            try:
+                jobs = self._queue.get_nowait()
+            except queue.Empty:
+                return
+            for job in jobs:
+                self._refuse(job)
+
+    def _refuse(self, job: Job) -> None:
+        job.error = Stopped(self._ended or "nothing was done: nobody waits for it any more")
+        job.finish()
