@@ -19,6 +19,7 @@ from typing import Optional
 
 from dilforec.service._app import Application
 from dilforec.service._asgi import Asgi
+from dilforec.service._client import Client, ClientTransaction, NotAllowed
 from dilforec.service._errors import (
     BadJournal, BadSchema, Busy, KeyTaken, Locked, NoSuchDocument, NotWritten, OutcomeUnknown, Stopped,
     TransactionRefused, Unavailable, VersionChanged,
@@ -32,9 +33,10 @@ from dilforec.service._transaction import Done, Transaction
 from dilforec.service._versions import version_of
 
 __all__ = [
-    "Answer", "Application", "Asgi", "BadJournal", "BadSchema", "Busy", "Done", "Hit", "KeyTaken", "Locked",
-    "NoSuchDocument", "NotWritten", "OutcomeUnknown", "Sizes", "Snapshot", "Stopped", "Store", "Transaction",
-    "TransactionRefused", "Unavailable", "VersionChanged", "application", "asgi", "version_of",
+    "Answer", "Application", "Asgi", "BadJournal", "BadSchema", "Busy", "Client", "ClientTransaction", "Done", "Hit",
+    "KeyTaken", "Locked", "NoSuchDocument", "NotAllowed", "NotWritten", "OutcomeUnknown", "Sizes", "Snapshot",
+    "Stopped", "Store", "Transaction", "TransactionRefused", "Unavailable", "VersionChanged", "application", "asgi",
+    "version_of",
 ]
 
 

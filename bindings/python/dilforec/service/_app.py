@@ -179,7 +179,7 @@ class Application:
         except VersionChanged as error:
             return failure(HttpError(HTTPStatus.PRECONDITION_FAILED, "VersionChanged", str(error)))
         except KeyTaken as error:
-            return failure(HttpError(HTTPStatus.CONFLICT, "KeyTaken", str(error)))
+            return failure(HttpError(HTTPStatus.CONFLICT, "KeyTaken", str(error), more={"key": error.key, "id": error.id}))
         except Refused as error:
             return failure(bad(error.name, str(error)))
         except BadSchema as error:

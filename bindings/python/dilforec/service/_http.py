@@ -23,11 +23,17 @@ _dump = encoder(allow_nan=True)
 
 
 class HttpError(Exception):
-    """A request that isn't answered as it was meant. `at` is the byte of a query, or the line of a body, from 1."""
+    """A request that isn't answered as it was meant. `at` is the byte of a query, or the line of a body, from 1.
 
-    def __init__(self, status: HTTPStatus, name: str, message: str, at: Optional[int] = None, **headers: str) -> None:
+    `more` has further members of the answer.
+    """
+
+    def __init__(
+        self, status: HTTPStatus, name: str, message: str, at: Optional[int] = None,
+        more: "Optional[dict[str, object]]" = None, **headers: str,
+    ) -> None:
         super().__init__(message)
-        self.status, self.name, self.message, self.at = status, name, message, at
+        self.status, self.name, self.message, self.at, self.more = status, name, message, at, more or {}
         self.headers = [(header.replace("_", "-"), value) for header, value in headers.items()]
 
 
@@ -86,7 +92,7 @@ def answer(value: object, status: HTTPStatus = HTTPStatus.OK) -> Response:
 
 def failure(error: HttpError) -> Response:
     """An error as JSON."""
-    told: "dict[str, object]" = {"error": error.name, "message": error.message}
+    told: "dict[str, object]" = {"error": error.name, "message": error.message, **error.more}
     if error.at is not None:
         told["at"] = error.at
     return answer(told, error.status)._replace(headers=tuple(error.headers))

@@ -193,7 +193,7 @@ def _schemas() -> Json:
     text, yes = {"type": "string"}, {"type": "boolean"}
     group = {"type": "array", "prefixItems": [{"type": ["string", "integer"]}, _NUMBER], "minItems": 2, "maxItems": 2}
     return {
-        "Error": _object({"error": text, "message": text}, {"at": _NUMBER}),
+        "Error": _object({"error": text, "message": text}, {"at": _NUMBER, "key": {"type": ["string", "integer"]}, "id": _NUMBER}),
         "Done": _object({"ids": {"type": "array", "items": _NUMBER}, "commit": _NUMBER}),
         "Documents": _object({"documents": _list_of("StoredDocument")}),
         "Command": {"anyOf": [
