@@ -125,6 +125,12 @@ class Application:
         self.metrics.took("transactions", change.began)
         return self._tried(request, change.response)
 
+    def failed(self, request: Request, error: Exception) -> Response:
+        """The answer if the service itself fails, which it logs."""
+        log.error("%a %a failed", request.method, request.path, exc_info=error)
+        words = "the service failed; its log says how"
+        return failure(HttpError(HTTPStatus.INTERNAL_SERVER_ERROR, "Failed", words))
+
     def answered(self, request: Request, response: Response) -> Response:
         """Counts an answer and logs it, and returns it with what a browser needs for a page of another site."""
         if request.method in ("GET", "HEAD", "OPTIONS") and _name(request.path) in _SHARED:
@@ -190,10 +196,8 @@ class Application:
             return failure(HttpError(HTTPStatus.SERVICE_UNAVAILABLE, type(error).__name__, str(error)))
         except MemoryError:
             return failure(HttpError(HTTPStatus.SERVICE_UNAVAILABLE, "Memory", "there was no memory; nothing was done"))
-        except Exception:
-            log.exception("%a %a failed", request.method, request.path)
-            words = "the service failed; its log says how"
-            return failure(HttpError(HTTPStatus.INTERNAL_SERVER_ERROR, "Failed", words))
+        except Exception as error:
+            return self.failed(request, error)
 
     # What needs no store
 

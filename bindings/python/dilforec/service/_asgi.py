@@ -9,6 +9,7 @@ import asyncio
 from collections.abc import Awaitable, Callable, Iterator, Mapping
 from concurrent.futures import ThreadPoolExecutor
 from contextlib import contextmanager, suppress
+from functools import partial
 from http import HTTPStatus
 from typing import Any, Dict, NamedTuple, Optional
 
@@ -22,6 +23,8 @@ Send = Callable[[Dict[str, Any]], Awaitable[None]]
 
 # The most bytes of a head, without what stands between its parts.
 LONGEST_HEAD = 81_920
+# A group of changes doesn't wait for more if so many rounds of the loop brought none; a request takes two or three.
+_QUIET_ROUNDS = 5
 # A body that nobody wants is read over if it isn't longer than the limit by more; else its connection is closed.
 SKIPPED = 1 << 20
 
@@ -64,9 +67,12 @@ class Asgi:
     async def _serve(self, scope: Scope, receive: Receive, send: Send) -> None:
         request = _request(scope)
         try:
-            response = self._application.answered(request, await self._answer(request, receive))
+            response = await self._answer(request, receive)
         except Gone:
             return
+        except Exception as error:
+            response = self._application.failed(request, error)
+        response = self._application.answered(request, response)
         headers = [(name.lower().encode("latin-1"), value.encode("latin-1")) for name, value in response.lines()]
         await send({"type": "http.response.start", "status": response.status.value, "headers": headers})
         await send({"type": "http.response.body", "body": b"" if request.method == "HEAD" else response.body})
@@ -120,37 +126,61 @@ class Waiting(NamedTuple):
 
 
 class Together:
-    """Hands on changes to the store's thread: what comes in one round of the loop together."""
+    """Hands on changes to the store's thread, a group at a time, so that those of many clients share a sync.
+
+    While a group is done, others gather. Clients that were just answered mostly ask again at once, so the next group
+    waits for as many as there were, until some rounds of the loop bring no more.
+    """
 
     def __init__(self, application: Application) -> None:
         self._application = application
-        # What has come in this round.
-        self._round: "list[Waiting]" = []
+        self._waiting: "list[Waiting]" = []
+        # Whether a group is gathered or done, and how many the next one has if all ask again.
+        self._is_busy, self._expected = False, 0
 
     async def do(self, change: Change) -> None:
         """Has a change done. It says itself what came of it."""
         loop = asyncio.get_running_loop()
         done: "asyncio.Future[None]" = loop.create_future()
-        if not self._round:
-            loop.call_soon(self._hand_on, loop)
-        self._round.append(Waiting(change, done))
+        self._waiting.append(Waiting(change, done))
+        if not self._is_busy:
+            self._is_busy = True
+            loop.call_soon(self._gather, loop, 0, 0)
         await done
 
-    def _hand_on(self, loop: asyncio.AbstractEventLoop) -> None:
-        jobs, self._round = self._round, []
+    def _gather(self, loop: asyncio.AbstractEventLoop, seen: int, quiet: int) -> None:
+        """Hands on what waits, unless more is expected."""
+        waiting = len(self._waiting)
+        quiet = quiet + 1 if waiting == seen else 0
+        if waiting < self._expected and quiet < _QUIET_ROUNDS:
+            loop.call_soon(self._gather, loop, waiting, quiet)
+            return
+        jobs, self._waiting = self._waiting, []
+        try:
+            self._application.submit([job.change for job in jobs], partial(self._wake, loop, jobs))
+        except Exception as error:
+            self._settle(loop, jobs, error)
 
-        def then() -> None:
-            # If the loop was closed, so were the connections of those who wait.
-            with suppress(RuntimeError):
-                loop.call_soon_threadsafe(_settle, jobs)
+    def _wake(self, loop: asyncio.AbstractEventLoop, jobs: "list[Waiting]") -> None:
+        # If the loop was closed, so were the connections of those who wait.
+        with suppress(RuntimeError):
+            loop.call_soon_threadsafe(self._settle, loop, jobs)
 
-        self._application.submit([job.change for job in jobs], then)
-
-
-def _settle(jobs: "list[Waiting]") -> None:
-    for job in jobs:
-        if not job.done.done():
-            job.done.set_result(None)
+    def _settle(
+        self, loop: asyncio.AbstractEventLoop, jobs: "list[Waiting]", error: Optional[Exception] = None,
+    ) -> None:
+        """Has a group answered, and begins the next."""
+        for job in jobs:
+            if job.done.done():
+                continue
+            if error is None:
+                job.done.set_result(None)
+            else:
+                job.done.set_exception(error)
+        self._expected = len(jobs) + len(self._waiting)
+        self._is_busy = bool(self._waiting)
+        if self._waiting:
+            loop.call_soon(self._gather, loop, 0, 0)
 
 
 def head_too_large() -> HttpError:
