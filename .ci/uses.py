@@ -264,10 +264,10 @@ def serves(python, name, variables):
     """The service of an installed package takes a document, finds it, and stops at SIGTERM."""
     with tempfile.TemporaryDirectory() as folder:
         # It is Python alone, so Debian's does for each Python.
-        if not service.DEBIAN.is_dir():
+        if not (service.DEBIAN / "waitress").is_dir():
             service.install("python3-waitress")
-        if service.DEBIAN.is_dir():
-            os.symlink(service.DEBIAN, f"{folder}/waitress")
+        if (service.DEBIAN / "waitress").is_dir():
+            os.symlink(service.DEBIAN / "waitress", f"{folder}/waitress")
         paths = os.pathsep.join(filter(None, [variables.get("PYTHONPATH"), folder]))
         variables = {**variables, "PYTHONPATH": paths}
         if run(python, "-c", "import waitress", cwd=folder, env=variables).returncode:

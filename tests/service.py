@@ -3,9 +3,9 @@
 
     python3 tests/service.py
 
-Link the package's shared object first: `rt lib` in crates/fts_c, then bindings/build.sh. A Chromium and waitress that
-aren't there are installed by apt-get, if this runs as root on a machine that has it, unless DILFOREC_INSTALL is 0;
-else what needs them is skipped, and counted. The last line is 'N passed, M failed'.
+Link the package's shared object first, by `make`. A Chromium, waitress, hypothesis and gunicorn that aren't there are
+installed by apt-get, if this runs as root on a machine that has it, unless DILFOREC_INSTALL is 0; else what needs them
+is skipped, and counted. The last line is 'N passed, M failed'.
 """
 from __future__ import annotations
 
@@ -22,7 +22,10 @@ import tempfile
 HERE = pathlib.Path(__file__).resolve().parent
 PACKAGE = HERE.parent / "bindings/python"
 TESTS = PACKAGE / "tests"
-DEBIAN = pathlib.Path("/usr/lib/python3/dist-packages/waitress")
+DEBIAN = pathlib.Path("/usr/lib/python3/dist-packages")
+# Debian's packages that are of Python alone, so that they do for each version, and their modules.
+WAITRESS = "python3-waitress", ("waitress",)
+HYPOTHESIS = "python3-hypothesis", ("hypothesis", "attr", "sortedcontainers", "exceptiongroup")
 BROWSERS = ("chromium", "chromium-browser", "google-chrome")
 
 
@@ -40,15 +43,15 @@ def install(package: str) -> None:
         print(f"service: installing {package} took too long", flush=True)
 
 
-def with_waitress(folder: str) -> list[str]:
-    """The folders of modules that give this Python waitress; it is Python alone, so Debian's does for each version."""
-    if importlib.util.find_spec("waitress"):
-        return []
-    if not DEBIAN.is_dir():
-        install("python3-waitress")
-    if DEBIAN.is_dir():
-        os.symlink(DEBIAN, os.path.join(folder, "waitress"))
-    return [folder]
+def add_modules(folder: str, package: str, modules: tuple[str, ...]) -> None:
+    """Puts a package's modules into a folder, if this Python lacks the first of them."""
+    if importlib.util.find_spec(modules[0]):
+        return
+    if not (DEBIAN / modules[0]).is_dir():
+        install(package)
+    for module in modules:
+        if (DEBIAN / module).is_dir() and not importlib.util.find_spec(module):
+            os.symlink(DEBIAN / module, os.path.join(folder, module))
 
 
 def run(test: pathlib.Path, paths: list[str]) -> tuple[str, int, int, int, str]:
@@ -67,10 +70,14 @@ def main() -> int:
     passed = failed = 0
     if not any(map(shutil.which, BROWSERS)):
         install("chromium")
+    if not shutil.which("gunicorn"):
+        install("gunicorn")
     with tempfile.TemporaryDirectory() as folder, concurrent.futures.ThreadPoolExecutor(4) as pool:
         # The environment's package comes first, such as one that is installed.
         given = [path for path in [os.environ.get("PYTHONPATH", "")] if path]
-        paths = [*given, str(PACKAGE), str(TESTS), *with_waitress(folder)]
+        paths = [*given, str(PACKAGE), str(TESTS), folder]
+        for package, modules in WAITRESS, HYPOTHESIS:
+            add_modules(folder, package, modules)
         tests = sorted(TESTS.glob("test_service_*.py"))
         for name, good, bad, skipped, said in pool.map(lambda test: run(test, paths), tests):
             passed, failed = passed + good, failed + bad
