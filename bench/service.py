@@ -29,7 +29,7 @@ import sys
 import tempfile
 import threading
 import time
-from collections.abc import Iterator, Sequence
+from collections.abc import Iterable, Iterator
 from contextlib import contextmanager
 from typing import Any, Optional
 
@@ -41,10 +41,8 @@ if not os.environ.get("PYTHONPATH"):
 import corpus  # noqa: E402
 from dilforec import Field, Top  # noqa: E402
 from dilforec.index import to_line  # noqa: E402
-from dilforec.service import Store, application  # noqa: E402
-from dilforec.service import _lines as lines  # noqa: E402
-from dilforec.service._turns import Turns  # noqa: E402
-from dilforec.service._writer import Pending  # noqa: E402
+from dilforec.service import Store, Transaction, application  # noqa: E402
+from dilforec.service._worker import Worker  # noqa: E402
 
 FIELDS = [Field(**field) for field in corpus.SCHEMA["schema"]]
 CLIENTS = (1, 4, 16)
@@ -65,7 +63,7 @@ class FtsStore:
             CREATE VIRTUAL TABLE IF NOT EXISTS bodies USING fts5(body, content='');
         """)
         self.last = self.writer.execute("SELECT coalesce(max(id), 0) FROM documents").fetchone()[0]
-        self.turns: Turns[Pending] = Turns(self.lead if shares else self.lead_one)
+        self.worker: Worker[Transaction] = Worker("fts5", self.write if shares else self.write_one)
 
     def opened(self) -> sqlite3.Connection:
         connection = sqlite3.connect(self.path, check_same_thread=False, isolation_level=None)
@@ -73,26 +71,31 @@ class FtsStore:
         connection.execute("PRAGMA cache_size = -262144")
         return connection
 
-    def lead(self, jobs: list[Pending]) -> int:
+    def write(self, waiting: Iterable[Transaction]) -> int:
+        transactions = list(waiting)
         self.writer.execute("BEGIN IMMEDIATE")
-        for job in jobs:
-            for operation in job.operations:
+        for each in transactions:
+            first = self.last + 1
+            for operation in each.operations:
                 self.last += 1
                 document = json.loads(operation.text)
                 self.writer.execute("INSERT INTO documents VALUES (?, ?, ?, ?)",
                                     (self.last, document["tag"], document["price"], operation.text.decode()))
                 self.writer.execute("INSERT INTO bodies (rowid, body) VALUES (?, ?)", (self.last, document["body"]))
-                job.ids.append(self.last)
+            each.drafted(b"", [], list(range(first, self.last + 1)))
         self.writer.execute("COMMIT")
-        for job in jobs:
-            job.commit = self.last
-        return len(jobs)
+        for each in transactions:
+            each.committed(self.last)
+        return len(transactions)
 
-    def lead_one(self, jobs: list[Pending]) -> int:
-        return self.lead(jobs[:1])
+    def write_one(self, waiting: Iterable[Transaction]) -> int:
+        return self.write(itertools.islice(waiting, 1))
 
-    def do(self, transactions: Sequence[Pending]) -> None:
-        self.turns.do(*transactions)
+    def new_transaction(self) -> Transaction:
+        return Transaction()
+
+    def do(self, *transactions: Transaction) -> None:
+        self.worker.do(*transactions)
 
     @contextmanager
     def snapshot(self) -> Iterator[FtsStore]:
@@ -136,9 +139,11 @@ def filled(folder: pathlib.Path, count: int) -> None:
     fts = FtsStore(str(folder / "database"))
     with Store(FIELDS, folder / "journal") as store:
         for start in range(0, count, 10_000):
-            operations = tuple(map(lines.add, documents[start : start + 10_000]))
-            store.do([Pending(operations)])
-            fts.do([Pending(operations)])
+            for each in store, fts:
+                transaction = each.new_transaction()
+                for document in documents[start : start + 10_000]:
+                    transaction.add(document)
+                each.do(transaction)
         store.compact()
         fts.writer.execute("INSERT INTO bodies (bodies) VALUES ('optimize')")
     (folder / "schema.json").write_text(json.dumps([vars(field) for field in FIELDS]))

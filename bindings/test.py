@@ -174,6 +174,10 @@ def in_rust():
         step("Rust", *cargo, cwd=rust, counts=results)
         step("Rust, each growth refused", *cargo, "--test", "growths", "--", "--nocapture", cwd=rust, counts=results,
              env={**os.environ, "LD_PRELOAD": str(refuse)})
+        with tempfile.TemporaryDirectory() as folder:
+            named = shutil.copy(link.ARCHIVE, pathlib.Path(folder, "another_name.a"))
+            step("Rust, an archive of another name", *cargo, "--test", "index", "--no-run", cwd=rust,
+                 env={**os.environ, "DILFOREC_ARCHIVE": str(named)})
     elif shutil.which("rustc"):
         made = OUT / "libdilforec.rlib"
         environment = {**os.environ, "CARGO_MANIFEST_DIR": str(rust), "CARGO_PKG_VERSION": "0"}

@@ -3,13 +3,14 @@
 
     python3 tests/service.py
 
-Link the package's shared object first, by `make`. A Chromium, uvicorn, httptools and uvloop that aren't there are
-installed by apt-get, if this runs as root on a machine that has it, unless DILFOREC_INSTALL is 0; else what needs them
-is skipped, and counted. The last line is 'N passed, M failed'.
+Link the package's shared object first, by `make`. A Chromium, uvicorn, httptools, uvloop, hypothesis and gunicorn that
+aren't there are installed by apt-get, if this runs as root on a machine that has it, unless DILFOREC_INSTALL is 0; else
+what needs them is skipped, and counted. The last line is 'N passed, M failed'.
 """
 from __future__ import annotations
 
 import concurrent.futures
+import importlib.util
 import os
 import pathlib
 import re
@@ -25,6 +26,8 @@ DEBIAN = pathlib.Path("/usr/lib/python3/dist-packages")
 # What the service needs to serve, as Debian's packages and as their modules and those of what they need.
 PACKAGES = ("python3-uvicorn", "python3-httptools", "python3-uvloop")
 MODULES = ("uvicorn", "httptools", "uvloop", "asgiref", "click", "h11", "typing_extensions.py")
+# Debian's packages that are of Python alone, so that they do for each version, and their modules.
+HYPOTHESIS = "python3-hypothesis", ("hypothesis", "attr", "sortedcontainers", "exceptiongroup")
 BROWSERS = ("chromium", "chromium-browser", "google-chrome")
 
 
@@ -61,6 +64,17 @@ def serves(python: str, folder: str) -> bool:
     return there(folder)
 
 
+def add_modules(folder: str, package: str, modules: tuple[str, ...]) -> None:
+    """Puts a package's modules into a folder, if this Python lacks the first of them."""
+    if importlib.util.find_spec(modules[0]):
+        return
+    if not (DEBIAN / modules[0]).is_dir():
+        install(package)
+    for module in modules:
+        if (DEBIAN / module).is_dir() and not importlib.util.find_spec(module):
+            os.symlink(DEBIAN / module, os.path.join(folder, module))
+
+
 def run(test: pathlib.Path, paths: list[str]) -> tuple[str, int, int, int, str]:
     """How many tests of a file passed, failed and were skipped, and what it said."""
     environment = {**os.environ, "PYTHONPATH": os.pathsep.join(paths), "PYTHONDONTWRITEBYTECODE": "1"}
@@ -77,11 +91,14 @@ def main() -> int:
     passed = failed = 0
     if not any(map(shutil.which, BROWSERS)):
         install("chromium")
+    if not shutil.which("gunicorn"):
+        install("gunicorn")
     with tempfile.TemporaryDirectory() as folder, concurrent.futures.ThreadPoolExecutor(4) as pool:
         # The environment's package comes first, such as one that is installed.
         given = [path for path in [os.environ.get("PYTHONPATH", "")] if path]
-        serves(sys.executable, folder)
         paths = [*given, str(PACKAGE), str(TESTS), folder]
+        serves(sys.executable, folder)
+        add_modules(folder, *HYPOTHESIS)
         tests = sorted(TESTS.glob("test_service_*.py"))
         for name, good, bad, skipped, said in pool.map(lambda test: run(test, paths), tests):
             passed, failed = passed + good, failed + bad

@@ -193,7 +193,8 @@ class Gunicorn(Stored):
             port = bound.getsockname()[1]
         paths = [str(self.folder), str(HERE), os.environ.get("PYTHONPATH", "")]
         server = subprocess.Popen(
-            [shutil.which("gunicorn"), "--preload", "--workers", "2", "--bind", f"127.0.0.1:{port}", "preloaded:application"],
+            [shutil.which("gunicorn"), "--preload", "--workers", "2", "--graceful-timeout", "2",
+             "--bind", f"127.0.0.1:{port}", "preloaded:application"],
             env={**os.environ, "PYTHONPATH": os.pathsep.join(paths), "JOURNAL": str(self.journal)},
             stdout=subprocess.DEVNULL, stderr=subprocess.DEVNULL,
         )

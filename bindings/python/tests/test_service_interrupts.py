@@ -1,4 +1,4 @@
-"""Interrupts, at each line that a caller runs of the service, and by Ctrl-C; and what a worker does with its jobs."""
+"""Interrupts, at each line that a caller runs of the service, and by Ctrl-C; and what a worker does with jobs."""
 import gc
 import os
 import pathlib
@@ -13,7 +13,7 @@ from unittest import mock
 
 import dilforec
 from dilforec.service import Busy, Stopped, Store
-from dilforec.service._worker import Call, Worker
+from dilforec.service._worker import Job, Worker
 from service_tools import FIELDS, Stored, child
 
 SERVICE = str(pathlib.Path(dilforec.__file__).parent / "service")
@@ -169,15 +169,15 @@ class CtrlC(Stored):
 
 class Workers(unittest.TestCase):
     def worker(self, work):
-        """A worker of calls, which is ended after the test."""
+        """A worker of tasks, which is ended after the test."""
         made = Worker("test", work)
         self.addCleanup(made.wait_for_end)
-        self.addCleanup(made.do, Call(lambda: made.end("over")))
+        self.addCleanup(made.call, lambda: made.end("over"))
         return made
 
     @staticmethod
     def one(waiting):
-        next(iter(waiting)).run()
+        next(waiting).run()
         return 1
 
     def test_order(self):
@@ -187,13 +187,13 @@ class Workers(unittest.TestCase):
         def work(waiting):
             time.sleep(0.0005)
             taken = list(waiting)[: chance.randint(1, 5)]
-            for call in taken:
-                call.run()
+            for task in taken:
+                task.run()
             return len(taken)
 
         def call(number):
             jobs = [(number, place) for place in range(number % 7)]
-            worker.do(*[Call(lambda job=job: done.append(job)) for job in jobs])
+            worker.do(*[Task(lambda job=job: done.append(job)) for job in jobs])
             if [job for job in done if job[0] == number] != jobs:
                 early.append(number)
 
@@ -208,41 +208,49 @@ class Workers(unittest.TestCase):
     def test_without_waiting(self):
         """What is handed in without a wait is told of once all is over, also what is handed in too late."""
         worker, told, over = Worker("test", self.one), [], threading.Event()
-        calls = [Call(lambda: told.append("done")) for _ in range(3)]
-        worker.submit(*calls, then=lambda: (told.append("told"), over.set()))
+        tasks = [Task(lambda: told.append("done")) for _ in range(3)]
+        worker.submit(*tasks, then=lambda: (told.append("told"), over.set()))
         self.assertTrue(over.wait(20))
-        self.assertEqual((told, [call.is_done for call in calls]), (["done"] * 3 + ["told"], [True] * 3))
+        self.assertEqual((told, [task.is_done for task in tasks]), (["done"] * 3 + ["told"], [True] * 3))
         worker.submit(then=lambda: told.append("none"))
-        worker.do(Call(lambda: worker.end("over")))
+        worker.call(lambda: worker.end("over"))
         worker.wait_for_end()
-        late = Call(lambda: told.append("late"))
+        late = Task(lambda: told.append("late"))
         worker.submit(late, then=lambda: told.append("refused"))
         self.assertEqual((told[4:], type(late.error)), (["none", "refused"], Stopped))
+        self.assertRaises(Stopped, worker.call, lambda: told.append("late"))
 
     def test_withdrawn(self):
         """What nobody waits for any more isn't begun."""
         began, go, done = threading.Event(), threading.Event(), []
         worker = self.worker(self.one)
-        worker.submit(Call(lambda: (began.set(), go.wait(20))))
+        worker.submit(Task(lambda: (began.set(), go.wait(20))))
         self.assertTrue(began.wait(20))
-        call = Call(lambda: done.append(1))
-        with mock.patch.object(call, "wait", side_effect=KeyboardInterrupt), self.assertRaises(KeyboardInterrupt):
-            worker.do(call)
+        task = Task(lambda: done.append(1))
+        with mock.patch.object(task, "wait", side_effect=KeyboardInterrupt), self.assertRaises(KeyboardInterrupt):
+            worker.do(task)
         go.set()
-        worker.do(Call(lambda: done.append(2)))
-        self.assertEqual((done, call.is_done), ([2], True))
+        worker.call(lambda: done.append(2))
+        self.assertEqual((done, task.is_done), ([2], True))
 
     def test_failing(self):
         """A job that fails as nobody thought of is told so, and the next ones are done."""
+        worker, task = self.worker(self.one), Task(lambda: 1 // 0)
         with self.assertLogs("dilforec.service", "ERROR"):
-            worker = self.worker(lambda waiting: self.one(waiting) if fails.pop() else 1 // 0)
-            fails = [True, True, False]
-            call = Call(lambda: None)
-            worker.do(call)
-        self.assertIsInstance(call.error, ZeroDivisionError)
-        call = Call(lambda: None)
-        worker.do(call)
-        self.assertIsNone(call.error)
+            worker.do(task)
+        self.assertIsInstance(task.error, ZeroDivisionError)
+        self.assertRaises(ZeroDivisionError, worker.call, lambda: 1 // 0)
+        task = Task(lambda: None)
+        worker.do(task)
+        self.assertIsNone(task.error)
+
+
+class Task(Job):
+    """A job that is a call."""
+
+    def __init__(self, run):
+        super().__init__()
+        self.run = run
 
 
 class Merge:

@@ -14,7 +14,7 @@ import dilforec
 from dilforec.service import (
     BadJournal, BadSchema, Busy, NotWritten, OutcomeUnknown, Stopped, Store, _compact, _files, _journal,
 )
-from dilforec.service._store import _Compacting
+from dilforec.service._compactor import Compacting
 from service_tools import FIELDS, Failing, Stored, child
 
 BUILT = pathlib.Path(__file__).resolve().parents[3] / "crates/fts/out/fts"
@@ -506,8 +506,8 @@ class Compactions(Stored):
         """A transaction whose commit is refused after the sync isn't copied by a compaction meanwhile."""
         store = self.opened()
         store.add({"title": "first"})
-        compacting = _Compacting()
-        compaction, snapshot = store._compaction(compacting)
+        compactor, compacting = store._compactor, Compacting()
+        compaction, snapshot = compactor._begun(compacting)
         with snapshot:
             compaction.write(snapshot.ids())
 
@@ -518,7 +518,7 @@ class Compactions(Stored):
         with mock.patch.object(store._writer.index, "commit", commit):
             self.assertRaises(NotWritten, store.add, {"title": "second"})
         store.add({"title": "third"})
-        store._finish_compaction(compacting, compaction)
+        compactor._finish(compacting, compaction)
         there = self.all(store)
         store.close()
         self.assertEqual((self.all(self.opened()), there), (there, {1: {"title": "first"}, 2: {"title": "third"}}))

@@ -23,8 +23,8 @@ class Transaction(Job):
     """Operations that are done together, in their order, or not at all. Store.transaction opens one.
 
     A document is known by its number or, if the store has a key, by its key. What an operation replaces or deletes so
-    has to be there when the transaction begins, unless an operation before it has added it. It may name the version
-    that the document has to have then, which `version_of` tells, or "*" for any.
+    has to be there, after the operations before it; those that delete by another value, or all, don't count for that.
+    It may name the version that the document has to have, which `version_of` tells, or "*" for any.
 
     `add`, `replace` and `put_by_key` raise ValueError if the document has an `id` of its own, or not the key that it
     has to have; all raise the index's refusal of what has no JSON. Other refusals come at the end.

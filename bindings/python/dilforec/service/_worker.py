@@ -5,8 +5,8 @@ import logging
 import queue
 import threading
 from collections import deque
-from collections.abc import Callable, Iterable
-from typing import Generic, Optional, TypeVar
+from collections.abc import Callable, Iterator
+from typing import Generic, Optional, TypeVar, Union
 
 from dilforec.service._errors import Stopped
 
@@ -94,15 +94,15 @@ J = TypeVar("J", bound=Job)
 class Worker(Generic[J]):
     """A thread that has all the work, so that no other is ever in the middle of it.
 
-    `work` is given what waits, does a beginning of it, one job at least, and returns how many jobs that were. Signals
-    come to a program's first thread alone, so an interrupt may end a wait, and never the work.
+    `work` is given the jobs that come next, does a beginning of them, one at least, and returns how many that were.
+    Signals come to a program's first thread alone, so an interrupt may end a wait, and never the work.
     """
 
-    def __init__(self, name: str, work: "Callable[[Iterable[J]], int]") -> None:
+    def __init__(self, name: str, work: "Callable[[Iterator[J]], int]") -> None:
         """Starts the thread. RuntimeError is raised if the system has none."""
         self._work = work
-        self._queue: "queue.SimpleQueue[tuple[J, ...]]" = queue.SimpleQueue()
-        self._waiting: "deque[J]" = deque()
+        self._queue: "queue.SimpleQueue[tuple[Union[J, Call], ...]]" = queue.SimpleQueue()
+        self._waiting: "deque[Union[J, Call]]" = deque()
         self._awaited: "set[Job]" = set()
         # Why it takes no more jobs.
         self._ended: Optional[str] = None
@@ -116,14 +116,20 @@ class Worker(Generic[J]):
         countdown = _Countdown(len(jobs), then) if then is not None else None
         for job in jobs:
             job.is_submitted, job._then = True, countdown
-        self._queue.put(jobs)
-        if self._ended is not None:
-            self._refuse_queued()
+        self._hand_in(jobs)
 
     def do(self, *jobs: J) -> None:
         """Hands in jobs, and returns when they are over. After an interrupt, those that weren't begun aren't."""
         self.submit(*jobs)
         self.wait(*jobs)
+
+    def call(self, call: "Callable[[], None]") -> None:
+        """Has a call made between jobs, and raises what it raises, or Stopped."""
+        job = Call(call)
+        self._hand_in((job,))
+        self.wait(job)
+        if job.error:
+            raise job.error
 
     def wait(self, *jobs: Job) -> None:
         """Returns when jobs are over; after an interrupt they are withdrawn."""
@@ -139,7 +145,7 @@ class Worker(Generic[J]):
             self._awaited.difference_update(jobs)
 
     def end(self, why: str) -> None:
-        """Takes no more jobs: each that waits, or is handed in later, has the error Stopped. A job of its own calls it."""
+        """Takes no more jobs: each that waits, or is handed in later, has the error Stopped. A call of its own does it."""
         self._ended = why
         # The first is the one that calls this.
         while len(self._waiting) > 1:
@@ -152,12 +158,16 @@ class Worker(Generic[J]):
 
     def forget(self, why: str) -> None:
         """Ends it in a child of a fork, which has no such thread. A wait that the fork interrupted ends, too."""
-        self._ended = why
-        self._queue = queue.SimpleQueue()
+        self._ended, self._queue = why, queue.SimpleQueue()
         self._over.set()
         for job in self._awaited:
             if not job.is_done:
                 self._refuse(job)
+
+    def _hand_in(self, jobs: "tuple[Union[J, Call], ...]") -> None:
+        self._queue.put(jobs)
+        if self._ended is not None:
+            self._refuse_queued()
 
     def _run(self) -> None:
         try:
@@ -176,7 +186,7 @@ class Worker(Generic[J]):
         while not self._queue.empty():
             self._add(self._queue.get())
 
-    def _add(self, jobs: "tuple[J, ...]") -> None:
+    def _add(self, jobs: "tuple[Union[J, Call], ...]") -> None:
         for job in jobs:
             if job.withdrawn:
                 self._refuse(job)
@@ -184,12 +194,23 @@ class Worker(Generic[J]):
                 self._waiting.append(job)
 
     def _worked(self) -> int:
+        """Does the call that comes first, or of the jobs up to the next call; how many that were."""
+        first = self._waiting[0]
+        if isinstance(first, Call):
+            first.run()
+            return 1
         try:
-            return self._work(self._waiting)
+            return self._work(self._jobs())
         except BaseException as error:
             log.exception("a job of the store failed")
-            self._waiting[0].error = error if isinstance(error, Exception) else RuntimeError(repr(error))
+            first.error = error if isinstance(error, Exception) else RuntimeError(repr(error))
             return 1
+
+    def _jobs(self) -> "Iterator[J]":
+        for job in self._waiting:
+            if isinstance(job, Call):
+                return
+            yield job
 
     def _refuse_queued(self) -> None:
         while True:

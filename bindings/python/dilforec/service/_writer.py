@@ -2,7 +2,7 @@
 from __future__ import annotations
 
 import logging
-from collections.abc import Iterable
+from collections.abc import Iterator
 from typing import Optional
 
 from dilforec.index import Index
@@ -33,7 +33,7 @@ class Writer:
         self.stopped: Optional[str] = None
         self._key = key
 
-    def commit(self, waiting: Iterable[Transaction]) -> int:
+    def commit(self, waiting: Iterator[Transaction]) -> int:
         """Does a beginning of what waits with one sync and one commit, and returns how many transactions that were."""
         group = Group(self.index, self._key, self.numbers.last_id)
         seen: "list[Transaction]" = []
