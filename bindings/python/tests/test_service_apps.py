@@ -73,6 +73,19 @@ class Asgi(Stored):
         self.assertIsNone(self.asked("POST", "/documents", b"{", ends=None))
         self.assertEqual(len(self.store), 0)
 
+    def test_bodies(self):
+        """Bodies that arrive at a time are held up to a number of bytes; others are refused, and taken again later."""
+        async def many():
+            slow = [asyncio.create_task(self.ask("POST", "/documents", b"[" + b" " * 80, ends=False)) for _ in range(19)]
+            await asyncio.sleep(0.05)
+            told = await self.ask("POST", "/documents", b"[" + b" " * 80 + b"]")
+            return told, await asyncio.gather(*slow)
+
+        told, slow = asyncio.run(many())
+        self.assertEqual((told[0], told[2]["error"], told[1][b"connection"]), (503, "TooManyBodies", b"close"))
+        self.assertEqual({status for status, _, _ in slow}, {408})
+        self.assertEqual(self.asked("POST", "/documents", b"{}")[0], 201)
+
     def test_together(self):
         """Changes of one round share a sync, and each has its own answer; a failing store answers each."""
         async def many():

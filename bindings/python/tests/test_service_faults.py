@@ -88,13 +88,21 @@ class Readers(Faults):
     def test_no_reader_of_a_change(self):
         """A client asks for large answers and then for changes, and doesn't read: small changes of others are done."""
         server = self.serve("--idle", 60)
-        large = self.fill(server)
-        post = self.request(server, "POST /documents", JSON, "Content-Length: 2", body=b"{}")
-        for count in range(1, 6):
-            self.opened(server, large * count + post * 70, room=4096)
-        time.sleep(1)
-        for _ in range(5):
+        body = b"[" + b",".join([b"{}"] * 10_000) + b"]"
+        change = self.request(server, "POST /documents", JSON, f"Content-Length: {len(body)}", body=body)
+        sock = self.opened(server, room=4096)
+        sock.setblocking(False)
+        # 66 MB of answers, and then some MB of answers to changes: a server that waits in a change once 64 MiB are unsent
+        # hangs, however much of it the system takes.
+        left, last = memoryview(self.fill(server) * 11 + change * 120), time.monotonic() + 5
+        while left and time.monotonic() < last:
+            try:
+                left = left[sock.send(left):]
+            except BlockingIOError:
+                time.sleep(0.01)
+        for _ in range(8):
             self.others(server)
+            time.sleep(0.4)
 
     def test_idle_connections(self):
         """What a request costs the service doesn't grow with the connections that are silent."""
@@ -137,7 +145,10 @@ class Heads(Faults):
         before = self.count(server, "refusals_total")
         tried = [
             ("POST /documents", [JSON, "Content-Length: 5000000"], b"", 413, "BodyTooLarge"),
-            ("POST /documents", [JSON, "Transfer-Encoding: chunked"], b"800\r\n" + b"x" * 2048 + b"\r\n", 413, "BodyTooLarge"),
+            ("POST /documents", [JSON, "Transfer-Encoding: chunked"], b"800\r\n" + b"x" * 2048 + b"\r\n", 413,
+             "BodyTooLarge"),
+            ("POST /documents", [JSON, "Transfer-Encoding: chunked"], b"2\r\n{}\r\nzz\r\n", 400, "BadRequest"),
+            ("GET /search", ["Connection: Upgrade", "Upgrade: websocket"], b"", 400, "BadRequest"),
             ("GET /", ["X: " + "a" * 99_000], b"", 431, "HeadTooLarge"),
             ("GET /", [f"X{number}: {'a' * 900}" for number in range(100)], b"", 431, "HeadTooLarge"),
             ("GET /search?q=" + "a" * 70_000, [], b"", 414, "TooLong"),

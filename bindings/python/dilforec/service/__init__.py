@@ -9,8 +9,8 @@ docs/SERVICE.md says how it is started, called and kept. Without HTTP:
         store.add({"title": "Programming Pearls", "year": 1986})
         print(store.search("pearls").count)
 
-`asgi` makes an application of a store for any server of ASGI, and `application` for any of WSGI that has threads. Either
-runs it in one process. `dilforec serve` runs it on uvicorn.
+`asgi` makes an application of a store for any server of ASGI, and `application` for any of WSGI that has threads.
+Either runs it in one process. `dilforec serve` runs it on uvicorn, and a `Client` asks it, with the methods of a store.
 """
 from __future__ import annotations
 

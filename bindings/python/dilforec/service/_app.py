@@ -185,7 +185,8 @@ class Application:
         except VersionChanged as error:
             return failure(HttpError(HTTPStatus.PRECONDITION_FAILED, "VersionChanged", str(error)))
         except KeyTaken as error:
-            return failure(HttpError(HTTPStatus.CONFLICT, "KeyTaken", str(error), more={"key": error.key, "id": error.id}))
+            whose: "dict[str, object]" = {"key": error.key, "id": error.id}
+            return failure(HttpError(HTTPStatus.CONFLICT, "KeyTaken", str(error), more=whose))
         except Refused as error:
             return failure(bad(error.name, str(error)))
         except BadSchema as error:

@@ -23,6 +23,8 @@ Send = Callable[[Dict[str, Any]], Awaitable[None]]
 
 # The most bytes of a head, without what stands between its parts.
 LONGEST_HEAD = 81_920
+# All bodies that are held have at most as many bytes as this many of the longest.
+_BODIES = 16
 # A group of changes doesn't wait for more if so many rounds of the loop brought none; a request takes two or three.
 _QUIET_ROUNDS = 5
 # A body that nobody wants is read over if it isn't longer than the limit by more; else its connection is closed.
@@ -40,6 +42,8 @@ class Asgi:
         """`threads` is how many requests that read are answered at a time; a body has to arrive in `body_seconds`."""
         self._application = application
         self._body_seconds = body_seconds
+        # The bytes of all bodies that are held.
+        self._held = 0
         self._threads = ThreadPoolExecutor(threads, "dilforec-read")
         self._together = Together(application)
 
@@ -72,6 +76,8 @@ class Asgi:
             return
         except Exception as error:
             response = self._application.failed(request, error)
+        finally:
+            self._held -= request.held
         response = self._application.answered(request, response)
         headers = [(name.lower().encode("latin-1"), value.encode("latin-1")) for name, value in response.lines()]
         await send({"type": "http.response.start", "status": response.status.value, "headers": headers})
@@ -100,7 +106,7 @@ class Asgi:
 
     async def _read(self, request: Request, receive: Receive) -> Optional[HttpError]:
         """Reads a body, or returns why it is refused. Gone is raised if the client goes away."""
-        limit, parts, size = self._application.limits.body, [], 0
+        limit, parts = self._application.limits.body, []
         try:
             with _within(self._body_seconds):
                 more = True
@@ -109,9 +115,12 @@ class Asgi:
                     if message["type"] != "http.request":
                         raise Gone
                     parts.append(message.get("body", b""))
-                    more, size = message.get("more_body", False), size + len(parts[-1])
-                    if size > limit:
+                    more, request.held = message.get("more_body", False), request.held + len(parts[-1])
+                    self._held += len(parts[-1])
+                    if request.held > limit:
                         return too_large(limit)
+                    if self._held > _BODIES * limit:
+                        return _busy()
         except asyncio.TimeoutError:
             return slow(f"the body didn't arrive within {self._body_seconds:g} seconds")
         request.body = b"".join(parts)
@@ -222,6 +231,11 @@ def _request(scope: Scope) -> Request:
         headers[name] = f"{headers[name]}, {text}" if name in headers else text
     client = scope.get("client")
     return Request(scope["method"], scope["path"], scope["query_string"], headers, client[0] if client else "")
+
+
+def _busy() -> HttpError:
+    words = "too many bodies arrive at a time; nothing was done"
+    return HttpError(HTTPStatus.SERVICE_UNAVAILABLE, "TooManyBodies", words, Retry_After="1")
 
 
 def _size(request: Request) -> int:

@@ -25,22 +25,31 @@ def parser() -> argparse.ArgumentParser:
     commands = made.add_subparsers(dest="command", required=True)
     serving = commands.add_parser("serve", help="serve an index over HTTP", description="Serves an index over HTTP.")
     _add_serving(serving)
-    compact = commands.add_parser("compact", help="write a journal anew, with its live documents alone",
-                                  description="Writes a journal anew, with its live documents alone.")
-    compact.add_argument("--journal", metavar="FILE", required=True)
+    compacting = commands.add_parser("compact", help="write a journal anew, with its live documents alone",
+                                     description="Writes a journal anew, with its live documents alone.")
+    _add_compacting(compacting)
     loading = commands.add_parser("load", help="put files of documents into a journal",
                                   description="Puts files of documents into a journal, while no service has it open.")
-    loading.add_argument("files", metavar="FILE", nargs="+", help="a JSON text on each line; CSV if it ends with .csv")
-    loading.add_argument("--journal", metavar="FILE", required=True, help="where the documents are kept; made if it isn't there")
-    loading.add_argument("--schema", metavar="FILE", help="the fields, as a JSON list; those of the journal if it is there")
-    loading.add_argument("--key", metavar="FIELD", help=_KEY)
-    compact.add_argument("--schema", metavar="FILE", help="the fields from now on, as a JSON list")
-    compact.add_argument("--drop", metavar="FIELD", action="append", default=[],
-                         help="a field that isn't in the schema any more; again for more")
-    for each in serving, compact, loading:
+    _add_loading(loading)
+    for each in serving, compacting, loading:
         each.add_argument("--log", metavar="LEVEL", default="info", choices=["debug", "info", "warning", "error"],
                           help="debug, info (default), warning or error")
     return made
+
+
+def _add_compacting(compact: argparse.ArgumentParser) -> None:
+    compact.add_argument("--journal", metavar="FILE", required=True)
+    compact.add_argument("--schema", metavar="FILE", help="the fields from now on, as a JSON list")
+    compact.add_argument("--drop", metavar="FIELD", action="append", default=[],
+                         help="a field that isn't in the schema any more; again for more")
+
+
+def _add_loading(load: argparse.ArgumentParser) -> None:
+    load.add_argument("files", metavar="FILE", nargs="+", help="a JSON text on each line; CSV if it ends with .csv")
+    load.add_argument("--journal", metavar="FILE", required=True,
+                      help="where the documents are kept; made if it isn't there")
+    load.add_argument("--schema", metavar="FILE", help="the fields, as a JSON list; those of the journal if it is there")
+    load.add_argument("--key", metavar="FIELD", help=_KEY)
 
 
 def _add_serving(serve: argparse.ArgumentParser) -> None:
@@ -54,7 +63,8 @@ def _add_serving(serve: argparse.ArgumentParser) -> None:
     serve.add_argument("--host", metavar="NAME[:PORT]", action="append", default=[],
                        help="another name that clients may use for it, as behind a proxy; again for more")
     serve.add_argument("--token-file", metavar="FILE", help="a token of 16 letters or more, for what changes something")
-    serve.add_argument("--read-token-file", metavar="FILE", help="another token, for what only reads; reads need one then")
+    serve.add_argument("--read-token-file", metavar="FILE",
+                       help="another token, for what only reads; reads need one of the two then")
     serve.add_argument("--token-reads", action="store_true", help="the token is needed for what reads too")
     serve.add_argument("--allow-origin", metavar="ORIGIN", type=_origin, action="append", default=[],
                        help="a site whose pages may search, as https://www.example.org; again for more")

@@ -82,7 +82,7 @@ def unchanged(tag: str) -> Response:
 
 def is_loopback(host: str) -> bool:
     """Whether an address is of this machine alone."""
-    return host in ("localhost", "::1") or host.startswith("127.")
+    return host in ("localhost", "::1") or host.startswith(("127.", "::ffff:127."))
 
 
 def answer(value: object, status: HTTPStatus = HTTPStatus.OK) -> Response:
@@ -124,6 +124,8 @@ class Request:
     """
 
     body: bytes = b""
+    # How much of the body has arrived.
+    held = 0
 
     def __init__(self, method: str, path: str, query: bytes, headers: Mapping[str, str], peer: str) -> None:
         self.method = method

@@ -1,8 +1,8 @@
 """The command `load`: files of documents into a journal, by transactions, from the place that it was cut off at.
 
 Before each transaction a file beside the journal is told which lines it has, which commit it will be, and the newest
-document before it. So after a crash the number of the last commit says whether they are there; and if others changed the
-journal since, the document after the newest one does.
+document before it. So after a crash the number of the last commit says whether they are there; and if others changed
+the journal since, the document after the newest one does.
 """
 from __future__ import annotations
 
@@ -214,14 +214,16 @@ class _Notes:
 
     def _go_on(self, left: Loading, store: Store, files: "Sequence[str]") -> None:
         if left.file not in files:
-            raise Refusal(f"a load of {left.file} was cut off: load it again, which goes on there, or remove {self._path}")
+            raise Refusal(
+                f"a load of {left.file} was cut off: load it again, which goes on there, or remove {self._path}"
+            )
         # What is loaded again replaces itself in a store with a key.
         is_pending = left.end != left.start and store.key is None
         is_there = is_pending and store.commits >= left.commit and _is_there(left, store)
         if is_pending and not is_there and store.commits > left.commit:
             raise Refusal(
-                f"others changed the journal after a load of {left.file} was cut off, so that it isn't known whether its "
-                f"lines {left.start.line} to {left.end.line - 1} are there: look, and remove {self._path}"
+                f"others changed the journal after a load of {left.file} was cut off, so that it isn't known whether "
+                f"its lines {left.start.line} to {left.end.line - 1} are there: look, and remove {self._path}"
             )
         self._file, self.done, self._start = left.file, left.done, left.end if is_there else left.start
         print(f"going on at line {self._start.line} of {left.file}", file=sys.stderr)

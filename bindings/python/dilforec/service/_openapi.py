@@ -46,7 +46,9 @@ def described(fields: "Sequence[Field]", key: Optional[str]) -> Json:
         "openapi": "3.1.0",
         "info": {"title": "Dilforec", "version": dilforec.__version__, "description": "A full-text index over HTTP."},
         "security": [{}, {"token": []}],
-        "paths": {**_paths_of_documents(), **(_paths_of_keys() if key else {}), **_paths_of_searches(), **_paths_about()},
+        "paths": {
+            **_paths_of_documents(), **(_paths_of_keys() if key else {}), **_paths_of_searches(), **_paths_about(),
+        },
         "components": {
             "securitySchemes": {"token": {"type": "http", "scheme": "bearer"}},
             "schemas": {**_schemas(), "Document": _document(fields), "StoredDocument": _stored(fields)},
@@ -97,7 +99,7 @@ def _changes_of_one() -> Json:
 def _paths_of_searches() -> Json:
     asked = [
         _query("q", {"type": "string"}, "a query; without it all documents"),
-        _query("groups", {"type": "string"}, "a field whose values are counted, and how many of them, as shelf:10", True),
+        _query("groups", {"type": "string"}, "a field whose values are counted, and how many, as shelf:10", True),
         _query("top", {"type": "string"}, "the first hits by a number field, as year,10,falling"),
         _query("after", {"type": "string"}, "the value and the id of the last hit of the page before, as 1986,7"),
         _query("fields", {"type": "string"}, "the fields of the hits' documents, with commas between them", True),
@@ -193,7 +195,9 @@ def _schemas() -> Json:
     text, yes = {"type": "string"}, {"type": "boolean"}
     group = {"type": "array", "prefixItems": [{"type": ["string", "integer"]}, _NUMBER], "minItems": 2, "maxItems": 2}
     return {
-        "Error": _object({"error": text, "message": text}, {"at": _NUMBER, "key": {"type": ["string", "integer"]}, "id": _NUMBER}),
+        "Error": _object(
+            {"error": text, "message": text}, {"at": _NUMBER, "key": {"type": ["string", "integer"]}, "id": _NUMBER},
+        ),
         "Done": _object({"ids": {"type": "array", "items": _NUMBER}, "commit": _NUMBER}),
         "Documents": _object({"documents": _list_of("StoredDocument")}),
         "Command": {"anyOf": [

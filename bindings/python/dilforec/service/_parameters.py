@@ -13,7 +13,7 @@ MOST_HITS = 1000
 # Fields whose groups one search counts; the values of each, if nothing is said, and at most.
 MOST_FIELDS, MOST_VALUES, VALUES = 8, 10_000, 100
 
-# What a query has between its parentheses: ranges, quoted texts, and words, of which one before a range names its field.
+# What a query has between its parentheses: ranges, quoted texts, and words. One before a range names its field.
 _UNIT = re.compile(r'(?P<range>[\[{][^\]}]*)[\]}]?|"(?P<text>(?:\\.|[^"\\])*)"?|(?P<word>[^\s()"\[\]{}]+)')
 _OPERATORS = ("AND", "OR", "NOT", "+", "-")
 

@@ -114,7 +114,9 @@ class Reads:
             stats = snapshot.stats()
         text = self._metrics.text({
             "documents": ("Documents of the last commit.", stats.live),
-            "deleted_documents": ("Documents that were deleted, and aren't merged away yet.", stats.documents - stats.live),
+            "deleted_documents": (
+                "Documents that were deleted, and aren't merged away yet.", stats.documents - stats.live,
+            ),
             "segments": ("Segments of the last commit.", stats.segments),
             "commits": ("The number of the last commit.", store.commits),
             "journal_bytes": ("The size of the journal.", store.journal_bytes),
@@ -129,7 +131,8 @@ class Reads:
         if not request.body.strip():
             return answer(self._store.compact()._asdict())
         given = request.json()
-        if not isinstance(given, dict) or set(given) - {"schema", "drop"} or not isinstance(given.get("drop", []), list):
+        is_known = isinstance(given, dict) and not set(given) - {"schema", "drop"}
+        if not is_known or not isinstance(given.get("drop", []), list):
             raise bad("BadSchema", "a compaction takes nothing, or a schema and the names of fields to drop")
         try:
             fields = [Field(**field) for field in given["schema"]]

@@ -119,8 +119,8 @@ def _server(given: argparse.Namespace, application: Application, bound: socket.s
         from dilforec.service._uvicorn import Patience, Served
     except ImportError as error:
         raise Refusal(
-            f"{error.name or 'uvicorn'} isn't there, which it needs to serve: install Debian's packages python3-uvicorn, "
-            "python3-httptools and python3-uvloop, or pip install 'dilforec[service]'"
+            f"{error.name or 'uvicorn'} isn't there, which it needs to serve: install Debian's packages "
+            "python3-uvicorn, python3-httptools and python3-uvloop, or pip install 'dilforec[service]'"
         ) from None
     patience = Patience(given.connections, given.idle, given.head_seconds, given.body_seconds, given.grace)
     return Served(application, bound, given.threads, patience)
@@ -219,7 +219,7 @@ def _bound(host: str, port: int) -> socket.socket:
 def _bound_at(path: str) -> socket.socket:
     """A local socket, for its owner and group. One that another process left behind is replaced."""
     def bind(made: socket.socket) -> None:
-        if stat.S_ISSOCK(os.stat(path).st_mode) if os.path.exists(path) else False:
+        if pathlib.Path(path).is_socket():
             with socket.socket(socket.AF_UNIX) as other:
                 try:
                     other.connect(path)

@@ -32,6 +32,8 @@ _MOST_AHEAD = 256
 _LONGEST_URL = 65_535
 # A connection that was refused is read on for so many seconds, so that the refusal arrives.
 _LINGERING = 2.0
+# So many seconds the application has to refuse a request by its head whose body is at fault.
+_HEAD_START = 0.1
 # As many connections over their number are told so at a time; others are closed without a word.
 _MOST_BEYOND = 64
 # How often it is looked whether the service ends, and at all connections, in seconds.
@@ -154,12 +156,15 @@ class Connection(HttpToolsProtocol):
     def on_headers_complete(self) -> None:
         seen = self.seen
         if seen.url_bytes > _LONGEST_URL:
-            self.stop(HttpError(HTTPStatus.REQUEST_URI_TOO_LONG, "TooLong", f"the address is over {_LONGEST_URL} bytes"))
+            words = f"the address is over {_LONGEST_URL} bytes"
+            self.stop(HttpError(HTTPStatus.REQUEST_URI_TOO_LONG, "TooLong", words))
         if seen.ahead >= _MOST_AHEAD:
             self.stop(bad("TooManyRequests", f"over {_MOST_AHEAD} requests were sent ahead of their answers"))
+        before = self.cycle
         super().on_headers_complete()
         seen.in_head, seen.in_body, seen.skipped_bytes = False, True, 0
-        seen.ahead += 1
+        # A request for another protocol is none that is answered.
+        seen.ahead += self.cycle is not before
 
     def on_message_complete(self) -> None:
         super().on_message_complete()
@@ -196,10 +201,26 @@ class Connection(HttpToolsProtocol):
         """
         seen = self.seen
         seen.is_over, seen.in_head = True, False
-        if seen.ahead:
-            self.shutdown()
+        if not seen.ahead:
+            self.answer(error)
             return
-        seen.since = time.monotonic()
+        if seen.ahead == 1 and seen.in_body:
+            # The application may refuse it by its head; else it waits for a body that doesn't come.
+            self.loop.call_later(_HEAD_START, self.refuse_body, error)
+        self.shutdown()
+
+    def refuse_body(self, error: HttpError) -> None:
+        """Answers a request whose body is at fault, and tells the application that the client went away."""
+        request: Any = self.cycle
+        if self.seen.ahead and not self.line.is_closing():
+            request.disconnected = True
+            request.message_event.set()
+            self.seen.ahead = 0
+            self.answer(error)
+
+    def answer(self, error: HttpError) -> None:
+        """Sends a refusal, and nothing after it."""
+        self.seen.since = time.monotonic()
         self.line.write(self.watch.refusal(error, self.client[0] if self.client else ""))
         if self.line.can_write_eof():
             self.line.write_eof()
