@@ -3,6 +3,7 @@ from __future__ import annotations
 
 import logging
 import queue
+import sys
 import threading
 from collections import deque
 from collections.abc import Callable, Iterator
@@ -85,7 +86,10 @@ class _Countdown:
 
     def less(self) -> None:
         if self._left.pop() == 0:
-            self._call()
+            try:
+                self._call()
+            except Exception:
+                log.exception("what was to be told of a change couldn't be told")
 
 
 J = TypeVar("J", bound=Job)
@@ -145,7 +149,7 @@ class Worker(Generic[J]):
             self._awaited.difference_update(jobs)
 
     def end(self, why: str) -> None:
-        """Takes no more jobs: each that waits, or is handed in later, has the error Stopped. A call of its own does it."""
+        """Takes no more jobs: each that waits, or comes later, has the error Stopped. A call of its own does it."""
         self._ended = why
         # The first is the one that calls this.
         while len(self._waiting) > 1:
@@ -157,7 +161,7 @@ class Worker(Generic[J]):
         self._over.wait()
 
     def forget(self, why: str) -> None:
-        """Ends it in a child of a fork, which has no such thread. A wait that the fork interrupted ends, too."""
+        """Ends it where its thread is gone, as in a child of a fork. A wait that the fork interrupted ends, too."""
         self._ended, self._queue = why, queue.SimpleQueue()
         self._over.set()
         for job in self._awaited:
@@ -165,6 +169,9 @@ class Worker(Generic[J]):
                 self._refuse(job)
 
     def _hand_in(self, jobs: "tuple[Union[J, Call], ...]") -> None:
+        if sys.is_finalizing():
+            # The interpreter has stopped the thread already.
+            self.forget("the interpreter ends")
         self._queue.put(jobs)
         if self._ended is not None:
             self._refuse_queued()
@@ -176,7 +183,13 @@ class Worker(Generic[J]):
                 if self._waiting:
                     for _ in range(self._worked()):
                         self._waiting.popleft().finish()
+        except BaseException as error:
+            log.critical("the thread of the store ended: %r", error)
+            self._ended = f"nothing was done: the thread of the store ended ({error!r})"
         finally:
+            while self._waiting:
+                self._refuse(self._waiting.pop())
+            self._refuse_queued()
             self._over.set()
 
     def _take(self) -> None:
