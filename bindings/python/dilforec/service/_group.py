@@ -51,6 +51,10 @@ class Group:
         self._operations += len(transaction)
         if self.taken and self._operations > _MOST_OPERATIONS:
             return False
+        if transaction.is_plain:
+            self.taken += 1
+            self._give_plain(transaction)
+            return True
         try:
             draft = self._drafted(transaction)
         except MemoryError as error:
@@ -73,7 +77,9 @@ class Group:
         """Leaves out the members that have an error, and numbers the documents of the others without gaps."""
         members, self.members, self.last_id = self.members, [], self._first_id
         for each in members:
-            if each.error is None:
+            if each.error is None and each.is_plain:
+                self._give_plain(each)
+            elif each.error is None:
                 self._give(self._drafted(each), each)
 
     @property
@@ -91,6 +97,14 @@ class Group:
             return False
         is_new = any(id > self._first_id for id in draft.subjects.ids)
         return self._by_value or is_new or self._changed.meets(draft.subjects)
+
+    def _give_plain(self, transaction: Transaction) -> None:
+        """Numbers the documents of a transaction that has adds alone."""
+        first, self.last_id = self.last_id + 1, self.last_id + len(transaction.operations)
+        ids = range(first, self.last_id + 1)
+        block = b"".join([lines.add_line(each.text, id) for each, id in zip(transaction.operations, ids)])
+        transaction.drafted(block, range(1, len(ids) + 1), ids)
+        self.members.append(transaction)
 
     def _give(self, draft: _Draft, transaction: Transaction) -> None:
         self.last_id = draft.last_id

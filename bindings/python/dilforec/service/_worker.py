@@ -5,6 +5,7 @@ import logging
 import queue
 import sys
 import threading
+import time
 from collections import deque
 from collections.abc import Callable, Iterator
 from typing import Generic, Optional, TypeVar, Union
@@ -13,9 +14,15 @@ from dilforec.service._errors import Stopped
 
 log = logging.getLogger("dilforec.service")
 
+# Who handed in several jobs that were done together has a moment, in seconds, to hand in the next. So these share the
+# work, and the callers don't want the interpreter whenever the worker waits for the disk.
+_PAUSE_EACH, _LONGEST_PAUSE = 10e-6, 500e-6
+
 
 class Event:
     """Something that happens once. Unlike that of threading, no interrupt of a wait is in the way of `set`."""
+
+    __slots__ = "_waits", "is_set"
 
     def __init__(self) -> None:
         # Each wait has a lock of its own, so that it leaves nothing that others need.
@@ -40,12 +47,15 @@ class Event:
 class Job:
     """Something that a worker does once. `error` is what was in its way."""
 
+    error: Optional[Exception] = None
+    # It was handed in.
+    is_submitted = False
+    # Nobody waits for it any more, so it isn't begun if it wasn't.
+    withdrawn = False
+    _then: "Optional[_Countdown]" = None
+
     def __init__(self) -> None:
-        self.error: Optional[Exception] = None
-        # It was handed in; nobody waits for it any more, so it isn't begun if it wasn't.
-        self.is_submitted = self.withdrawn = False
         self._over = Event()
-        self._then: Optional[_Countdown] = None
 
     @property
     def is_done(self) -> bool:
@@ -111,6 +121,8 @@ class Worker(Generic[J]):
         # Why it takes no more jobs.
         self._ended: Optional[str] = None
         self._over = Event()
+        # How many jobs were done together the last time.
+        self._done = 0
         threading.Thread(target=self._run, name=name, daemon=True).start()
 
     def submit(self, *jobs: J, then: "Optional[Callable[[], None]]" = None) -> None:
@@ -119,7 +131,8 @@ class Worker(Generic[J]):
             then()
         countdown = _Countdown(len(jobs), then) if then is not None else None
         for job in jobs:
-            job.is_submitted, job._then = True, countdown
+            job.is_submitted = True
+            job._then = countdown
         self._hand_in(jobs)
 
     def do(self, *jobs: J) -> None:
@@ -181,7 +194,8 @@ class Worker(Generic[J]):
             while self._ended is None:
                 self._take()
                 if self._waiting:
-                    for _ in range(self._worked()):
+                    self._done = self._worked()
+                    for _ in range(self._done):
                         self._waiting.popleft().finish()
         except BaseException as error:
             log.critical("the thread of the store ended: %r", error)
@@ -194,6 +208,8 @@ class Worker(Generic[J]):
 
     def _take(self) -> None:
         """Takes what was handed in; if nothing waits, as soon as something is."""
+        if self._done > 1:
+            time.sleep(min(self._done * _PAUSE_EACH, _LONGEST_PAUSE))
         if not self._waiting:
             self._add(self._queue.get())
         while not self._queue.empty():
