@@ -283,6 +283,7 @@ class Schemas(Stored):
         ):
             with self.subTest(more):
                 self.assertRaises(BadSchema, store.compact, **more)
+        self.assertRaises(TypeError, store.compact, drop="title")
         with Store(FIELDS, self.folder / "keyed", key="shelf") as keyed:
             self.assertRaises(BadSchema, keyed.compact, drop=["shelf"])
         self.assertEqual((self.all(store), self.journal.read_bytes()), (there, whole))

@@ -549,6 +549,19 @@ class Threads(Stored):
             self.assertEqual(kinds, [[type(None), NotWritten, NotWritten, NotWritten], [NotWritten] * 4][refusals - 1])
             self.assertEqual((len(store), store.writable), (2, True))
 
+    def test_no_memory_to_look(self):
+        """If there is no memory to look for a document, that change isn't done, and the others are."""
+        store = self.opened()
+        store.add({})
+        wait = [store.new_transaction() for _ in range(3)]
+        wait[0].add({})
+        wait[1].replace(1, {"title": "never"})
+        wait[2].add({})
+        with mock.patch.object(dilforec.Index, "search", side_effect=MemoryError):
+            store.do(*wait)
+        self.assertEqual([type(each.error) for each in wait], [type(None), NotWritten, type(None)])
+        self.assertEqual((self.all(store), store.writable), ({1: {}, 2: {}, 3: {}}, True))
+
     def test_one_after_the_other(self):
         """Transactions that wait together do what they would do one after the other."""
         store = self.opened()

@@ -313,6 +313,8 @@ class Store:
         there is no room, or the file can't be given to the journal's owner; the journal is as it was then. So it is if
         the wait is interrupted.
         """
+        if isinstance(drop, str):
+            raise TypeError("`drop` is a list of names")
         compacting, worker = Compacting(), self._worker
         fields = [field for field in self.fields if field.name not in drop] if schema is None else list(schema)
         try:
