@@ -10,7 +10,8 @@ from hypothesis.stateful import RuleBasedStateMachine, initialize, invariant, pr
 
 import dilforec
 from dilforec.service import (
-    KeyTaken, NoSuchDocument, NotWritten, OutcomeUnknown, Stopped, Store, TransactionRefused, VersionChanged, version_of,
+    KeyTaken, NoSuchDocument, NotWritten, OutcomeUnknown, Stopped, Store, TransactionRefused, VersionChanged,
+    version_of,
 )
 from service_tools import Failing
 
@@ -48,6 +49,7 @@ OPERATIONS = draw.one_of(
     draw.tuples(draw.just("delete"), draw.just("id"), IDS),
     draw.tuples(draw.just("delete_all")),
 )
+FAULTS = draw.sampled_from([None] * 5 + [{"write": 1}, {"sync": 1}, {"sync": 2}, {"sync": 1, "cut": 1}])
 GROUPS = draw.lists(draw.lists(OPERATIONS, min_size=1, max_size=3), min_size=1, max_size=4)
 
 
@@ -174,7 +176,7 @@ class Machine(RuleBasedStateMachine):
         self.disk.fails, self.disk.after = {}, {}
         self.store = Store(self.fields, self.journal, key=key, disk=self.disk)
 
-    @rule(group=GROUPS, fault=draw.sampled_from([None] * 5 + [{"write": 1}, {"sync": 1}, {"sync": 2}, {"sync": 1, "cut": 1}]))
+    @rule(group=GROUPS, fault=FAULTS)
     def change(self, group, fault):
         """Transactions that wait together. The first sync of them may fail, and its cutting back."""
         group = [[each for each in operations if self.model.keyed or "by_key" not in each[0]] for operations in group]
@@ -195,7 +197,8 @@ class Machine(RuleBasedStateMachine):
                 assert fault
                 continue
             came = self.model.done(operations, versions)
-            assert came == (type(transaction.error) if transaction.error else transaction.ids), (came, transaction.error)
+            told_of = type(transaction.error) if transaction.error else transaction.ids
+            assert came == told_of, (came, transaction.error)
             if not transaction.error:
                 commits.add(transaction.commit)
         self.model.commits += len(commits)

@@ -28,7 +28,8 @@ def descriptors(path):
 
 def is_left(store, path):
     """Whether a store is closed here, in a child, and has nothing of the file."""
-    for call in (lambda: store.add({}), lambda: store.search("*"), lambda: store.delete(1), store.compact, store.snapshot):
+    calls = lambda: store.add({}), lambda: store.search("*"), lambda: store.delete(1), store.compact, store.snapshot
+    for call in calls:
         try:
             call()
             return False
@@ -45,7 +46,7 @@ def count(snapshot, told):
 
 class Forks(Stored):
     def forked(self, call):
-        """The number of a child that makes a call. Its status is 0 if that returns true; an alarm ends it after 20 s."""
+        """A child's number that makes a call. Its status is 0 if that returns true; an alarm ends it after 20 s."""
         pid = os.fork()
         if pid == 0:
             signal.alarm(20)

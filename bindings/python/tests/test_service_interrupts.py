@@ -220,6 +220,14 @@ class Workers(unittest.TestCase):
         self.assertEqual((told[4:], type(late.error)), (["none", "refused"], Stopped))
         self.assertRaises(Stopped, worker.call, lambda: told.append("late"))
 
+    def test_telling_fails(self):
+        """A call that was to tell that a job is over, and fails, is logged, and the next jobs are done."""
+        worker = self.worker(self.one)
+        with self.assertLogs("dilforec.service", "ERROR"):
+            worker.submit(Task(lambda: None), then=lambda: 1 // 0)
+            worker.call(lambda: None)
+        worker.call(lambda: None)
+
     def test_withdrawn(self):
         """What nobody waits for any more isn't begun."""
         began, go, done = threading.Event(), threading.Event(), []
@@ -285,6 +293,30 @@ class Ends(Stored):
             time.sleep(0.01)
         gc.collect()
         self.assertEqual((self.threads(), [store() for store in stores]), ([], [None] * 5))
+
+    def test_an_interpreter_that_ends(self):
+        """A store that is closed when the interpreter has stopped its threads keeps nobody waiting."""
+        code = """if True:
+            import sys, service_tools
+            from dilforec.service import Store
+
+            class Owner:
+                def __init__(self):
+                    self.store = Store(service_tools.FIELDS, sys.argv[1])
+                    self.store.add({"title": "rust"})
+
+                def __del__(self):
+                    self.store.close()
+                    print("closed", flush=True)
+
+            owner = Owner()
+        """
+        process = child(code, self.journal)
+        try:
+            self.assertEqual((process.communicate(timeout=20)[0], process.returncode), (b"closed\n", 0))
+        finally:
+            process.kill()
+        self.assertEqual(len(self.opened()), 1)
 
     def test_a_merge_that_fails(self):
         """Whatever a merge raises is logged, and merges go on."""

@@ -177,12 +177,12 @@ class Journals(Stored):
             self.assertEqual(self.journal.read_bytes(), other)
 
     def test_named_by_mistake(self):
-        """A file that isn't a journal is never emptied, however it begins, unless it begins the line that is written."""
+        """A file that isn't a journal is never emptied, unless all of it begins the line that is written."""
         with Store(FIELDS, self.journal):
             schema = self.journal.read_bytes()
         mistakes = [
-            b'{"schema":[' + b"1," * 40_000 + b"1]}", json.dumps({"schema": [{"name": "title", "kind": "text"}]}).encode(),
-            json.dumps([{"name": "title", "kind": "text"}]).encode(), schema[:-1] + b" ", schema[:20] + b"\0", b"{}",
+            b'{"schema":[' + b"1," * 40_000 + b"1]}",
+            json.dumps({"schema": [{"name": "title", "kind": "text"}]}).encode(), json.dumps([{"name": "title", "kind": "text"}]).encode(), schema[:-1] + b" ", schema[:20] + b"\0", b"{}",
             b'{"schema":[{"name":"title","kind":"text","default":true}]}', schema[:-1] + schema[:-1],
         ]
         for mistake in mistakes:
@@ -283,6 +283,7 @@ class Schemas(Stored):
         ):
             with self.subTest(more):
                 self.assertRaises(BadSchema, store.compact, **more)
+        self.assertRaises(TypeError, store.compact, drop="title")
         with Store(FIELDS, self.folder / "keyed", key="shelf") as keyed:
             self.assertRaises(BadSchema, keyed.compact, drop=["shelf"])
         self.assertEqual((self.all(store), self.journal.read_bytes()), (there, whole))

@@ -15,8 +15,8 @@ from unittest import mock
 import dilforec
 from dilforec.library import MEMORY, Channel
 from dilforec.service import (
-    BadSchema, KeyTaken, Locked, NoSuchDocument, NotWritten, Stopped, Store, TransactionRefused, VersionChanged, _merger,
-    version_of,
+    BadSchema, KeyTaken, Locked, NoSuchDocument, NotWritten, Stopped, Store, TransactionRefused, VersionChanged,
+    _merger, version_of,
 )
 from dilforec.service._lines import read_json
 from service_tools import FIELDS, Failing, Stored
@@ -124,8 +124,8 @@ class Calls(Stored):
         """JSON that the service is sent means what it does in a script."""
         store = self.opened()
         for text in '{"add":{"year":-0}}', '{"add":{"year":1.0}}':
-            with self.subTest(text), self.assertRaises(TransactionRefused) as raised, store.transaction() as transaction:
-                transaction.command(read_json(text))
+            with self.subTest(text), self.assertRaises(TransactionRefused) as raised, store.transaction() as wrong:
+                wrong.command(read_json(text))
             self.assertEqual(raised.exception.refusal.name, "WrongKind")
         for text in "NaN", "[-Infinity]", "{", "01":
             self.assertRaises(ValueError, read_json, text)
@@ -225,7 +225,8 @@ class Keys(Stored):
             transaction.put_by_key("b", {"shelf": "b"})
             transaction.delete("shelf", "d")
             transaction.add({"shelf": "d"})
-        self.assertEqual((transaction.ids[:2], transaction.ids[200:202], transaction.ids[300:]), ((5, 6), (5, 6), (2, 205)))
+        ids = transaction.ids
+        self.assertEqual((ids[:2], ids[200:202], ids[300:]), ((5, 6), (5, 6), (2, 205)))
         there = self.all(store)
         self.assertEqual((len(there), there[5]), (202, {"shelf": "0 \"\\", "year": 200}))
         store.compact()
@@ -238,7 +239,8 @@ class Keys(Stored):
         store.add({"shelf": "b"})
         for wrong, call in [
             (ValueError, lambda: store.add({"year": 1})), (ValueError, lambda: store.replace(1, {})),
-            (ValueError, lambda: store.put_by_key("a", {"shelf": "b"})), (NoSuchDocument, lambda: store.delete_by_key("c")),
+            (ValueError, lambda: store.put_by_key("a", {"shelf": "b"})),
+            (NoSuchDocument, lambda: store.delete_by_key("c")),
             (dilforec.WrongKind, lambda: store.add({"shelf": 1})), (dilforec.WrongKind, lambda: store.delete_by_key(7)),
             (dilforec.KeywordTooLong, lambda: store.add({"shelf": "x" * 300})),
             (dilforec.UnknownField, lambda: store.add({"shelf": "a", "what": 1})),
@@ -330,13 +332,15 @@ class Pages(Stored):
             id = chance.randint(1, 300)
             store.replace(id, {"title": "rust", "year": chance.choice([1, 2, 2, 2])})
         with store.snapshot() as snapshot:
-            for query, k, order in itertools.product(["*", "rust", "rust year:2"], [1, 7, 60, 299], ["rising", "falling"]):
+            found_by = {
+                "*": lambda has: True, "rust": lambda has: has["title"] == "rust",
+                "rust year:2": lambda has: has["title"] == "rust" or has["year"] == 2,
+            }
+            there = [document for document in snapshot.documents(limit=1000) if "year" in document]
+            for query, k, order in itertools.product(found_by, [1, 7, 60, 299], ["rising", "falling"]):
                 hits, count = self.pages(snapshot, query, dilforec.Top("year", k, order))
                 sign = 1 if order == "rising" else -1
-                wanted = sorted(
-                    (sign * document["year"], document["id"]) for document in snapshot.documents(limit=1000)
-                    if "year" in document and (query == "*" or document["title"] == "rust" or "2" in query and document["year"] == 2)
-                )
+                wanted = sorted((sign * has["year"], has["id"]) for has in there if found_by[query](has))
                 self.assertEqual([(sign * hit.value, hit.id) for hit in hits], wanted)
                 self.assertGreaterEqual(count, len(hits))
             hits, _ = self.pages(snapshot, "rust", dilforec.Top("id", 50, "falling"), fields=["year"])
@@ -368,7 +372,8 @@ class Pages(Stored):
         top = dilforec.Top("year", 10_000)
         first = store.search("*", top=top, fields=[]).hits
         self.assertEqual((len(first), first[-1].id), (10_000, 10_000))
-        self.assertEqual([hit.id for hit in store.search("*", top=top, after=(1, 10_000)).hits], list(range(10_001, 10_051)))
+        rest = store.search("*", top=top, after=(1, 10_000)).hits
+        self.assertEqual([hit.id for hit in rest], list(range(10_001, 10_051)))
 
 
 class Merges(Stored):
@@ -394,8 +399,10 @@ class Merges(Stored):
         """A merge that can't be begun, run or ended is begun again after a later commit."""
         with mock.patch.object(_merger, "MOST_IN_A_COMMIT", 0):
             store = self.opened()
-        for target, name, error in [(dilforec.Index, "begin_merge", MemoryError), (threading.Thread, "start", RuntimeError),
-                                    (dilforec.Merge, "run", MemoryError), (dilforec.Index, "end_merge", MemoryError)]:
+        for target, name, error in [
+            (dilforec.Index, "begin_merge", MemoryError), (threading.Thread, "start", RuntimeError),
+            (dilforec.Merge, "run", MemoryError), (dilforec.Index, "end_merge", MemoryError),
+        ]:
             with mock.patch.object(target, name, side_effect=error), self.assertLogs("dilforec.service", "WARNING"):
                 for _ in range(20):
                     store.add({"title": "rust"})
@@ -541,6 +548,19 @@ class Threads(Stored):
             kinds = [type(each.error) for each in wait]
             self.assertEqual(kinds, [[type(None), NotWritten, NotWritten, NotWritten], [NotWritten] * 4][refusals - 1])
             self.assertEqual((len(store), store.writable), (2, True))
+
+    def test_no_memory_to_look(self):
+        """If there is no memory to look for a document, that change isn't done, and the others are."""
+        store = self.opened()
+        store.add({})
+        wait = [store.new_transaction() for _ in range(3)]
+        wait[0].add({})
+        wait[1].replace(1, {"title": "never"})
+        wait[2].add({})
+        with mock.patch.object(dilforec.Index, "search", side_effect=MemoryError):
+            store.do(*wait)
+        self.assertEqual([type(each.error) for each in wait], [type(None), NotWritten, type(None)])
+        self.assertEqual((self.all(store), store.writable), ({1: {}, 2: {}, 3: {}}, True))
 
     def test_one_after_the_other(self):
         """Transactions that wait together do what they would do one after the other."""

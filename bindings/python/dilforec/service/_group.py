@@ -1,11 +1,12 @@
 """Transactions that share a sync and a commit, and the lines that they become."""
 from __future__ import annotations
 
+from collections.abc import Sequence
 from typing import Optional
 
 from dilforec.index import Index
 from dilforec.service import _lines as lines
-from dilforec.service._errors import KeyTaken, NoSuchDocument, NotWritten, VersionChanged
+from dilforec.service._errors import KeyTaken, NoSuchDocument, VersionChanged
 from dilforec.service._lines import Key, Operation
 from dilforec.service._lookups import Lookups
 from dilforec.service._transaction import Transaction
@@ -41,26 +42,19 @@ class Group:
     def __init__(self, index: Index, key: Optional[Field], last_id: int) -> None:
         self.members: "list[Transaction]" = []
         self.last_id = self._first_id = last_id
-        # How many of those that wait were looked at: the members, and those that have an error.
-        self.taken = 0
         self._lookups, self._key = Lookups(index, key), key
         self._changed, self._by_value, self._operations = _Subjects(), False, 0
 
     def take(self, transaction: Transaction) -> bool:
         """Takes the next transaction, unless it has to wait for the commit of those before it."""
-        self._operations += len(transaction)
-        if self.taken and self._operations > _MOST_OPERATIONS:
+        if self.members and self._operations + len(transaction) > _MOST_OPERATIONS:
             return False
-        try:
-            draft = self._drafted(transaction)
-        except MemoryError as error:
-            transaction.error = NotWritten("nothing was done: there was no memory")
-            transaction.error.__cause__ = error
-            self.taken += 1
+        if transaction.is_plain:
+            self._give_plain(transaction)
             return True
+        draft = self._drafted(transaction)
         if self.members and self._hinders(draft):
             return False
-        self.taken += 1
         if draft.error is not None:
             transaction.error = draft.error
         else:
@@ -73,7 +67,9 @@ class Group:
         """Leaves out the members that have an error, and numbers the documents of the others without gaps."""
         members, self.members, self.last_id = self.members, [], self._first_id
         for each in members:
-            if each.error is None:
+            if each.error is None and each.is_plain:
+                self._give_plain(each)
+            elif each.error is None:
                 self._give(self._drafted(each), each)
 
     @property
@@ -92,9 +88,20 @@ class Group:
         is_new = any(id > self._first_id for id in draft.subjects.ids)
         return self._by_value or is_new or self._changed.meets(draft.subjects)
 
+    def _give_plain(self, transaction: Transaction) -> None:
+        """Numbers the documents of a transaction that has adds alone."""
+        first, self.last_id = self.last_id + 1, self.last_id + len(transaction.operations)
+        ids = range(first, self.last_id + 1)
+        block = b"".join([lines.add_line(each.text, id) for each, id in zip(transaction.operations, ids)])
+        self._add(transaction, block, range(1, len(ids) + 1), ids)
+
     def _give(self, draft: _Draft, transaction: Transaction) -> None:
         self.last_id = draft.last_id
-        transaction.drafted(b"".join(draft.lines), draft.owners, draft.ids)
+        self._add(transaction, b"".join(draft.lines), draft.owners, draft.ids)
+
+    def _add(self, transaction: Transaction, block: bytes, owners: "Sequence[int]", ids: "Sequence[int]") -> None:
+        transaction.drafted(block, owners, ids)
+        self._operations += len(transaction)
         self.members.append(transaction)
 
 

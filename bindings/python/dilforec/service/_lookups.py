@@ -25,11 +25,12 @@ class Lookups:
     def is_there(self, id: int) -> bool:
         """Whether there is a document of a number."""
         if id not in self._there:
-            fields = ["id"] if self._key is None else ["id", self._key.name]
-            hits = self._index.search(f"id:{id:d}", top=Top("id", 1), fields=fields).hits
-            self._there[id] = bool(hits)
-            if hits and self._key is not None:
-                self._keys[id] = hits[0].document.get(self._key.name)
+            if self._key is None:
+                self._there[id] = self._index.search(f"id:{id:d}").count > 0
+            else:
+                hits = self._index.search(f"id:{id:d}", top=Top("id", 1), fields=["id", self._key.name]).hits
+                self._there[id] = bool(hits)
+                self._keys[id] = hits[0].document.get(self._key.name) if hits else None
         return self._there[id]
 
     def key_of(self, id: int) -> Optional[Key]:

@@ -207,7 +207,7 @@ class Store:
         """Hands in transactions, as `do` does, and doesn't wait.
 
         `then` is called when all of them are done, in the thread of the store; in this one, if the store is closed. It
-        should take no time, and raise nothing.
+        should take no time, and make no call of the store.
         """
         _check_new(transactions)
         self._worker.submit(*transactions, then=then)
@@ -305,14 +305,16 @@ class Store:
     def compact(self, *, schema: Optional[Iterable[Field]] = None, drop: Collection[str] = ()) -> Sizes:
         """Writes the journal anew with the live documents alone, while searches and transactions go on.
 
-        No answer changes by it. With a schema, the store has those fields then: new ones are empty, those that it has no
-        more are named in `drop`, and are gone from the documents, default marks are as they are there. Transactions wait
-        for that as for a start, and there is an index of each schema meanwhile.
+        No answer changes by it. With a schema, the store has those fields then: new ones are empty, those of `drop` are
+        gone from the documents, and the marks as default are those of the schema. Transactions wait for that as long as
+        a start takes, and there is an index of each schema meanwhile.
 
         Busy is raised if another thread does it, BadSchema if a field would be lost or have another kind, NotWritten if
         there is no room, or the file can't be given to the journal's owner; the journal is as it was then. So it is if
         the wait is interrupted.
         """
+        if isinstance(drop, str):
+            raise TypeError("`drop` is a list of names")
         compacting, worker = Compacting(), self._worker
         fields = [field for field in self.fields if field.name not in drop] if schema is None else list(schema)
         try:

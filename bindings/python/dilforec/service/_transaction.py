@@ -1,7 +1,7 @@
 """A transaction: what a caller asks for, and then what came of it."""
 from __future__ import annotations
 
-from collections.abc import Mapping
+from collections.abc import Mapping, Sequence
 from typing import Any, NamedTuple, Optional, Union
 
 from dilforec import sentences
@@ -30,51 +30,58 @@ class Transaction(Job):
     has to have; all raise the index's refusal of what has no JSON. Other refusals come at the end.
     """
 
+    # Whether it has adds alone, and they are of a store without a key, so that nothing has to be looked up.
+    is_plain = True
+    # The lines that it becomes, and for each of them its operation's number, from 1.
+    block = b""
+    owners: "Sequence[int]" = ()
+    _ids: "Sequence[int]" = ()
+    _commit = 0
+
     def __init__(self, key: Optional[Field] = None) -> None:
         super().__init__()
         self.operations: "list[Operation]" = []
-        # The lines that it becomes, and for each of them its operation's number, from 1.
-        self.block = b""
-        self.owners: "list[int]" = []
         self._key = key
-        self._ids: "list[int]" = []
-        self._commit = 0
 
     def add(self, document: "Mapping[str, Any]") -> None:
         """Adds a document, which gets a number; if its key is there, it replaces that document, and has its number."""
-        self.operations.append(Operation(lines.document_text(document), True, key=self._key_in(document)))
+        text = lines.document_text(document)
+        if self._key is None:
+            self.operations.append(Operation(text, True))
+        else:
+            self._append(Operation(text, True, None, self._key_in(document)))
 
     def replace(self, id: int, document: "Mapping[str, Any]", *, version: Optional[str] = None) -> None:
         """Puts a document in the place of the one of a number."""
         text = lines.document_text(document, id)
-        self.operations.append(Operation(text, True, id, self._key_in(document), True, version))
+        self._append(Operation(text, True, id, self._key_in(document), True, version))
 
     def put_by_key(self, key: Key, document: "Mapping[str, Any]", *, version: Optional[str] = None) -> None:
         """Adds a document, or puts it in the place of the one of its key; with a version, that has to be there."""
         field, text = self._checked(key), lines.document_text(document)
         if self._key_in(document) != key:
             raise ValueError(f"the document has {document[field.name]!r} in {field.name!r}, and not {key!r}")
-        self.operations.append(Operation(text, True, None, key, version is not None, version))
+        self._append(Operation(text, True, None, key, version is not None, version))
 
     def delete(self, field: str, value: "Union[str, int]") -> None:
         """Deletes the documents that have a value: a whole keyword, a number, `id` too, or a word of a text."""
         is_number = isinstance(value, int) and not isinstance(value, bool)
         id = value if field == "id" and is_number and isinstance(value, int) else None
         by_key = self._key is not None and field == self._key.name and sentences.is_of(self._key.kind, value)
-        self.operations.append(Operation(lines.delete_line(field, value), False, id, value if by_key else None))
+        self._append(Operation(lines.delete_line(field, value), False, id, value if by_key else None))
 
     def delete_document(self, id: int, *, version: Optional[str] = None) -> None:
         """Deletes the document of a number."""
-        self.operations.append(Operation(lines.delete_line("id", id), False, id, None, True, version))
+        self._append(Operation(lines.delete_line("id", id), False, id, None, True, version))
 
     def delete_by_key(self, key: Key, *, version: Optional[str] = None) -> None:
         """Deletes the document of a key."""
         line = lines.delete_line(self._checked(key).name, key)
-        self.operations.append(Operation(line, False, None, key, True, version))
+        self._append(Operation(line, False, None, key, True, version))
 
     def delete_all(self) -> None:
         """Deletes all documents."""
-        self.operations.append(Operation(b'{"delete_all":true}', False))
+        self._append(Operation(b'{"delete_all":true}', False))
 
     def command(self, command: object) -> None:
         """Does what a script's line says, read from its JSON: {"add": ..}, {"delete": ..} or {"delete_all": true}."""
@@ -87,6 +94,10 @@ class Transaction(Job):
             if name == "delete_all" and given is True:
                 return self.delete_all()
         raise ValueError("a transaction takes add, delete and delete_all alone, one in a line")
+
+    def _append(self, operation: Operation) -> None:
+        self.is_plain = False
+        self.operations.append(operation)
 
     def _checked(self, key: Key) -> Field:
         """The field of keys, if a value can be one."""
@@ -106,7 +117,7 @@ class Transaction(Job):
         self._checked(key)
         return key if isinstance(key, (str, int)) else None
 
-    def drafted(self, block: bytes, owners: "list[int]", ids: "list[int]") -> None:
+    def drafted(self, block: bytes, owners: "Sequence[int]", ids: "Sequence[int]") -> None:
         """Notes the lines that it becomes, each one's operation, and the numbers of its documents."""
         self.block, self.owners, self._ids = block, owners, ids
 

@@ -3,7 +3,9 @@ from __future__ import annotations
 
 import logging
 import queue
+import sys
 import threading
+import time
 from collections import deque
 from collections.abc import Callable, Iterator
 from typing import Generic, Optional, TypeVar, Union
@@ -12,9 +14,15 @@ from dilforec.service._errors import Stopped
 
 log = logging.getLogger("dilforec.service")
 
+# Who handed in several jobs that were done together has a moment, in seconds, to hand in the next. So these share the
+# work, and the callers don't want the interpreter whenever the worker waits for the disk.
+_PAUSE_EACH, _LONGEST_PAUSE = 10e-6, 500e-6
+
 
 class Event:
     """Something that happens once. Unlike that of threading, no interrupt of a wait is in the way of `set`."""
+
+    __slots__ = "_waits", "is_set"
 
     def __init__(self) -> None:
         # Each wait has a lock of its own, so that it leaves nothing that others need.
@@ -39,12 +47,15 @@ class Event:
 class Job:
     """Something that a worker does once. `error` is what was in its way."""
 
+    error: Optional[Exception] = None
+    # It was handed in.
+    is_submitted = False
+    # Nobody waits for it any more, so it isn't begun if it wasn't.
+    withdrawn = False
+    _then: "Optional[_Countdown]" = None
+
     def __init__(self) -> None:
-        self.error: Optional[Exception] = None
-        # It was handed in; nobody waits for it any more, so it isn't begun if it wasn't.
-        self.is_submitted = self.withdrawn = False
         self._over = Event()
-        self._then: Optional[_Countdown] = None
 
     @property
     def is_done(self) -> bool:
@@ -85,7 +96,10 @@ class _Countdown:
 
     def less(self) -> None:
         if self._left.pop() == 0:
-            self._call()
+            try:
+                self._call()
+            except Exception:
+                log.exception("what was to be told of a change couldn't be told")
 
 
 J = TypeVar("J", bound=Job)
@@ -107,6 +121,8 @@ class Worker(Generic[J]):
         # Why it takes no more jobs.
         self._ended: Optional[str] = None
         self._over = Event()
+        # How many jobs were done together the last time.
+        self._done = 0
         threading.Thread(target=self._run, name=name, daemon=True).start()
 
     def submit(self, *jobs: J, then: "Optional[Callable[[], None]]" = None) -> None:
@@ -115,7 +131,8 @@ class Worker(Generic[J]):
             then()
         countdown = _Countdown(len(jobs), then) if then is not None else None
         for job in jobs:
-            job.is_submitted, job._then = True, countdown
+            job.is_submitted = True
+            job._then = countdown
         self._hand_in(jobs)
 
     def do(self, *jobs: J) -> None:
@@ -145,7 +162,7 @@ class Worker(Generic[J]):
             self._awaited.difference_update(jobs)
 
     def end(self, why: str) -> None:
-        """Takes no more jobs: each that waits, or is handed in later, has the error Stopped. A call of its own does it."""
+        """Takes no more jobs: each that waits, or comes later, has the error Stopped. A call of its own does it."""
         self._ended = why
         # The first is the one that calls this.
         while len(self._waiting) > 1:
@@ -157,7 +174,7 @@ class Worker(Generic[J]):
         self._over.wait()
 
     def forget(self, why: str) -> None:
-        """Ends it in a child of a fork, which has no such thread. A wait that the fork interrupted ends, too."""
+        """Ends it where its thread is gone, as in a child of a fork. A wait that the fork interrupted ends, too."""
         self._ended, self._queue = why, queue.SimpleQueue()
         self._over.set()
         for job in self._awaited:
@@ -165,6 +182,9 @@ class Worker(Generic[J]):
                 self._refuse(job)
 
     def _hand_in(self, jobs: "tuple[Union[J, Call], ...]") -> None:
+        if sys.is_finalizing():
+            # The interpreter has stopped the thread already.
+            self.forget("the interpreter ends")
         self._queue.put(jobs)
         if self._ended is not None:
             self._refuse_queued()
@@ -174,13 +194,22 @@ class Worker(Generic[J]):
             while self._ended is None:
                 self._take()
                 if self._waiting:
-                    for _ in range(self._worked()):
+                    self._done = self._worked()
+                    for _ in range(self._done):
                         self._waiting.popleft().finish()
+        except BaseException as error:
+            log.critical("the thread of the store ended: %r", error)
+            self._ended = f"nothing was done: the thread of the store ended ({error!r})"
         finally:
+            while self._waiting:
+                self._refuse(self._waiting.pop())
+            self._refuse_queued()
             self._over.set()
 
     def _take(self) -> None:
         """Takes what was handed in; if nothing waits, as soon as something is."""
+        if self._done > 1:
+            time.sleep(min(self._done * _PAUSE_EACH, _LONGEST_PAUSE))
         if not self._waiting:
             self._add(self._queue.get())
         while not self._queue.empty():

@@ -36,25 +36,33 @@ class Writer:
     def commit(self, waiting: Iterator[Transaction]) -> int:
         """Does a beginning of what waits with one sync and one commit, and returns how many transactions that were."""
         group = Group(self.index, self._key, self.numbers.last_id)
-        seen: "list[Transaction]" = []
+        taken = self._gather(group, waiting)
         try:
-            for each in waiting:
-                seen.append(each)
-                if self.stopped:
-                    each.error = Stopped(self.stopped)
-                elif not group.take(each):
-                    seen.pop()
-                    break
             self._execute(group)
             if group.members:
                 self._write(group)
         except BaseException as error:
             # Not an error that was thought of: what is in the index now, and in the file, isn't known.
             self.stop(f"outcome unknown: {error!r}")
-            for each in seen:
+            for each in group.members:
                 each.error = each.error or OutcomeUnknown(f"outcome unknown: {error!r}")
             log.exception("a transaction failed")
-        return len(seen)
+        return taken
+
+    def _gather(self, group: Group, waiting: Iterator[Transaction]) -> int:
+        """Takes a beginning of what waits, and returns how many transactions that were. The index stays as it is."""
+        taken = 0
+        for each in waiting:
+            try:
+                if self.stopped:
+                    each.error = Stopped(self.stopped)
+                elif not group.take(each):
+                    break
+            except BaseException as error:
+                each.error = NotWritten(f"nothing was done: {error!r}")
+                log.exception("a transaction can't be made")
+            taken += 1
+        return taken
 
     def stop(self, why: str) -> None:
         """Refuses all later transactions."""
