@@ -27,7 +27,8 @@ class Asgi(Stored):
         given = [(b"host", b"here"), (b"content-type", b"application/json"), *headers]
         given += [(b"authorization", b"Bearer " + token.encode())] if token else []
         path, _, query = path.partition("?")
-        asked = {"type": "http", "method": method, "path": path, "query_string": query.encode(), "headers": given, **(scope or {})}
+        asked = {"type": "http", "method": method, "path": path, "query_string": query.encode(), "headers": given,
+                 **(scope or {})}
         sent, left, self.read = [], list(parts), 0
 
         async def receive():
@@ -47,9 +48,11 @@ class Asgi(Stored):
         if not sent:
             return None
         start, body = sent
-        self.assertEqual([type(value) for pair in start["headers"] for value in pair], [bytes] * 2 * len(start["headers"]))
+        self.assertEqual([type(value) for pair in start["headers"] for value in pair],
+                         [bytes] * 2 * len(start["headers"]))
         told = dict(start["headers"])
-        self.assertEqual(int(told.get(b"content-length", 0)), len(body["body"]) if method != "HEAD" else int(told[b"content-length"]))
+        self.assertEqual(int(told.get(b"content-length", 0)),
+                         len(body["body"]) if method != "HEAD" else int(told[b"content-length"]))
         return start["status"], told, json.loads(body["body"] or b"null")
 
     def asked(self, *given, **more):
@@ -57,7 +60,8 @@ class Asgi(Stored):
 
     def test_calls(self):
         """A body in parts, a search, a head without a body, and errors."""
-        self.assertEqual(self.asked("POST", "/documents", b'{"tit', b'le":', b'"a"}')[::2], (201, {"ids": [1], "commit": 1}))
+        self.assertEqual(self.asked("POST", "/documents", b'{"tit', b'le":', b'"a"}')[::2],
+                         (201, {"ids": [1], "commit": 1}))
         self.assertEqual(self.asked("GET", "/search?q=a")[2]["count"], 1)
         self.assertEqual(self.asked("HEAD", "/documents/1")[2], None)
         self.assertEqual(self.asked("GET", "/documents/7")[2]["error"], "NoSuchDocument")
@@ -76,9 +80,10 @@ class Asgi(Stored):
     def test_bodies(self):
         """Bodies that arrive at a time are held up to a number of bytes; others are refused, and taken again later."""
         async def many():
-            slow = [asyncio.create_task(self.ask("POST", "/documents", b"[" + b" " * 80, ends=False)) for _ in range(19)]
+            half = b"[" + b" " * 80
+            slow = [asyncio.create_task(self.ask("POST", "/documents", half, ends=False)) for _ in range(19)]
             await asyncio.sleep(0.05)
-            told = await self.ask("POST", "/documents", b"[" + b" " * 80 + b"]")
+            told = await self.ask("POST", "/documents", half + b"]")
             return told, await asyncio.gather(*slow)
 
         told, slow = asyncio.run(many())
@@ -89,12 +94,14 @@ class Asgi(Stored):
     def test_together(self):
         """Changes of one round share a sync, and each has its own answer; a failing store answers each."""
         async def many():
-            return await asyncio.gather(*(self.ask("POST", "/documents", body) for body in [b"{}", b'{"year":"x"}', b"{}", b"["] * 5))
+            bodies = [b"{}", b'{"year":"x"}', b"{}", b"["] * 5
+            return await asyncio.gather(*(self.ask("POST", "/documents", body) for body in bodies))
 
         told = asyncio.run(many())
         self.assertEqual([status for status, _, _ in told], [201, 400, 201, 400] * 5)
         self.assertEqual(len({body["commit"] for _, _, body in told if "commit" in body}), 1)
-        with mock.patch.object(type(self.store), "submit", side_effect=RuntimeError("broken")), self.assertLogs("dilforec.service", "ERROR"):
+        broken = mock.patch.object(type(self.store), "submit", side_effect=RuntimeError("broken"))
+        with broken, self.assertLogs("dilforec.service", "ERROR"):
             self.assertEqual({status for status, _, _ in asyncio.run(many())}, {500, 400})
         self.assertEqual(self.asked("POST", "/documents", b"{}")[0], 201)
         self.store.close()
@@ -150,7 +157,8 @@ class Wsgi(Stored):
                     return error.code, json.load(error)
 
         with concurrent.futures.ThreadPoolExecutor(8) as pool:
-            told = list(pool.map(lambda number: ask("/documents", json.dumps({"title": f"é {number}"}).encode()), range(40)))
+            told = list(pool.map(lambda number: ask("/documents", json.dumps({"title": f"é {number}"}).encode()),
+                                 range(40)))
         self.assertEqual(sorted(body["ids"][0] for _, body in told), list(range(1, 41)))
         self.assertEqual(ask("/search?q=%C3%A9")[1]["count"], 40)
         self.assertEqual(ask("/documents/1")[1]["id"], 1)

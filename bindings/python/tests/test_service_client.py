@@ -1,5 +1,4 @@
-"""The client beside the store that the service serves, what keys, versions and pages answer over HTTP, and the description
-of all of it."""
+"""The client beside a store, what keys, versions and pages answer over HTTP, and the description of all of it."""
 import json
 import pathlib
 import random
@@ -41,7 +40,8 @@ class Clients(Served):
         def documents():
             document = {"title": chance.choice(["Rust book", "old book", "é"]), "day": f"d{chance.randrange(12)}",
                         "year": chance.randrange(3)}
-            return chance.choice([document] * 6 + [{"title": "no day"}, {"day": "d1", "year": -1}, {"day": "d1", "none": 1}])
+            refused = [{"title": "no day"}, {"day": "d1", "year": -1}, {"day": "d1", "none": 1}]
+            return chance.choice([document] * 6 + refused)
 
         with Store(FIELDS, self.folder / "other", key="day") as store:
             for _ in range(300):
@@ -54,7 +54,8 @@ class Clients(Served):
                 call = [
                     lambda it: it.add(document), lambda it: it.replace(id, document, version=version and "*"),
                     lambda it: it.delete(id), lambda it: it.put_by_key(day, {**document, "day": day}, version=version),
-                    lambda it: it.delete_by_key(day, version=version), lambda it: it.get(id), lambda it: it.get_by_key(day),
+                    lambda it: it.delete_by_key(day, version=version), lambda it: it.get(id),
+                    lambda it: it.get_by_key(day),
                     lambda it: it.documents(id, 3),
                     lambda it: it.search(query, top=top, fields=["year"], after=(1, id) if top else None),
                 ][kind]
@@ -65,7 +66,8 @@ class Clients(Served):
                     self.assertEqual(mine, wanted, kind)
             self.assertEqual((len(client), client.commits, client.key), (len(store), store.commits, "day"))
             self.assertEqual((client.fields, client.writable), (FIELDS, True))
-            self.assertEqual(client.search("*", groups=["day"]).groups["day"], store.search("*", groups=["day"]).groups["day"])
+            self.assertEqual(client.search("*", groups=["day"]).groups["day"],
+                             store.search("*", groups=["day"]).groups["day"])
             with client.transaction() as mine, store.transaction() as wanted:
                 for each in mine, wanted:
                     each.delete_all()
@@ -103,7 +105,7 @@ class Clients(Served):
             client.add({})
 
     def test_broken(self):
-        """A change whose connection breaks before the answer may have been done, and says so; an idle one is opened again."""
+        """A change whose connection breaks before the answer may have been done; one that is idle is opened again."""
         server = self.serve("--idle", 1, slow_syncs=True)
         client = self.client(server)
         client.add({})
@@ -146,9 +148,12 @@ class Keys(Served):
         self.assertEqual(ask("PUT", "/documents/key/new", {"day": "new", "year": 4})[1]["ids"], [3])
         self.assertEqual(ask("DELETE", "/documents/key/a%2Fb"), (200, {"ids": [], "commit": 5}))
         for method, path, body, status, name in [
-            ("GET", "/documents/key/a%2Fb", None, 404, "NoSuchDocument"), ("DELETE", "/documents/key/none", None, 404, "NoSuchDocument"),
-            ("PUT", "/documents/key/new", {"day": "old"}, 400, "BadKey"), ("PUT", "/documents/key/new", {"id": 3}, 400, "BadKey"),
-            ("POST", "/documents", {"year": 1}, 400, "BadCommand"), ("POST", "/documents", [{"day": "x"}, {"day": 1}], 400, "WrongKind"),
+            ("GET", "/documents/key/a%2Fb", None, 404, "NoSuchDocument"),
+            ("DELETE", "/documents/key/none", None, 404, "NoSuchDocument"),
+            ("PUT", "/documents/key/new", {"day": "old"}, 400, "BadKey"),
+            ("PUT", "/documents/key/new", {"id": 3}, 400, "BadKey"),
+            ("POST", "/documents", {"year": 1}, 400, "BadCommand"),
+            ("POST", "/documents", [{"day": "x"}, {"day": 1}], 400, "WrongKind"),
             ("PUT", "/documents/2", {"day": "new"}, 409, "KeyTaken"), ("GET", "/documents/key/", None, 404, "NotFound"),
             ("POST", "/documents/key/x", {}, 405, "MethodNotAllowed"),
         ]:
@@ -161,7 +166,8 @@ class Keys(Served):
         self.assertEqual(server.ask("GET", "/documents/key/7")[1], {"id": 1, "title": "x", "year": 7})
         self.assertEqual(server.ask("GET", "/documents/key/seven")[0], 404)
         self.assertEqual(self.serve(journal=self.folder / "none").ask("GET", "/documents/key/7")[1]["error"], "NoKey")
-        self.assertIn("title", self.refused("serve", "--schema", self.schema, "--journal", self.folder / "text", "--key", "title"))
+        self.assertIn("title", self.refused("serve", "--schema", self.schema, "--journal", self.folder / "text",
+                                            "--key", "title"))
 
     def test_versions(self):
         """A change may say which version it is of; a reader who has what is there gets a 304."""
@@ -179,7 +185,8 @@ class Keys(Served):
             self.assertEqual(ask("PUT", path, changed, If_Match=tag)[0], 200)
             for given, status in (tag, 412), ('"x"', 412), (f"W/{tag}", 412), ("*", 200), (f"{tag}, {tag}", 400):
                 got, told = ask("PUT", path, {**changed, "year": changed["year"] + (given == "*")}, If_Match=given)
-                self.assertEqual((got, told.get("error")), (status, {412: "VersionChanged", 400: "BadMatch"}.get(status)))
+                name = {412: "VersionChanged", 400: "BadMatch"}.get(status)
+                self.assertEqual((got, told.get("error")), (status, name))
             self.assertEqual(ask("DELETE", path, If_Match=tag)[0], 412)
             self.assertEqual(ask("PUT", path, changed, If_None_Match="*")[1]["error"], "BadMatch")
         self.assertEqual(ask("POST", "/documents", {"day": "b"}, If_Match=tag)[1]["error"], "BadMatch")
@@ -233,10 +240,12 @@ class Keys(Served):
         wanted = [*SCHEMA[::2], {"name": "isbn", "kind": "keyword"}]
         status, told = server.ask("POST", "/compact", {"schema": wanted})
         self.assertEqual((status, told["error"]), (400, "BadSchema"))
-        for body in {"drop": ["day"]}, {"schema": 5}, {"schema": wanted, "more": 1}, [], {"schema": wanted, "drop": "day"}:
+        wrong = {"drop": ["day"]}, {"schema": 5}, {"schema": wanted, "more": 1}, [], {"schema": wanted, "drop": "day"}
+        for body in wrong:
             self.assertEqual(server.ask("POST", "/compact", body)[1]["error"], "BadSchema")
         self.assertEqual(server.ask("POST", "/compact", {"schema": wanted, "drop": ["day"]})[0], 200)
-        self.assertEqual([field["name"] for field in server.ask("GET", "/status")[1]["schema"]], ["title", "year", "isbn"])
+        self.assertEqual([field["name"] for field in server.ask("GET", "/status")[1]["schema"]],
+                         ["title", "year", "isbn"])
         self.assertEqual(server.ask("POST", "/documents", {"isbn": "978"})[0], 201)
         self.assertEqual(server.ask("GET", "/documents/1")[1], {"id": 1, "title": "kept", "year": 1})
         server.stop(15)
@@ -268,7 +277,8 @@ class Described(Served):
             return False
         if isinstance(value, list):
             parts = schema.get("prefixItems")
-            return all(self.fits(each, part) for each, part in zip(value, parts or [schema.get("items", {})] * len(value)))
+            return all(self.fits(each, part) for each, part in zip(value,
+                                                                   parts or [schema.get("items", {})] * len(value)))
         if isinstance(value, dict):
             members, others = schema.get("properties", {}), schema.get("additionalProperties", {})
             return set(schema.get("required", [])) <= set(value) and all(
@@ -296,7 +306,8 @@ class Described(Served):
         """Each path, each method, and what each refuses is as it is described, and nothing else is there."""
         token = self.folder / "token"
         token.write_text("abcdefghijklmnop")
-        server = self.serve("--key", "day", "--token-file", token, "--read-token-file", self.written("only-for-reading"),
+        server = self.serve("--key", "day", "--token-file", token, "--read-token-file",
+                            self.written("only-for-reading"),
                             "--body", 1000, "--answer", 3000)
         right, reads = {"Authorization": "Bearer abcdefghijklmnop"}, {"Authorization": "Bearer only-for-reading"}
         described = server.ask("GET", "/openapi.json", **reads)[1]
@@ -305,10 +316,14 @@ class Described(Served):
         server.ask("POST", "/documents", [{"day": "mon", "title": ["a", "b"], "year": 5}, {"day": "tue"}], **right)
         bodies = {"/documents": {"day": "wed"}, "/documents/{id}": {"day": "mon"}, "/documents/key/{key}": {"year": 1},
                   "/transaction": [{"add": {"day": "x"}}, {"delete": {"day": "x"}}], "/compact": None}
-        order = sorted((method == "delete", path, method) for path in self.paths for method in self.paths[path] if method != "parameters")
+        order = sorted((method == "delete", path,
+                        method) for path in self.paths for method in self.paths[path] if method != "parameters")
         for _, path, method in order:
             body = bodies.get(path) if method in ("post", "put") else None
-            for headers in {}, reads, {"Authorization": "Bearer x"}, {**right, "Host": "elsewhere"}, {**right, "Origin": "http://elsewhere"}:
+            for headers in [
+                {}, reads, {"Authorization": "Bearer x"}, {**right, "Host": "elsewhere"},
+                {**right, "Origin": "http://elsewhere"},
+            ]:
                 self.asked(server, method, path, body, **headers)
             self.asked(server, method, path, body, "?none=1", **right)
             self.asked(server, method, path, body, "?" + "a" * 70_000, **right)
@@ -327,7 +342,8 @@ class Described(Served):
             if method == "delete":
                 self.asked(server, method, path, **right)
                 server.ask("PUT", "/documents/key/mon", {"year": 1}, **right)
-        for query in "?q=a+b&groups=day,year:2&top=year,3,rising&fields=title&after=0,0", "?q=rust+OR", "?groups=title", "?top=x":
+        whole = "?q=a+b&groups=day,year:2&top=year,3,rising&fields=title&after=0,0"
+        for query in whole, "?q=rust+OR", "?groups=title", "?top=x":
             self.asked(server, "get", "/search", query=query, **right)
         statuses = {status for _, _, status in self.tried}
         self.assertLessEqual({200, 201, 304, 400, 401, 403, 404, 412, 413, 414, 415, 421}, statuses)
@@ -365,7 +381,8 @@ class Described(Served):
             server.ask("POST", "/documents", {})
         text = server.ask("GET", "/metrics")[1]
         for name in "searches", "transactions":
-            parts = [int(count) for count in re.findall(rf'^dilforec_{name}_seconds_bucket{{le="[^"]+"}} ([0-9]+)$', text, re.MULTILINE)]
+            parts = [int(count) for count in re.findall(rf'^dilforec_{name}_seconds_bucket{{le="[^"]+"}} ([0-9]+)$',
+                                                        text, re.MULTILINE)]
             self.assertEqual((parts, parts[-1]), (sorted(parts), 5))
             self.assertIn(f"\ndilforec_{name}_seconds_count 5\n", text)
             self.assertRegex(text, rf"\ndilforec_{name}_seconds_sum [0-9.]+\n")

@@ -92,8 +92,8 @@ class Readers(Faults):
         change = self.request(server, "POST /documents", JSON, f"Content-Length: {len(body)}", body=body)
         sock = self.opened(server, room=4096)
         sock.setblocking(False)
-        # 66 MB of answers, and then some MB of answers to changes: a server that waits in a change once 64 MiB are unsent
-        # hangs, however much of it the system takes.
+        # 66 MB of answers, and then some MB of answers to changes: a server that waits in a change once 64 MiB are
+        # unsent hangs, however much of it the system takes.
         left, last = memoryview(self.fill(server) * 11 + change * 120), time.monotonic() + 5
         while left and time.monotonic() < last:
             try:

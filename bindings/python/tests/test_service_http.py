@@ -127,15 +127,18 @@ class Answers(Served):
         """Groups are cut: the most frequent values first, equal counts by value, 100 if nothing is said."""
         server = self.serve()
         days = [f"d{number:03}" for number in range(150)]
-        documents = [{"day": day, "year": place % 3} for place, day in enumerate(days)] + [{"day": "d149"}, {"day": "d007"}]
-        server.ask("POST", "/documents", documents)
+        documents = [{"day": day, "year": place % 3} for place, day in enumerate(days)]
+        server.ask("POST", "/documents", documents + [{"day": "d149"}, {"day": "d007"}])
         told = server.ask("GET", "/search?groups=day&groups=year")[1]["groups"]
-        self.assertEqual(told["day"], [["d007", 2], ["d149", 2], *([day, 1] for day in days if day not in ("d007", "d149"))][:100])
+        others = [[day, 1] for day in days if day not in ("d007", "d149")]
+        self.assertEqual(told["day"], [["d007", 2], ["d149", 2], *others[:98]])
         self.assertEqual(told["year"], [[0, 50], [1, 50], [2, 50]])
         told = server.ask("GET", "/search?groups=day:3,year:1")[1]["groups"]
         self.assertEqual(told, {"day": [["d007", 2], ["d149", 2], ["d000", 1]], "year": [[0, 50]]})
         self.assertEqual(len(server.ask("GET", "/search?groups=day:10000")[1]["groups"]["day"]), 150)
-        for groups, name in ("day:0", "BadLimit"), ("day:10001", "BadLimit"), ("day:", "BadParameter"), ("day:x", "BadParameter"):
+        for groups, name in [
+            ("day:0", "BadLimit"), ("day:10001", "BadLimit"), ("day:", "BadParameter"), ("day:x", "BadParameter"),
+        ]:
             status, told = server.ask("GET", f"/search?groups={groups}")
             self.assertEqual((status, told["error"]), (400, name))
         status, told = server.ask("GET", "/search?groups=" + ",".join(f"f{number}" for number in range(9)))
@@ -146,14 +149,17 @@ class Answers(Served):
         server = self.serve("--clauses", 5, "--answer", 5000)
         server.ask("POST", "/documents", [{"title": "word " * 100}] * 30)
         for query, status in [
-            ("a+b+c+d+e", 200), ("a+b+c+d+e+f", 400), ("(a+OR+b)+AND+NOT+(c+OR+d)+AND+e", 200), ("%22a+b+c+d+e%22", 200),
+            ("a+b+c+d+e", 200), ("a+b+c+d+e+f", 400), ("(a+OR+b)+AND+NOT+(c+OR+d)+AND+e", 200),
+            ("%22a+b+c+d+e%22", 200),
             ("%22a+b+c+d+e+f%22", 400), ("year:[1+TO+2]+year:%3E3+title:a+day:b+c", 200),
             ("year:[1+TO+2]+year:%3E3+title:a+day:b+c+*", 400),
         ]:
             with self.subTest(query=query):
                 got, told = server.ask("GET", f"/search?q={query}&fields=day")
                 self.assertEqual((got, told.get("error")), (status, None if status == 200 else "TooManyClauses"))
-        for path, status in ("/search", 400), ("/search?fields=day", 200), ("/documents", 400), ("/documents?limit=5", 200):
+        for path, status in [
+            ("/search", 400), ("/search?fields=day", 200), ("/documents", 400), ("/documents?limit=5", 200),
+        ]:
             got, told = server.ask("GET", path)
             self.assertEqual((got, told.get("error")), (status, None if status == 200 else "AnswerTooLarge"))
         self.assertIn("fields", server.ask("GET", "/search")[1]["message"])

@@ -42,7 +42,8 @@ class Loads(Stored):
         self.options = ("--schema", self.schema, "--journal", self.journal)
 
     def run_command(self, *words, program=("-m", "dilforec"), status=0, **more):
-        done = subprocess.run([sys.executable, *program, *map(str, words)], capture_output=True, text=True, timeout=60, **more)
+        done = subprocess.run([sys.executable, *program, *map(str, words)], capture_output=True, text=True, timeout=60,
+                              **more)
         self.assertEqual(done.returncode, status, done.stderr)
         return done.stdout + done.stderr
 
@@ -52,7 +53,8 @@ class Loads(Stored):
 
     def lines(self, name, count, start=0):
         path = self.folder / name
-        path.write_text("".join(f'{{"title":"book {number}","year":{number}}}\n' for number in range(start, start + count)))
+        numbers = range(start, start + count)
+        path.write_text("".join(f'{{"title":"book {number}","year":{number}}}\n' for number in numbers))
         return path
 
     def test_lines(self):
@@ -64,19 +66,23 @@ class Loads(Stored):
         self.assertEqual([document["year"] for document in self.stored()], list(range(30)))
         self.run_command("load", self.lines("c.jsonl", 1, 30), "--journal", self.journal)
         self.assertEqual(self.stored()[-1], {"title": "book 30", "year": 30})
-        self.assertEqual(sorted(path.name for path in self.folder.iterdir()), ["a.jsonl", "b.jsonl", "c.jsonl", "journal", "schema.json"])
+        self.assertEqual(sorted(path.name for path in self.folder.iterdir()),
+                         ["a.jsonl", "b.jsonl", "c.jsonl", "journal", "schema.json"])
 
     def test_csv(self):
         """CSV, whose first line has the fields: quoted cells with line ends, empty cells, numbers."""
         path = self.folder / "books.csv"
         with path.open("w", newline="") as file:
             rows = csv.writer(file)
-            rows.writerows([["year", "title", "day"], [1986, 'Pearls, "programming"\nand more', ""], ["", "Gigabytes", "mon"], [1994]])
+            rows.writerows([["year", "title", "day"], [1986, 'Pearls, "programming"\nand more', ""],
+                            ["", "Gigabytes", "mon"], [1994]])
         self.run_command("load", path, *self.options)
         self.assertEqual(self.stored(), [
-            {"title": 'Pearls, "programming"\nand more', "year": 1986}, {"title": "Gigabytes", "day": "mon"}, {"year": 1994}])
+            {"title": 'Pearls, "programming"\nand more', "year": 1986}, {"title": "Gigabytes", "day": "mon"},
+            {"year": 1994}])
         for text, words in [
-            ("year,name\n1,x\n", "no field 'name'"), ("year\n1\nlate\n", "line 3: invalid literal"), ("year\n1,2\n", "line 2: it has 2 cells"),
+            ("year,name\n1,x\n", "no field 'name'"), ("year\n1\nlate\n", "line 3: invalid literal"),
+            ("year\n1,2\n", "line 2: it has 2 cells"),
             ("title\n\"a\nb\"\n\"unended\n", "line 4"),
         ]:
             path.write_text(text)
@@ -84,7 +90,7 @@ class Loads(Stored):
             (self.folder / "journal.loading").unlink(missing_ok=True)
 
     def test_refused(self):
-        """A line that is refused is named, what comes before its transaction is there, and the load goes on after it is right."""
+        """A line that is refused is named, what comes before its transaction is there, and then the load goes on."""
         path = self.lines("a.jsonl", 35)
         good = path.read_text()
         path.write_text(good.replace('"year":17}', '"year":"late"}'))
@@ -108,7 +114,8 @@ class Loads(Stored):
             for commit in range(1, 7 if when == "before" else 6):
                 with self.subTest(when=when, commit=commit):
                     self.journal.unlink(missing_ok=True)
-                    self.run_command("load", *files, *self.options, program=("-c", CUT, str(commit), when), status=-signal.SIGKILL)
+                    self.run_command("load", *files, *self.options, program=("-c", CUT, str(commit), when),
+                                     status=-signal.SIGKILL)
                     self.run_command("load", *files, *self.options, program=("-c", CUT, "0", "never"))
                     self.assertEqual([document["year"] for document in self.stored()], list(range(50)))
 

@@ -238,7 +238,8 @@ class Page(unittest.TestCase):
         browser.value("const box = document.getElementById('query'); box.focus(); box.value = 'war'")
         browser.key("Enter", "\r")
         browser.until(TOLD, "5 hits")
-        asked = [each["params"]["request"]["url"] for each in browser.events if each["method"] == "Network.requestWillBeSent"]
+        sent = [each["params"] for each in browser.events if each["method"] == "Network.requestWillBeSent"]
+        asked = [each["request"]["url"] for each in sent]
         self.assertEqual(len(asked), 1, asked)
         self.assertIn("groups=shelf%3A12%2Clanguage%3A12", asked[0])
         browser.value(f"{ORDERED}('pages,falling')")
@@ -250,16 +251,19 @@ class Page(unittest.TestCase):
     def test_marks(self):
         """Words are marked as the index finds them: no operators, no names of fields, nothing that is excluded."""
         documents = [
-            {"title": "War or peace", "author": "Title Word", "about": "title of a WAR: ΣΟΦΟΣ, peace and war, left hand"},
+            {"title": "War or peace", "author": "Title Word",
+             "about": "title of a WAR: ΣΟΦΟΣ, peace and war, left hand"},
             {"title": ["new word", "order"], "about": "word order, new order"},
         ]
         self.assertEqual(self.server.ask("POST", "/documents", documents)[0], 201)
         browser = self.browser
         for query, wanted in [
-            ("war OR nothing", ["War", "WAR", "war"]), ("title:war", ["War"]), ("war AND peace", ["War", "peace", "WAR", "peace", "war"]),
+            ("war OR nothing", ["War", "WAR", "war"]), ("title:war", ["War"]),
+            ("war AND peace", ["War", "peace", "WAR", "peace", "war"]),
             ("+war -title:order NOT author:peace", ["War", "WAR", "war"]), ('"and war"', ["and", "war"]),
             ("σοφος", ["ΣΟΦΟΣ"]), ("left-hand", ["left", "hand"]), ('"word order"', ["word", "order"]),
-            ("war -(peace -left) year:>3", ["War", "WAR", "war"]), ('about:"a war" (title:peace)', ["peace", "a", "WAR"]),
+            ("war -(peace -left) year:>3", ["War", "WAR", "war"]),
+            ('about:"a war" (title:peace)', ["peace", "a", "WAR"]),
         ]:
             with self.subTest(query=query):
                 self.go("?" + urllib.parse.urlencode({"q": f"+id:>81 +({query})"}))
@@ -272,7 +276,8 @@ class Page(unittest.TestCase):
         self.go()
         self.browser.until(TOLD, "81 hits")
         self.assertEqual(self.browser.value("document.querySelector('h1').textContent"), "Search")
-        labelled = "[...document.querySelectorAll('input, select')].map(each => each.labels[0]?.textContent.trim().split(/\\s/)[0])"
+        labelled = ("[...document.querySelectorAll('input, select')]"
+                    ".map(each => each.labels[0]?.textContent.trim().split(/\\s/)[0])")
         self.assertEqual(self.browser.value(labelled), ["Query", "Order", "Token"])
         self.assertEqual(self.server.ask("POST", "/documents", {"title": "שלום war"})[0], 201)
         self.go("?q=שלום")

@@ -48,7 +48,7 @@ def _add_loading(load: argparse.ArgumentParser) -> None:
     load.add_argument("files", metavar="FILE", nargs="+", help="a JSON text on each line; CSV if it ends with .csv")
     load.add_argument("--journal", metavar="FILE", required=True,
                       help="where the documents are kept; made if it isn't there")
-    load.add_argument("--schema", metavar="FILE", help="the fields, as a JSON list; those of the journal if it is there")
+    load.add_argument("--schema", metavar="FILE", help="the fields, as a JSON list; without it those of the journal")
     load.add_argument("--key", metavar="FIELD", help=_KEY)
 
 

@@ -139,7 +139,8 @@ def _application(given: argparse.Namespace, tokens: Tokens, bound: socket.socket
         log.warning("it listens beyond this machine: everybody can read; --read-token-file has reads need a token too")
     if host in ("0.0.0.0", "::") and not given.host:
         log.warning("it answers to localhost alone: --host gives the name that others use for it")
-    return Application(None, Guard(hosts, tokens, not beyond, given.allow_origin), Limits(given.body, given.answer, given.clauses))
+    guard = Guard(hosts, tokens, not beyond, given.allow_origin)
+    return Application(None, guard, Limits(given.body, given.answer, given.clauses))
 
 
 # Tokens
