@@ -73,17 +73,20 @@ def load(given: argparse.Namespace) -> int:
 
 
 def _load_file(store: Store, notes: _Notes, path: str, bar: _Bar) -> None:
+    """Loads a file. If a line is at fault, the transactions before it are done."""
     start = notes.start_of(path)
     found: "list[Found]" = []
-    with open(path, "rb") as file:
-        for each in _documents(file, path, start, store.fields):
-            found.append(each)
-            if len(found) == _MOST_DOCUMENTS or each.after.at - start.at >= _MOST_BYTES:
-                start = _commit(store, notes, path, start, found)
-                found = []
-                bar.show(start.at, len(store))
+    try:
+        with open(path, "rb") as file:
+            for each in _documents(file, path, start, store.fields):
+                found.append(each)
+                if len(found) == _MOST_DOCUMENTS or each.after.at - start.at >= _MOST_BYTES:
+                    start, found = _commit(store, notes, path, start, found), []
+                    bar.show(start.at, len(store))
         if found:
             _commit(store, notes, path, start, found)
+    except Refusal as error:
+        raise Refusal(f"{error}; what comes before line {start.line} is loaded") from None
 
 
 def _commit(store: Store, notes: _Notes, path: str, start: Place, found: "list[Found]") -> Place:
@@ -99,9 +102,7 @@ def _commit(store: Store, notes: _Notes, path: str, start: Place, found: "list[F
     except (TransactionRefused, Refused, ValueError) as error:
         notes.write(loading._replace(end=start))
         place, why = (error.number - 1, error.refusal) if isinstance(error, TransactionRefused) else (at, error)
-        raise Refusal(
-            f"{path}, line {found[place].line}: {why}; what comes before line {start.line} is loaded"
-        ) from None
+        raise Refusal(f"{path}, line {found[place].line}: {why}") from None
     return end
 
 
