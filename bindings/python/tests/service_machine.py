@@ -180,36 +180,36 @@ class Machine(RuleBasedStateMachine):
     def change(self, group, fault):
         """Transactions that wait together. The first sync of them may fail, and its cutting back."""
         group = [[each for each in operations if self.model.keyed or "by_key" not in each[0]] for operations in group]
-        wait, told = [], []
+        wait, asked = [], []
         for operations in filter(None, group):
             versions = [self.version(operation) for operation in operations]
             transaction = self.store.new_transaction()
             for operation, version in zip(operations, versions):
                 self.ask(transaction, operation, version)
             wait.append(transaction)
-            told.append((operations, versions))
-        self.disk.fails, before = dict(fault or {}), self.model.copy()
+            asked.append((operations, versions))
+        self.disk.fails = dict(fault or {})
         self.store.do(*wait)
         self.disk.fails = {}
         commits = set()
-        for transaction, (operations, versions) in zip(wait, told):
+        for transaction, (operations, versions) in zip(wait, asked):
             if isinstance(transaction.error, (NotWritten, OutcomeUnknown, Stopped)):
                 assert fault
                 continue
             came = self.model.done(operations, versions)
-            told_of = type(transaction.error) if transaction.error else transaction.ids
-            assert came == told_of, (came, transaction.error)
+            answered = type(transaction.error) if transaction.error else transaction.ids
+            assert came == answered, (came, transaction.error)
             if not transaction.error:
                 commits.add(transaction.commit)
         self.model.commits += len(commits)
         assert not commits or max(commits) == self.model.commits
         if not self.store.writable:
-            self.restart_unknown(before, wait, told)
+            self.restart_unknown(wait, asked)
 
-    def restart_unknown(self, before, wait, told):
+    def restart_unknown(self, wait, asked):
         """After an unknown outcome the transactions are there after a restart, all those of one sync, or none."""
         self.store.close()
-        unknown = [each for transaction, each in zip(wait, told) if isinstance(transaction.error, OutcomeUnknown)]
+        unknown = [each for transaction, each in zip(wait, asked) if isinstance(transaction.error, OutcomeUnknown)]
         self.open()
         if self.store.commits > self.model.commits:
             for operations, versions in unknown:

@@ -40,8 +40,8 @@ def is_left(store, path):
     return not store.writable and not descriptors(path)
 
 
-def count(snapshot, told):
-    told.put(snapshot.search("rust").count)
+def count(snapshot, counts):
+    counts.put(snapshot.search("rust").count)
 
 
 class Forks(Stored):
@@ -87,12 +87,12 @@ class Forks(Stored):
 
     def test_under_load(self):
         """Forks while threads write, search and compact: each child is apart, and no answered change is lost."""
-        store, ended, kept = self.opened(), threading.Event(), {}
+        store, ended, added = self.opened(), threading.Event(), {}
 
         def write(writer):
             while not ended.is_set():
-                title = f"w{writer} n{len(kept)}"
-                kept[store.add({"title": title})] = {"title": title}
+                title = f"w{writer} n{len(added)}"
+                added[store.add({"title": title})] = {"title": title}
 
         def compact():
             while not ended.is_set():
@@ -111,7 +111,7 @@ class Forks(Stored):
             thread.join()
         self.assertEqual(ends, [0] * 20)
         store.close()
-        self.assertEqual(self.all(self.opened()), kept)
+        self.assertEqual(self.all(self.opened()), added)
 
     def test_in_a_handler(self):
         """A child of a fork in the middle of a wait isn't left waiting; the parent's change is done."""
@@ -151,12 +151,12 @@ class Forks(Stored):
             store.add({"title": "rust"})
         kind = multiprocessing.get_context("fork")
         with store.snapshot() as snapshot:
-            told = kind.Queue()
-            readers = [kind.Process(target=count, args=(snapshot, told)) for _ in range(3)]
+            counts = kind.Queue()
+            readers = [kind.Process(target=count, args=(snapshot, counts)) for _ in range(3)]
             for reader in readers:
                 reader.start()
             store.add({"title": "rust"})
-            self.assertEqual([told.get(timeout=20) for _ in readers], [5, 5, 5])
+            self.assertEqual([counts.get(timeout=20) for _ in readers], [5, 5, 5])
             for reader in readers:
                 reader.join()
         self.assertEqual([reader.exitcode for reader in readers], [0, 0, 0])

@@ -206,22 +206,22 @@ class Workers(unittest.TestCase):
         self.assertEqual((early, len(done)), ([], sum(number % 7 for number in range(60))))
 
     def test_without_waiting(self):
-        """What is handed in without a wait is told of once all is over, also what is handed in too late."""
-        worker, told, over = Worker("test", self.one), [], threading.Event()
-        tasks = [Task(lambda: told.append("done")) for _ in range(3)]
-        worker.submit(*tasks, then=lambda: (told.append("told"), over.set()))
+        """After what was handed in without a wait a call is made once, also if it came too late."""
+        worker, done, over = Worker("test", self.one), [], threading.Event()
+        tasks = [Task(lambda: done.append("done")) for _ in range(3)]
+        worker.submit(*tasks, then=lambda: (done.append("then"), over.set()))
         self.assertTrue(over.wait(20))
-        self.assertEqual((told, [task.is_done for task in tasks]), (["done"] * 3 + ["told"], [True] * 3))
-        worker.submit(then=lambda: told.append("none"))
+        self.assertEqual((done, [task.is_done for task in tasks]), (["done"] * 3 + ["then"], [True] * 3))
+        worker.submit(then=lambda: done.append("none"))
         worker.call(lambda: worker.end("over"))
         worker.wait_for_end()
-        late = Task(lambda: told.append("late"))
-        worker.submit(late, then=lambda: told.append("refused"))
-        self.assertEqual((told[4:], type(late.error)), (["none", "refused"], Stopped))
-        self.assertRaises(Stopped, worker.call, lambda: told.append("late"))
+        late = Task(lambda: done.append("late"))
+        worker.submit(late, then=lambda: done.append("refused"))
+        self.assertEqual((done[4:], type(late.error)), (["none", "refused"], Stopped))
+        self.assertRaises(Stopped, worker.call, lambda: done.append("late"))
 
-    def test_telling_fails(self):
-        """A call that was to tell that a job is over, and fails, is logged, and the next jobs are done."""
+    def test_then_fails(self):
+        """If the call after a job fails, that is logged, and the next jobs are done."""
         worker = self.worker(self.one)
         with self.assertLogs("dilforec.service", "ERROR"):
             worker.submit(Task(lambda: None), then=lambda: 1 // 0)
@@ -242,7 +242,7 @@ class Workers(unittest.TestCase):
         self.assertEqual((done, task.is_done), ([2], True))
 
     def test_failing(self):
-        """A job that fails as nobody thought of is told so, and the next ones are done."""
+        """A job that fails as nobody thought of has that error, and the next ones are done."""
         worker, task = self.worker(self.one), Task(lambda: 1 // 0)
         with self.assertLogs("dilforec.service", "ERROR"):
             worker.do(task)
@@ -279,7 +279,7 @@ class Ends(Stored):
         return [thread.name for thread in threading.enumerate() if thread.name.startswith("dilforec")]
 
     def test_all_ends(self):
-        """A store that is closed has no thread any more, and isn't kept alive, though it began merges."""
+        """A store that is closed has no thread any more, and is collected, though it began merges."""
         stores = []
         for number in range(5):
             with mock.patch.object(dilforec.Index, "begin_merge", side_effect=[Merge()] + [None] * 50):

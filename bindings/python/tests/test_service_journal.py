@@ -185,11 +185,13 @@ class Journals(Stored):
             json.dumps({"schema": [{"name": "title", "kind": "text"}]}).encode(), json.dumps([{"name": "title", "kind": "text"}]).encode(), schema[:-1] + b" ", schema[:20] + b"\0", b"{}",
             b'{"schema":[{"name":"title","kind":"text","default":true}]}', schema[:-1] + schema[:-1],
         ]
+        beside = self.folder / "journal.compacting"
+        beside.write_text("other")
         for mistake in mistakes:
             with self.subTest(mistake[:40]):
                 self.journal.write_bytes(mistake)
                 self.assertRaises(BadJournal, Store, FIELDS, self.journal)
-                self.assertEqual(self.journal.read_bytes(), mistake)
+                self.assertEqual((self.journal.read_bytes(), beside.read_text()), (mistake, "other"))
         for size in 0, 1, 20, len(schema) - 1:
             self.journal.write_bytes(schema[:size])
             with Store(FIELDS, self.journal) as store:

@@ -22,7 +22,7 @@ class Compacting(Job):
 
 
 class Compactor:
-    """Compactions, of which the long part is a thread's of its own, while transactions go on.
+    """Compactions. A thread of their own does the long part, while transactions go on.
 
     `begin` and `change_schema` are called while nothing is written, and `alone` has a call made so. `snapshot` gives
     one of the last commit.

@@ -128,17 +128,17 @@ def lines(fd: int, start: int, end: int) -> "Iterator[bytes]":
 
 def lines_backwards(fd: int, start: int, end: int) -> "Iterator[bytes]":
     """The lines between two places from the last to the first, each without its LF."""
-    at, kept = end, b""
+    at, begun = end, b""
     while at > start:
         low = max(start, at - _BLOCK)
         read = os.pread(fd, at - low, low)
         if len(read) < at - low:
             raise OSError(f"the file ends at byte {low + len(read)}, before {at}")
-        at, text = low, read + kept
+        at, text = low, read + begun
         if at > start:
             # The first line may have begun in the block before.
             first, lf, text = text.partition(b"\n")
-            kept = first + lf
+            begun = first + lf
         yield from reversed(text.split(b"\n")[:-1])
 
 

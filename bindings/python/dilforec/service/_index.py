@@ -62,7 +62,7 @@ def execute_lines(index: Index, lines: bytes) -> Executed:
 
 
 def _blocks(lines: bytes) -> "Iterator[bytes]":
-    """Lines in blocks of a megabyte, for each of which room for the replies is made, or of one line that is longer."""
+    """Lines in blocks of a megabyte, or of one line that is longer. Each block has room made for its replies."""
     start = 0
     while start < len(lines):
         end = len(lines) if len(lines) - start <= _BLOCK else lines.rfind(b"\n", start, start + _BLOCK) + 1

@@ -25,8 +25,6 @@ class Journal:
         self.disk = disk
         self._file = LockedFile(self.path)
         try:
-            # What is beside it is what a compaction left that didn't come to its end.
-            _remove(self.beside)
             self.size = os.fstat(self.fd).st_size
             self.schema = self._first_line()
             self.end = files.after_last(self.fd, COMMIT, len(self.schema), self.size) if self.schema else 0
@@ -70,7 +68,7 @@ class Journal:
         self.disk.sync(self.fd)
         self.disk.sync_folder(os.path.dirname(self.path))
         self.schema, self.end = schema, len(schema)
-        self.keep()
+        self._begin()
 
     def cut_tail(self) -> int:
         """Cuts off what follows the last whole transaction, and returns how many bytes that were."""
@@ -80,8 +78,13 @@ class Journal:
         # What was read may not have been synced by the process that wrote it, nor the file's name.
         self.disk.sync(self.fd)
         self.disk.sync_folder(os.path.dirname(self.path))
-        self.keep()
+        self._begin()
         return torn
+
+    def _begin(self) -> None:
+        # What is beside a journal is what a compaction left that didn't come to its end.
+        _remove(self.beside)
+        self.keep()
 
     def append(self, transaction: bytes) -> None:
         """Writes a transaction and syncs. NotWritten and OutcomeUnknown are raised if that fails; see `cut_back`."""

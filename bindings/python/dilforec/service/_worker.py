@@ -99,7 +99,7 @@ class _Countdown:
             try:
                 self._call()
             except Exception:
-                log.exception("what was to be told of a change couldn't be told")
+                log.exception("a call that was to follow a change failed")
 
 
 J = TypeVar("J", bound=Job)
@@ -174,7 +174,7 @@ class Worker(Generic[J]):
         self._over.wait()
 
     def forget(self, why: str) -> None:
-        """Ends it where its thread is gone, as in a child of a fork. A wait that the fork interrupted ends, too."""
+        """Ends it if its thread is gone, as in a child of a fork. A wait that the fork interrupted ends, too."""
         self._ended, self._queue = why, queue.SimpleQueue()
         self._over.set()
         for job in self._awaited:
