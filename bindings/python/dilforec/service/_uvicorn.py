@@ -271,7 +271,7 @@ class Served:
         protocol: Any = partial(Connection, self._watch)
         self._server = uvicorn.Server(uvicorn.Config(
             self._asgi, loop="none", http=protocol, ws="none", lifespan="off", interface="asgi3", log_config=None,
-            log_level="error", access_log=False, proxy_headers=False, server_header=False, backlog=1024,
+            log_level="critical", access_log=False, proxy_headers=False, server_header=False, backlog=1024,
             timeout_keep_alive=max(1, round(patience.idle)),
         ))
 
