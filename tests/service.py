@@ -99,7 +99,8 @@ def main() -> int:
         paths = [*given, str(PACKAGE), str(TESTS), folder]
         serves(sys.executable, folder)
         add_modules(folder, *HYPOTHESIS)
-        tests = sorted(TESTS.glob("test_service_*.py"))
+        # The largest first, so that none of them goes on alone at the end.
+        tests = sorted(TESTS.glob("test_service_*.py"), key=lambda test: test.stat().st_size, reverse=True)
         for name, good, bad, skipped, said in pool.map(lambda test: run(test, paths), tests):
             passed, failed = passed + good, failed + bad
             rounds = "".join(f" ({line})" for line in re.findall(r"^\d+ rounds: .*", said, re.MULTILINE))

@@ -127,7 +127,7 @@ class Application:
 
     def failed(self, request: Request, error: Exception) -> Response:
         """The answer if the service itself fails, which it logs."""
-        log.error("%a %a failed", request.method, request.path, exc_info=error)
+        log.error("%s failed", request.line, exc_info=error)
         words = "the service failed; its log says how"
         return failure(HttpError(HTTPStatus.INTERNAL_SERVER_ERROR, "Failed", words))
 
@@ -139,7 +139,7 @@ class Application:
             self.metrics.count("failures_total" if response.status >= 500 else "refusals_total")
         level = logging.WARNING if response.status in (401, 403) else logging.DEBUG
         if log.isEnabledFor(level):
-            log.log(level, "%a %a %d, asked by %s", request.method, request.path, response.status, request.address)
+            log.log(level, "%s %d, asked by %s", request.line, response.status, request.address)
         return response
 
     def _admitted(self, request: Request) -> "Union[Response, Call]":

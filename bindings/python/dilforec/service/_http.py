@@ -17,6 +17,9 @@ JSON_LINES = "application/x-ndjson"
 _MOST_PARAMETERS = 64
 _LONGEST_QUERY_STRING = 65_536
 
+# How many letters of a path or a header are logged.
+_LOGGED = 200
+
 _LENGTH = re.compile("[0-9]{1,19}")
 
 _dump = encoder(allow_nan=True)
@@ -146,7 +149,12 @@ class Request:
         told = self.headers.get("x-forwarded-for")
         if told is None or (self.peer and not is_loopback(self.peer)):
             return peer
-        return f"{peer} for {ascii(told)}"
+        return f"{peer} for {ascii(told[:_LOGGED])}"
+
+    @property
+    def line(self) -> str:
+        """Its method and path, for the log: with escapes, so that it is one line, and not longer than some."""
+        return f"{ascii(self.method)} {ascii(self.path[:_LOGGED])}"
 
     @property
     def host(self) -> str:
