@@ -92,7 +92,7 @@ class Clients(Served):
             pass
         with self.assertRaises(dilforec.Syntax) as caught:
             client.search("я AND")
-        self.assertEqual(caught.exception.at, len("я AND"))
+        self.assertEqual(caught.exception.at, len("я "))
         for url in "localhost:8090", "ftp://localhost", "":
             with self.assertRaises(ValueError):
                 Client(url)
