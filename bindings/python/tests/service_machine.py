@@ -1,6 +1,7 @@
 """A store beside a model of it, by random operations. It needs hypothesis; test_service_model.py runs it."""
 import os
 import pathlib
+import random
 import shutil
 import tempfile
 
@@ -20,36 +21,29 @@ EXAMPLES = int(os.environ.get("DILFOREC_EXAMPLES", "60"))
 TITLE, KEY, YEAR = dilforec.text("title", default=True), dilforec.keyword("key"), dilforec.u64("year")
 NOTE = dilforec.keyword("note")
 
-KEYS = draw.sampled_from(["", "a", "b", 'c "\\', "ä d"])
-TITLES = draw.sampled_from([None, "rust", "moss rust", ["rust", "fern"], []])
-YEARS = draw.one_of(draw.none(), draw.integers(0, 4), draw.just((1 << 64) - 1))
-# A year that the index refuses.
-WRONG = draw.sampled_from(["late", -1, 1.0, 1 << 64])
-
-
-@draw.composite
-def documents(given, wrong=False):
-    """A document as a caller gives it; now and then one that is refused."""
-    made = {"key": given(KEYS), "title": given(TITLES), "year": given(YEARS)}
-    if wrong and given(draw.integers(0, 7)) == 0:
-        made["year"] = given(WRONG)
-    return made
-
-
-IDS = draw.integers(1, 8)
+KEYS = "", "a", "b", 'c "\\', "ä d"
+TITLES = None, "rust", "moss rust", ["rust", "fern"], []
+YEARS = None, 0, 1, 2, (1 << 64) - 1
+# Years that the index refuses.
+WRONG = "late", -1, 1.0, 1 << 64
 # How a version is chosen: none, any, the one that the document has before the call, or another one.
-VERSIONS = draw.sampled_from([None, None, None, "*", "has", "other"])
-OPERATIONS = draw.one_of(
-    draw.tuples(draw.just("add"), documents(wrong=True)),
-    draw.tuples(draw.just("replace"), IDS, documents(wrong=True), VERSIONS),
-    draw.tuples(draw.just("put_by_key"), KEYS, documents(wrong=True), VERSIONS),
-    draw.tuples(draw.just("delete_document"), IDS, VERSIONS),
-    draw.tuples(draw.just("delete_by_key"), KEYS, VERSIONS),
-    draw.tuples(draw.just("delete"), draw.just("year"), draw.integers(0, 4)),
-    draw.tuples(draw.just("delete"), draw.just("id"), IDS),
-    draw.tuples(draw.just("delete_all")),
-)
-FAULTS = draw.sampled_from([None] * 5 + [{"write": 1}, {"sync": 1}, {"sync": 2}, {"sync": 1, "cut": 1}])
+VERSIONS = None, None, "*", "has", "other"
+
+
+def operations(chance):
+    """An operation of each kind, by its name and what it is given; some documents are refused."""
+    year = chance.choice(WRONG if chance.random() < 0.1 else YEARS)
+    document = {"key": chance.choice(KEYS), "title": chance.choice(TITLES), "year": year}
+    key, id, version = chance.choice(KEYS), chance.randint(1, 6), chance.choice(VERSIONS)
+    yield from [("add", document)] * 3
+    yield from [("replace", id, document, version), ("put_by_key", key, document, version)]
+    yield from [("delete_document", id, version), ("delete_by_key", key, version)]
+    yield chance.choice([("delete", "year", chance.randint(0, 2)), ("delete", "id", id), ("delete_all",)])
+
+
+# Each is drawn by its number, which takes little of what a run may draw.
+OPERATIONS = draw.sampled_from([each for seed in range(100) for each in operations(random.Random(seed))])
+FAULTS = draw.sampled_from([{"write": 1}, {"sync": 1}, {"sync": 2}, {"sync": 1, "cut": 1}])
 GROUPS = draw.lists(draw.lists(OPERATIONS, min_size=1, max_size=3), min_size=1, max_size=4)
 
 
@@ -165,6 +159,7 @@ class Machine(RuleBasedStateMachine):
         self.journal, self.disk = self.folder / "journal", Failing()
         self.fields, self.model = [TITLE, KEY, YEAR], Model(keyed)
         self.open()
+        self.do([[("add", {"key": key, "title": "rust", "year": 1})] for key in KEYS])
 
     def teardown(self):
         if hasattr(self, "store"):
@@ -176,9 +171,22 @@ class Machine(RuleBasedStateMachine):
         self.disk.fails, self.disk.after = {}, {}
         self.store = Store(self.fields, self.journal, key=key, disk=self.disk)
 
+    @rule(group=GROUPS)
+    def change(self, group):
+        """Transactions that wait together."""
+        self.do(group)
+
+    @rule(group=GROUPS)
+    def change_more(self, group):
+        """The same: most steps are such ones."""
+        self.do(group)
+
     @rule(group=GROUPS, fault=FAULTS)
-    def change(self, group, fault):
-        """Transactions that wait together. The first sync of them may fail, and its cutting back."""
+    def change_with_fault(self, group, fault):
+        """Transactions whose first write or sync fails, and maybe its cutting back."""
+        self.do(group, fault)
+
+    def do(self, group, fault=None):
         group = [[each for each in operations if self.model.keyed or "by_key" not in each[0]] for operations in group]
         wait, asked = [], []
         for operations in filter(None, group):

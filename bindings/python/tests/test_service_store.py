@@ -229,6 +229,13 @@ class Keys(Stored):
         self.assertEqual((ids[:2], ids[200:202], ids[300:]), ((5, 6), (5, 6), (2, 205)))
         there = self.all(store)
         self.assertEqual((len(there), there[5]), (202, {"shelf": "0 \"\\", "year": 200}))
+        with store.transaction() as transaction:
+            transaction.replace(5, {"shelf": "e"})
+            transaction.delete_document(5)
+            transaction.add({"shelf": "e"})
+            transaction.put_by_key("0 \"\\", {"shelf": "0 \"\\"})
+        self.assertEqual(transaction.ids, (5, 206, 207))
+        there = self.all(store)
         store.compact()
         store.close()
         self.assertEqual(self.all(self.keyed()), there)

@@ -163,19 +163,19 @@ class _Draft:
         self.asks = True
         self.subjects.keys.add(key)
         if key in self._by_key:
-            return self._by_key[key]
-        found = self._lookups.ids_of(key)
+            found = [id for id in [self._by_key[key]] if id is not None]
+        else:
+            found = self._lookups.ids_of(key)
         self.subjects.ids.update(found)
         return next((id for id in found if self._there.get(id, True)), None)
 
     def _check(self, operation: Operation, named: Optional[int]) -> None:
-        name = operation.id if operation.id is not None else operation.key
         if named is None:
-            raise NoSuchDocument(name if name is not None else 0)
+            raise NoSuchDocument(operation.named)
         if operation.version is not None and operation.version != ANY:
             # Its own operations have changed it, or it is as the last commit has it.
             if named in self._there or self._lookups.version(named) != operation.version:
-                raise VersionChanged(name if name is not None else 0)
+                raise VersionChanged(operation.named)
 
     def _add(self, operation: Operation, named: Optional[int]) -> None:
         if operation.id is not None and operation.key is not None:

@@ -42,6 +42,11 @@ class Operation(NamedTuple):
     needs: bool = False
     version: Optional[str] = None
 
+    @property
+    def named(self) -> Key:
+        """The number or the key that it names, for a sentence."""
+        return self.id if self.id is not None else self.key if self.key is not None else ""
+
 
 def encode(value: object) -> bytes:
     """JSON on one line. BadJson is raised if the value has no JSON, or a text that isn't Unicode."""
