@@ -20,7 +20,8 @@ from urllib.parse import quote
 
 import corpus
 from dilforec import Top
-from dilforec.service import Answer, Hit, Transaction
+from dilforec.index import to_line
+from dilforec.service import Transaction
 from dilforec.service._app import Application
 from dilforec.service._guard import Guard
 from dilforec.service._uvicorn import Patience, Served
@@ -92,14 +93,17 @@ class FtsStore:
         finally:
             self.local.connection.execute("COMMIT")
 
-    def search(self, query: str, *, groups: Sequence[str], top: Top, fields: Optional[Sequence[str]], after: object) -> Answer:
+    def search_json(
+        self, query: str, *, groups: Sequence[str], top: Top, fields: Optional[Sequence[str]], after: object, most: dict[str, int],
+    ) -> bytes:
         wanted = " ".join(f'"{word}"' for word in query.replace("+", "").split())
         one = self.local.connection
         joined = "FROM bodies JOIN documents ON id = bodies.rowid WHERE bodies MATCH ?"
-        counts = dict(one.execute(f"SELECT tag, count(*) {joined} GROUP BY tag ORDER BY tag", (wanted,)))
+        counts = one.execute(f"SELECT tag, count(*) {joined} GROUP BY tag ORDER BY count(*) DESC, tag", (wanted,)).fetchall()
         rows = one.execute(f"SELECT id, price, text {joined} ORDER BY price DESC, id LIMIT ?", (wanted, top.k))
-        hits = tuple(Hit(id, value, json.loads(document)) for id, value, document in rows)
-        return Answer(sum(counts.values()), {"tag": counts}, hits, self.commit)
+        hits = [{"id": id, "value": value, "document": json.loads(document)} for id, value, document in rows]
+        count = sum(count for _, count in counts)
+        return to_line({"count": count, "groups": {"tag": counts[:most["tag"]]}, "hits": hits, "commit": self.commit}) + b"\n"
 
 
 def serve_fts(path: str, shares: bool) -> None:

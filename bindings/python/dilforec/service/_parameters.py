@@ -1,9 +1,7 @@
 """What the parameters of a request mean, or why they mean nothing."""
 from __future__ import annotations
 
-import heapq
 import re
-from collections.abc import Iterable
 
 from dilforec.service._http import bad
 from dilforec.values import Top
@@ -68,11 +66,6 @@ def groups(text: str) -> "dict[str, int]":
     if len(found) > MOST_FIELDS:
         raise bad("TooManyGroups", f"a search counts the groups of {MOST_FIELDS} fields at most")
     return found
-
-
-def most_frequent(counts: "Iterable[tuple[str | int, int]]", most: int) -> "list[tuple[str | int, int]]":
-    """The values that most hits have, with their counts. Those of equal counts stay in their order."""
-    return heapq.nsmallest(most, counts, key=lambda group: -group[1])
 
 
 def check_clauses(query: str, most: int) -> None:

@@ -46,23 +46,22 @@ class Reads:
                 tag = self._tag(snapshot)
                 if request.knows(tag):
                     return unchanged(tag)
-                found = snapshot.search(query, groups=list(groups), top=top, fields=fields, after=after)
+                found = snapshot.search_json(
+                    query, groups=list(groups), top=top, fields=fields, after=after, most=groups,
+                )
         except Syntax as error:
             # The package tells it in characters.
             raise bad("Syntax", str(error), None if error.at is None else len(query[:error.at].encode())) from None
-        counted = {name: parameters.most_frequent(found.groups[name].items(), most) for name, most in groups.items()}
-        hits = [hit._asdict() for hit in found.hits]
-        told = {"count": found.count, "groups": counted, "hits": hits, "commit": found.commit}
-        return tagged(self._limited(told), tag)
+        return tagged(self._limited(Response(HTTPStatus.OK, found)), tag)
 
     def _tag(self, snapshot: Snapshot) -> str:
         """What an answer depends on beside the address: the commit, of this process, since another may have a journal
         that was restored."""
         return f"{self._process}-{snapshot.commit}"
 
-    def _limited(self, told: object) -> Response:
+    def _limited(self, response: Response) -> Response:
         """An answer that isn't over the limit."""
-        response, most = answer(told), self._limits.answer
+        most = self._limits.answer
         if len(response.body) > most:
             words = f"the answer has {len(response.body)} bytes, and {most} are the most: ask for fewer documents"
             raise bad("AnswerTooLarge", f"{words}, or for less of them by `fields`")
@@ -76,7 +75,7 @@ class Reads:
             tag = self._tag(snapshot)
             if request.knows(tag):
                 return unchanged(tag)
-            return tagged(self._limited({"documents": snapshot.documents(after, limit)}), tag)
+            return tagged(self._limited(answer({"documents": snapshot.documents(after, limit)})), tag)
 
     def get(self, request: Request) -> Response:
         """The document of a number."""

@@ -2,12 +2,13 @@
 from __future__ import annotations
 
 import json
-from collections.abc import Iterator, Sequence
+from collections.abc import Iterator, Mapping, Sequence
 from dataclasses import dataclass
 from typing import Any, NamedTuple, Optional
 
 from dilforec import values
 from dilforec.index import Searcher, to_line
+from dilforec.service._groups import most_frequent
 from dilforec.service._lines import Key
 from dilforec.service._lookups import key_query
 from dilforec.service._top import After, TopList
@@ -89,15 +90,21 @@ class Snapshot:
     def search_json(
         self, query: str, *, groups: Sequence[str] = (), top: Optional[Top] = None,
         fields: Optional[Sequence[str]] = None, after: Optional[After] = None,
+        most: "Optional[Mapping[str, int]]" = None,
     ) -> bytes:
         """What `search` finds, as JSON: the text that the service sends, in which each hit is an object.
 
-        Groups are a list of values with their counts. There may be thousands, and they go as the index wrote them.
+        Groups are a list of values with their counts. There may be thousands, and they go as the index wrote them; of a
+        field that `most` names, the most frequent ones alone, as many as it says.
         """
         wanted, groups = self._top_list(query, groups, top, fields, after), list(dict.fromkeys(groups))
         asked = wanted.asked if after is None else None
         replies = [_taken_apart(it) for it in self._searcher._replies(query, groups, asked, wanted.fields)]
-        counted = b",".join(to_line(name) + b":" + reply.groups for name, reply in zip(groups, replies))
+        told = [
+            most_frequent(reply.groups, most[name]) if most and name in most else reply.groups
+            for name, reply in zip(groups, replies)
+        ]
+        counted = b",".join(to_line(name) + b":" + each for name, each in zip(groups, told))
         hits = wanted.first(replies[0].found_hits()) if after is None else wanted.rest(after)
         return b'{"count":%b,"groups":{%b},"hits":%b,"commit":%d}\n' % (
             replies[0].found, counted, to_line([_hit(hit, fields)._asdict() for hit in hits]), self.commit,
