@@ -4,6 +4,7 @@ import os
 import pathlib
 import random
 import signal
+import subprocess
 import sys
 import threading
 import time
@@ -155,16 +156,21 @@ class CtrlC(Stored):
         """
         chance = random.Random(79)
         for _ in range(12):
-            process = child(code, self.journal)
+            process = child("import faulthandler; faulthandler.enable()\n" + code, self.journal, stderr=subprocess.PIPE)
             self.assertEqual(process.stdout.readline(), b"begun\n")
             time.sleep(chance.uniform(0.01, 0.06))
             process.send_signal(signal.SIGINT)
-            try:
-                self.assertEqual(process.wait(20), 0)
-            finally:
-                process.kill()
-                process.stdout.close()
+            self.assertEqual(self.ended(process), (0, ""))
         self.assertGreater(len(self.opened()), 0)
+
+    def ended(self, process):
+        """The status of a program and what it says of errors. If it doesn't end, that is where its threads are."""
+        try:
+            said = process.communicate(timeout=20)[1]
+        except subprocess.TimeoutExpired:
+            process.send_signal(signal.SIGABRT)
+            said = process.communicate()[1]
+        return process.returncode, said.decode()
 
 
 class Workers(unittest.TestCase):
