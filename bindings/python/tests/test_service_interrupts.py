@@ -1,6 +1,5 @@
 """Interrupts, at each line that a caller runs of the service, and by Ctrl-C; and what a worker does with jobs."""
 import gc
-import os
 import pathlib
 import random
 import signal

@@ -192,7 +192,9 @@ class Application:
             stats = snapshot.stats()
         text = self._metrics.text({
             "documents": ("Documents of the last commit.", stats.live),
-            "deleted_documents": ("Documents that were deleted, and aren't merged away yet.", stats.documents - stats.live),
+            "deleted_documents": (
+                "Documents that were deleted, and aren't merged away yet.", stats.documents - stats.live,
+            ),
             "segments": ("Segments of the last commit.", stats.segments),
             "commits": ("The number of the last commit.", store.commits),
             "journal_bytes": ("The size of the journal.", store.journal_bytes),
