@@ -88,7 +88,7 @@ def run(test: pathlib.Path, paths: list[str]) -> tuple[str, int, int, int, str]:
 
 
 def main() -> int:
-    passed = failed = 0
+    passed = failed = left_out = 0
     if not any(map(shutil.which, BROWSERS)):
         install("chromium")
     if not shutil.which("gunicorn"):
@@ -102,11 +102,13 @@ def main() -> int:
         # The largest first, so that none of them goes on alone at the end.
         tests = sorted(TESTS.glob("test_service_*.py"), key=lambda test: test.stat().st_size, reverse=True)
         for name, good, bad, skipped, said in pool.map(lambda test: run(test, paths), tests):
-            passed, failed = passed + good, failed + bad
+            passed, failed, left_out = passed + good, failed + bad, left_out + skipped
             rounds = "".join(f" ({line})" for line in re.findall(r"^\d+ rounds: .*", said, re.MULTILINE))
             print(f"service: {name}: {good} passed, {bad} failed, {skipped} skipped{rounds}", flush=True)
             if bad:
                 print(said, flush=True)
+    if left_out:
+        print(f"{left_out} skipped")
     print(f"{passed} passed, {failed} failed")
     return 1 if failed else 0
 

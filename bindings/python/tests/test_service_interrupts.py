@@ -1,6 +1,5 @@
 """Interrupts, at each line that a caller runs of the service, and by Ctrl-C; and what a worker does with jobs."""
 import gc
-import os
 import pathlib
 import random
 import signal
@@ -166,7 +165,7 @@ class CtrlC(Stored):
     def ended(self, process):
         """The status of a program and what it says of errors. If it doesn't end, that is where its threads are."""
         try:
-            said = process.communicate(timeout=20)[1]
+            said = process.communicate(timeout=60)[1]
         except subprocess.TimeoutExpired:
             process.send_signal(signal.SIGABRT)
             said = process.communicate()[1]

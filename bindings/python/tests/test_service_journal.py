@@ -182,7 +182,8 @@ class Journals(Stored):
             schema = self.journal.read_bytes()
         mistakes = [
             b'{"schema":[' + b"1," * 40_000 + b"1]}",
-            json.dumps({"schema": [{"name": "title", "kind": "text"}]}).encode(), json.dumps([{"name": "title", "kind": "text"}]).encode(), schema[:-1] + b" ", schema[:20] + b"\0", b"{}",
+            json.dumps({"schema": [{"name": "title", "kind": "text"}]}).encode(),
+            json.dumps([{"name": "title", "kind": "text"}]).encode(), schema[:-1] + b" ", schema[:20] + b"\0", b"{}",
             b'{"schema":[{"name":"title","kind":"text","default":true}]}', schema[:-1] + schema[:-1],
         ]
         beside = self.folder / "journal.compacting"

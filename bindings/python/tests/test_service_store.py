@@ -534,7 +534,7 @@ class Threads(Stored):
         self.assertEqual(self.all(self.opened()), there)
 
     def test_no_memory_in_a_group(self):
-        """If memory runs out in the middle of a group, what was executed before is done, and the others have an error."""
+        """If memory runs out within a group, what was executed before is done, and the others have an error."""
         store = self.opened()
         ask_block = Channel.ask_block
         for refusals in 1, 2:
