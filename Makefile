@@ -55,7 +55,7 @@ OWN = $(DESTDIR)$(docdir) $(DESTDIR)$(libdir)/cmake/dilforec
 INSTALLED = $(bindir)/fts $(libdir)/$(SONAME) $(libdir)/libdilforec.so $(libdir)/libdilforec.a \
     $(includedir)/dilforec.h \
     $(libdir)/pkgconfig/dilforec.pc $(libdir)/cmake/dilforec/dilforec-config.cmake \
-    $(libdir)/cmake/dilforec/dilforec-config-version.cmake $(datadir)/man/man1/fts.1 $(datadir)/man/man1/dilforec-serve.1 \
+    $(libdir)/cmake/dilforec/dilforec-config-version.cmake $(datadir)/man/man1/fts.1 $(datadir)/man/man1/dilforec.1 \
     $(datadir)/man/man3/dilforec.3 \
     $(bashdir)/fts $(zshdir)/_fts $(addprefix $(docdir)/,$(DOCS))
 
@@ -103,7 +103,7 @@ install: all
 	$(FILL) packaging/dilforec-config-version.cmake.in | \
 	    $(INSTALL) -m 644 /dev/stdin $(DESTDIR)$(libdir)/cmake/dilforec/dilforec-config-version.cmake
 	$(FILL) packaging/fts.1.in | $(INSTALL) -m 644 /dev/stdin $(DESTDIR)$(datadir)/man/man1/fts.1
-	$(FILL) packaging/dilforec-serve.1.in | $(INSTALL) -m 644 /dev/stdin $(DESTDIR)$(datadir)/man/man1/dilforec-serve.1
+	$(FILL) packaging/dilforec.1.in | $(INSTALL) -m 644 /dev/stdin $(DESTDIR)$(datadir)/man/man1/dilforec.1
 	$(PYTHON) packaging/manual.py bindings/c/dilforec.h packaging/dilforec.3.in | $(FILL) | \
 	    $(INSTALL) -m 644 /dev/stdin $(DESTDIR)$(datadir)/man/man3/dilforec.3
 	$(INSTALL) -m 644 packaging/fts.bash $(DESTDIR)$(bashdir)/fts

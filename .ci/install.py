@@ -20,7 +20,7 @@ from trials import ROOT, VERSION, Place, attempt, check, finish, run, said, skip
 EXPECTED = [
     "bin/fts", "lib/libdilforec.so.0", "lib/libdilforec.so", "lib/libdilforec.a", "include/dilforec.h",
     "lib/pkgconfig/dilforec.pc", "lib/cmake/dilforec/dilforec-config.cmake", "share/man/man1/fts.1",
-    "share/man/man1/dilforec-serve.1",
+    "share/man/man1/dilforec.1",
     "share/man/man3/dilforec.3", "share/bash-completion/completions/fts", "share/zsh/site-functions/_fts",
     "share/doc/dilforec/README.md", "share/doc/dilforec/docs/SCRIPT.md", "share/doc/dilforec/examples/catalogue.jsonl",
 ]

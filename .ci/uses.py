@@ -179,11 +179,12 @@ def with_wheel(folder):
         return
     this, other = pythons()
     own, name = environment(this, folder / "this")
-    in_python(own, name, made, "the wheel")
+    in_python(own, name, str(made), "the wheel")
     shown(own, name)
-    in_python(own, name, BACKEND, "bindings/python")
+    in_python(own, name, str(BACKEND), "bindings/python")
+    in_python(own, name, f"-e {BACKEND}", "bindings/python, to be edited")
     if other:
-        in_python(*environment(other, folder / "other"), made, "the wheel")
+        in_python(*environment(other, folder / "other"), str(made), "the wheel")
     else:
         skip("the wheel in another Python", "there is none")
 
@@ -246,10 +247,20 @@ def environment(python, folder):
 
 def in_python(own, name, made, package):
     """Installs a package by pip into an environment, in place of what is there, and runs the examples."""
-    done = run(own, "-m", "pip", "install", "--no-index", "--force-reinstall", made)
+    done = run(own, "-m", "pip", "install", "--no-index", "--force-reinstall", *made.split())
     if check(f"{name}: pip install of {package}", done.returncode == 0, said(done)):
         run_examples(own, name, own.parents[1], PLAIN)
         serves(own, f"{name}: {package}", PLAIN)
+        helps(own.parent / "dilforec", f"{name}: {package}", PLAIN)
+
+
+def helps(command, name, variables):
+    """The command has the options of its manual page."""
+    manual = (ROOT / "packaging/dilforec.1.in").read_text(encoding="utf-8").replace("\\-", "-")
+    told = [run(command, each, "--help", env=variables) for each in ("serve", "load", "compact")]
+    wanted = set().union(*(options(each.stdout) for each in told)) - {"--help"}
+    same = not any(each.returncode for each in told) and options(manual) == wanted
+    check(f"{name}: the options of dilforec(1)", same, options(manual) ^ wanted or "".join(map(said, told)))
 
 
 def run_examples(python, name, folder, variables):
@@ -263,15 +274,12 @@ def run_examples(python, name, folder, variables):
 def serves(python, name, variables):
     """The service of an installed package takes a document, finds it, and stops at SIGTERM."""
     with tempfile.TemporaryDirectory() as folder:
-        # It is Python alone, so Debian's does for each Python.
-        if not service.DEBIAN.is_dir():
-            service.install("python3-waitress")
-        if service.DEBIAN.is_dir():
-            os.symlink(service.DEBIAN, f"{folder}/waitress")
-        paths = os.pathsep.join(filter(None, [variables.get("PYTHONPATH"), folder]))
+        modules = pathlib.Path(folder, "modules")
+        modules.mkdir()
+        if not service.serves(str(python), str(modules)):
+            return skip(f"{name}: the service", "uvicorn or httptools isn't there for it")
+        paths = os.pathsep.join(filter(None, [variables.get("PYTHONPATH"), str(modules)]))
         variables = {**variables, "PYTHONPATH": paths}
-        if run(python, "-c", "import waitress", cwd=folder, env=variables).returncode:
-            return skip(f"{name}: the service", "waitress isn't there")
         pathlib.Path(folder, "schema.json").write_text('[{"name":"title","kind":"text","default":true}]')
         words = [python, "-m", "dilforec", "serve", "--schema", "schema.json", "--journal", "journal",
                  "--listen", "127.0.0.1:0"]
@@ -322,4 +330,5 @@ def with_debian_python(place):
     variables = {**PLAIN, "PYTHONPATH": str(place.prefix / "lib/python3/dist-packages")}
     run_examples(python, "python3-dilforec", place.root, variables)
     serves(python, "python3-dilforec", variables)
+    helps(place.prefix / "bin/dilforec", "python3-dilforec", variables)
     in_pydoc(python, "python3-dilforec", place.pages, variables)

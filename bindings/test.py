@@ -21,6 +21,7 @@ OUT = HERE / "out"
 EXAMPLES = HERE.parent / "examples"
 SCRIPTS = [path for path in sorted(EXAMPLES.glob("*.jsonl")) if not path.name.endswith(".replies.jsonl")]
 CC = os.environ.get("CC", "cc")
+UVICORN = pathlib.Path("/usr/lib/python3/dist-packages/uvicorn")
 COUNTS = r"(\d+) passed, (\d+) failed"
 STRICTLY = ["-pedantic", "-Wall", "-Wextra", "-Werror"]
 
@@ -149,8 +150,12 @@ def in_python():
         count(name, max(tests - bad, 0), bad, done.stderr)
     mypy = shutil.which("mypy") or shutil.which("mypy", path="/usr/bin")
     if mypy:
-        step("Python, mypy --strict", mypy, "--strict", "--cache-dir", OUT / "mypy", "dilforec", "examples",
-             cwd=HERE / "python")
+        with tempfile.TemporaryDirectory() as folder:
+            # Debian's uvicorn has types, and doesn't say so.
+            if UVICORN.is_dir():
+                os.symlink(UVICORN, f"{folder}/uvicorn")
+            step("Python, mypy --strict", mypy, "--strict", "--cache-dir", OUT / "mypy", "dilforec", "examples",
+                 cwd=HERE / "python", env={**os.environ, "MYPYPATH": folder})
     else:
         skipped("Python, mypy --strict", "mypy")
 
@@ -163,6 +168,10 @@ def in_rust():
         step("Rust", *cargo, cwd=rust, counts=results)
         step("Rust, each growth refused", *cargo, "--test", "growths", "--", "--nocapture", cwd=rust, counts=results,
              env={**os.environ, "LD_PRELOAD": str(refuse)})
+        with tempfile.TemporaryDirectory() as folder:
+            named = shutil.copy(link.ARCHIVE, pathlib.Path(folder, "another_name.a"))
+            step("Rust, an archive of another name", *cargo, "--test", "index", "--no-run", cwd=rust,
+                 env={**os.environ, "DILFOREC_ARCHIVE": str(named)})
     elif shutil.which("rustc"):
         made = OUT / "libdilforec.rlib"
         environment = {**os.environ, "CARGO_MANIFEST_DIR": str(rust), "CARGO_PKG_VERSION": "0"}

@@ -33,9 +33,18 @@ HOME = "https://dilforec.example"
 PACKAGES = [
     ("libdilforec0", r"lib/[^/]+/libdilforec\.so\.\d+"),
     ("libdilforec-dev", r"lib/[^/]+/.*|include/.*|share/man/man3/.*"),
-    ("python3-dilforec", r"share/man/man1/dilforec-serve\.1"),
+    ("python3-dilforec", r"share/man/man1/dilforec\.1"),
     ("fts", r".*"),
 ]
+
+# The command of the Python package, by Debian's Python.
+COMMAND = """#!/usr/bin/python3
+import sys
+
+from dilforec.__main__ import main
+
+sys.exit(main())
+"""
 
 
 def run(*words: str | pathlib.Path, **more: str) -> str:
@@ -78,6 +87,10 @@ def unpack_wheel(folder: pathlib.Path, architecture: str) -> None:
             if ".data/" not in name and not name.endswith("/RECORD"):
                 packed.extract(name, modules)
     wheel.unlink()
+    command = folder / "python3-dilforec/usr/bin/dilforec"
+    command.parent.mkdir(parents=True)
+    command.write_text(COMMAND, encoding="utf-8")
+    command.chmod(0o755)
     shared = modules / "dilforec/libdilforec.so"
     shared.unlink()
     shared.symlink_to(f"../../../{architecture}/{soname(folder, architecture).name}")

@@ -57,7 +57,7 @@ ELSEWHERE = {
     r"^bindings/(build|examples)\.sh$": "bindings/test.py builds and runs what they do",
     r"^bindings/test\.py$|^python3 (tests|bench|examples/sharded)/(?!sharded\.py)": "it is a step of the gate, or takes minutes",
     r"pkg-config": ".ci/install.py compiles with what was installed",
-    r"^(python3 -m dilforec serve|curl|split|echo .* \|$)": "tests/service.py asks a service by these lines",
+    r"^(python3 -m dilforec (serve|load)|curl|split|echo .* \|$)": "tests/service.py asks a service by these lines",
     r"^(dask-|python3 logs\.py)": "tests/cluster.py runs the page's example",
     r"^socat\b": "it waits for clients",
 }

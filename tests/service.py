@@ -3,9 +3,9 @@
 
     python3 tests/service.py
 
-Link the package's shared object first: `rt lib` in crates/fts_c, then bindings/build.sh. A Chromium and waitress that
-aren't there are installed by apt-get, if this runs as root on a machine that has it, unless DILFOREC_INSTALL is 0;
-else what needs them is skipped, and counted. The last line is 'N passed, M failed'.
+Link the package's shared object first, by `make`. A Chromium, uvicorn, httptools, uvloop, hypothesis and gunicorn that
+aren't there are installed by apt-get, if this runs as root on a machine that has it, unless DILFOREC_INSTALL is 0; else
+what needs them is skipped, and counted. The last line is 'N passed, M failed'.
 """
 from __future__ import annotations
 
@@ -22,33 +22,57 @@ import tempfile
 HERE = pathlib.Path(__file__).resolve().parent
 PACKAGE = HERE.parent / "bindings/python"
 TESTS = PACKAGE / "tests"
-DEBIAN = pathlib.Path("/usr/lib/python3/dist-packages/waitress")
+DEBIAN = pathlib.Path("/usr/lib/python3/dist-packages")
+# What the service needs to serve, as Debian's packages and as their modules and those of what they need.
+PACKAGES = ("python3-uvicorn", "python3-httptools", "python3-uvloop")
+MODULES = ("uvicorn", "httptools", "uvloop", "asgiref", "click", "h11", "typing_extensions.py")
+# Debian's packages that are of Python alone, so that they do for each version, and their modules.
+HYPOTHESIS = "python3-hypothesis", ("hypothesis", "attr", "sortedcontainers", "exceptiongroup")
 BROWSERS = ("chromium", "chromium-browser", "google-chrome")
 
 
-def install(package: str) -> None:
-    """Installs a package of Debian, if that may be done here."""
+def install(*packages: str) -> None:
+    """Installs packages of Debian, if that may be done here."""
     if os.environ.get("DILFOREC_INSTALL") == "0" or os.geteuid() or not shutil.which("apt-get"):
         return
-    print(f"service: installing {package}", flush=True)
+    print(f"service: installing {', '.join(packages)}", flush=True)
     try:
         subprocess.run(
-            ["apt-get", "install", "-y", "--no-install-recommends", package], capture_output=True, timeout=120,
-            env={**os.environ, "DEBIAN_FRONTEND": "noninteractive"},
+            ["apt-get", "-o", "DPkg::Lock::Timeout=100", "install", "-y", "--no-install-recommends", *packages],
+            capture_output=True, timeout=240, env={**os.environ, "DEBIAN_FRONTEND": "noninteractive"},
         )
     except subprocess.TimeoutExpired:
-        print(f"service: installing {package} took too long", flush=True)
+        print(f"service: installing {', '.join(packages)} took too long", flush=True)
 
 
-def with_waitress(folder: str) -> list[str]:
-    """The folders of modules that give this Python waitress; it is Python alone, so Debian's does for each version."""
-    if importlib.util.find_spec("waitress"):
-        return []
-    if not DEBIAN.is_dir():
-        install("python3-waitress")
-    if DEBIAN.is_dir():
-        os.symlink(DEBIAN, os.path.join(folder, "waitress"))
-    return [folder]
+def serves(python: str, folder: str) -> bool:
+    """Whether a Python can serve, maybe by Debian's modules, which are linked into a folder of modules for it.
+
+    Httptools and uvloop are partly in C, so Debian's are for one version of Python.
+    """
+    def there(paths: str) -> bool:
+        asked = [python, "-c", "import httptools, uvicorn, uvicorn.protocols.http.httptools_impl"]
+        return subprocess.run(asked, env={**os.environ, "PYTHONPATH": paths}, capture_output=True).returncode == 0
+
+    if there(os.environ.get("PYTHONPATH", "")):
+        return True
+    if not all((DEBIAN / module).exists() for module in MODULES[:3]):
+        install(*PACKAGES)
+    for module in MODULES:
+        if (DEBIAN / module).exists():
+            os.symlink(DEBIAN / module, os.path.join(folder, module))
+    return there(folder)
+
+
+def add_modules(folder: str, package: str, modules: tuple[str, ...]) -> None:
+    """Puts a package's modules into a folder, if this Python lacks the first of them."""
+    if importlib.util.find_spec(modules[0]):
+        return
+    if not (DEBIAN / modules[0]).is_dir():
+        install(package)
+    for module in modules:
+        if (DEBIAN / module).is_dir() and not importlib.util.find_spec(module):
+            os.symlink(DEBIAN / module, os.path.join(folder, module))
 
 
 def run(test: pathlib.Path, paths: list[str]) -> tuple[str, int, int, int, str]:
@@ -64,20 +88,27 @@ def run(test: pathlib.Path, paths: list[str]) -> tuple[str, int, int, int, str]:
 
 
 def main() -> int:
-    passed = failed = 0
+    passed = failed = left_out = 0
     if not any(map(shutil.which, BROWSERS)):
         install("chromium")
+    if not shutil.which("gunicorn"):
+        install("gunicorn")
     with tempfile.TemporaryDirectory() as folder, concurrent.futures.ThreadPoolExecutor(4) as pool:
         # The environment's package comes first, such as one that is installed.
         given = [path for path in [os.environ.get("PYTHONPATH", "")] if path]
-        paths = [*given, str(PACKAGE), str(TESTS), *with_waitress(folder)]
-        tests = sorted(TESTS.glob("test_service_*.py"))
+        paths = [*given, str(PACKAGE), str(TESTS), folder]
+        serves(sys.executable, folder)
+        add_modules(folder, *HYPOTHESIS)
+        # The largest first, so that none of them goes on alone at the end.
+        tests = sorted(TESTS.glob("test_service_*.py"), key=lambda test: test.stat().st_size, reverse=True)
         for name, good, bad, skipped, said in pool.map(lambda test: run(test, paths), tests):
-            passed, failed = passed + good, failed + bad
+            passed, failed, left_out = passed + good, failed + bad, left_out + skipped
             rounds = "".join(f" ({line})" for line in re.findall(r"^\d+ rounds: .*", said, re.MULTILINE))
             print(f"service: {name}: {good} passed, {bad} failed, {skipped} skipped{rounds}", flush=True)
             if bad:
                 print(said, flush=True)
+    if left_out:
+        print(f"{left_out} skipped")
     print(f"{passed} passed, {failed} failed")
     return 1 if failed else 0
 

@@ -131,6 +131,18 @@ def write(wheel: pathlib.Path, files: dict[str, bytes], record: str) -> None:
             packed.writestr(entry, content)
 
 
+def about(tags: str) -> dict[str, bytes]:
+    """The files about a wheel, but its record."""
+    info = f"dilforec-{version()}.dist-info"
+    files = {
+        f"{info}/METADATA": metadata().encode(),
+        f"{info}/WHEEL": f"Wheel-Version: 1.0\nGenerator: dilforec\nRoot-Is-Purelib: false\nTag: {tags}\n".encode(),
+    }
+    if entry_points():
+        files[f"{info}/entry_points.txt"] = entry_points().encode()
+    return files
+
+
 def build_wheel(wheel_directory: str, config_settings: object = None, metadata_directory: object = None) -> str:
     """Makes the wheel, and returns its name."""
     check_platform()
@@ -140,15 +152,25 @@ def build_wheel(wheel_directory: str, config_settings: object = None, metadata_d
         refuse(str(error))
     except (OSError, subprocess.CalledProcessError) as error:
         refuse(f"the shared object couldn't be linked: {error}")
-    info, tags = f"dilforec-{version()}.dist-info", tag(shared)
-    files = dict(sources())
-    files[f"dilforec/{link.SHARED.name}"] = shared
-    files[f"{info}/METADATA"] = metadata().encode()
-    files[f"{info}/WHEEL"] = f"Wheel-Version: 1.0\nGenerator: dilforec\nRoot-Is-Purelib: false\nTag: {tags}\n".encode()
-    if entry_points():
-        files[f"{info}/entry_points.txt"] = entry_points().encode()
+    tags = tag(shared)
+    files = {**dict(sources()), f"dilforec/{link.SHARED.name}": shared, **about(tags)}
     name = f"dilforec-{version()}-{tags}.whl"
-    write(pathlib.Path(wheel_directory, name), files, f"{info}/RECORD")
+    write(pathlib.Path(wheel_directory, name), files, f"dilforec-{version()}.dist-info/RECORD")
+    return name
+
+
+def build_editable(wheel_directory: str, config_settings: object = None, metadata_directory: object = None) -> str:
+    """Makes a wheel that has the package used from this folder (PEP 660), and returns its name."""
+    check_platform()
+    if not link.SHARED.exists():
+        try:
+            link.shared(link.SHARED)
+        except link.NotBuilt as error:
+            refuse(str(error))
+    tags = "py3-none-any"
+    files = {"__editable__.dilforec.pth": f"{HERE}\n".encode(), **about(tags)}
+    name = f"dilforec-{version()}-{tags}.whl"
+    write(pathlib.Path(wheel_directory, name), files, f"dilforec-{version()}.dist-info/RECORD")
     return name
 
 

@@ -1,7 +1,7 @@
-"""python -m dilforec: the service."""
+"""python -m dilforec, which is also the command dilforec."""
 import sys
 
-from dilforec.service._serve import main
+from dilforec.service._command import main
 
 if __name__ == "__main__":
     sys.exit(main())

@@ -9,9 +9,11 @@ import os
 import pathlib
 import re
 import signal
+import socket
 import subprocess
 import sys
 import tempfile
+import time
 import unittest
 
 import dilforec
@@ -23,6 +25,21 @@ FIELDS = [dilforec.text("title", default=True), dilforec.keyword("shelf"), dilfo
 logging.getLogger("dilforec.service").addHandler(logging.NullHandler())
 logging.getLogger("dilforec.service").propagate = False
 HERE = pathlib.Path(__file__).resolve().parent
+
+# What a service has that is tried over HTTP.
+SCHEMA = [
+    {"name": "title", "kind": "text", "default": True}, {"name": "day", "kind": "keyword"},
+    {"name": "year", "kind": "u64"},
+]
+
+# The command over a disk whose syncs take half a second.
+SLOWLY = """
+import sys, time
+from dilforec.service import _command, _disk
+sync = _disk._sync
+_disk._sync = lambda fd: (time.sleep(0.5), sync(fd))
+sys.exit(_command.main(sys.argv[1:]))
+"""
 
 
 class Failing(Disk):
@@ -104,27 +121,46 @@ def child(code, *words, **more):
     return subprocess.Popen(command, stdout=subprocess.PIPE, env=environment, **more)
 
 
-def need_waitress():
-    """Skips a test that serves, without waitress."""
-    if importlib.util.find_spec("waitress") is None:
-        raise unittest.SkipTest("waitress isn't there")
+def need_uvicorn():
+    """Skips a test that serves, without uvicorn."""
+    if any(importlib.util.find_spec(name) is None for name in ("uvicorn", "httptools")):
+        raise unittest.SkipTest("uvicorn or httptools isn't there")
+
+
+def free_port():
+    """A port that is free now."""
+    with socket.create_server(("127.0.0.1", 0)) as sock:
+        return sock.getsockname()[1]
 
 
 class Server:
     """A service in a process of its own, at a port that is free."""
 
-    def __init__(self, *words, program=("-m", "dilforec")):
-        self.log = tempfile.TemporaryFile()
+    def __init__(self, *words, program=("-m", "dilforec"), waits=True):
+        """Starts it, and waits until it is ready, or only until it listens."""
+        self.log, port = tempfile.TemporaryFile(), 0 if waits else free_port()
         self.process = subprocess.Popen(
-            [sys.executable, *program, "serve", "--listen", "127.0.0.1:0", *map(str, words)],
+            [sys.executable, *program, "serve", "--listen", f"127.0.0.1:{port}", *map(str, words)],
             stdout=subprocess.PIPE, stderr=self.log,
         )
+        if not waits:
+            self.port = port
+            self.await_port()
+            return
         self.ready = self.process.stdout.readline().decode()
         found = re.search(r":([0-9]+)/", self.ready)
         if not found:
             self.stop(signal.SIGKILL)
             raise AssertionError(f"the service didn't begin: {self.said()}")
         self.port = int(found[1])
+
+    def await_port(self):
+        for _ in range(200):
+            try:
+                return socket.create_connection(("127.0.0.1", self.port)).close()
+            except ConnectionRefusedError:
+                time.sleep(0.05)
+        raise AssertionError(f"the service doesn't listen: {self.said()}")
 
     def __enter__(self):
         return self
@@ -163,3 +199,25 @@ class Server:
             return response.status, json.loads(told) if is_json and told else told.decode()
         finally:
             connection.close()
+
+
+class Served(Stored):
+    def setUp(self):
+        need_uvicorn()
+        super().setUp()
+        self.schema = self.folder / "schema.json"
+        self.schema.write_text(json.dumps(SCHEMA))
+
+    def serve(self, *words, journal=None, slow_syncs=False, **more):
+        if slow_syncs:
+            more["program"] = ("-c", SLOWLY)
+        server = Server("--schema", self.schema, "--journal", journal or self.journal, *words, **more)
+        self.addCleanup(server.__exit__)
+        return server
+
+    def refused(self, *words, **more):
+        """What the command says if it can't begin."""
+        command = [sys.executable, "-m", "dilforec", *map(str, words)]
+        done = subprocess.run(command, capture_output=True, text=True, timeout=60, **more)
+        self.assertEqual(done.returncode, 2, done.stderr)
+        return done.stderr

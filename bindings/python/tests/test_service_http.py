@@ -19,45 +19,9 @@ from unittest import mock
 
 import dilforec
 from dilforec.service import Store
-from service_tools import Server, Stored, need_waitress
+from service_tools import SCHEMA, Served, Server
 
 GUIDE = pathlib.Path(__file__).resolve().parents[3] / "docs/SERVICE.md"
-SCHEMA = [
-    {"name": "title", "kind": "text", "default": True}, {"name": "day", "kind": "keyword"},
-    {"name": "year", "kind": "u64"},
-]
-
-
-# The command over a disk whose syncs take half a second.
-SLOWLY = """
-import sys, time
-from dilforec.service import _disk, _serve
-sync = _disk._sync
-_disk._sync = lambda fd: (time.sleep(0.5), sync(fd))
-sys.exit(_serve.main(sys.argv[1:]))
-"""
-
-
-class Served(Stored):
-    def setUp(self):
-        need_waitress()
-        super().setUp()
-        self.schema = self.folder / "schema.json"
-        self.schema.write_text(json.dumps(SCHEMA))
-
-    def serve(self, *words, journal=None, **more):
-        server = Server("--schema", self.schema, "--journal", journal or self.journal, *words, **more)
-        self.addCleanup(server.__exit__)
-        return server
-
-    def refused(self, *words, **more):
-        """What the command says where it can't begin."""
-        command = [sys.executable, "-m", "dilforec", *map(str, words)]
-        done = subprocess.run(command, capture_output=True, text=True, timeout=60, **more)
-        self.assertEqual(done.returncode, 2, done.stderr)
-        return done.stderr
-
-
 class Answers(Served):
     def test_calls(self):
         """Each call, as docs/SERVICE.md has it."""
@@ -146,7 +110,7 @@ class Answers(Served):
             ("GET", "/search?q=" + "a" * 70_000, None, 414, "TooLong", None, {}),
             ("GET", "/nowhere", None, 404, "NotFound", None, {}),
             ("POST", "/search", b"{}", 405, "MethodNotAllowed", None, {}),
-            ("BREW", "/documents", b"{}", 405, "MethodNotAllowed", None, {}),
+            ("BREW", "/documents", b"{}", 501, "NotImplemented", None, {}),
         ]:
             with self.subTest(method=method, path=path[:40], name=name):
                 got, told = server.ask(method, path, body, **headers)
@@ -159,13 +123,54 @@ class Answers(Served):
         self.assertEqual(server.ask("GET", "/documents"), (200, {"documents": [{"id": 1, "title": "kept"}]}))
         self.assertNotIn("Traceback", server.said())
 
+    def test_groups(self):
+        """Groups are cut: the most frequent values first, equal counts by value, 100 if nothing is said."""
+        server = self.serve()
+        days = [f"d{number:03}" for number in range(150)]
+        documents = [{"day": day, "year": place % 3} for place, day in enumerate(days)]
+        server.ask("POST", "/documents", documents + [{"day": "d149"}, {"day": "d007"}])
+        told = server.ask("GET", "/search?groups=day&groups=year")[1]["groups"]
+        others = [[day, 1] for day in days if day not in ("d007", "d149")]
+        self.assertEqual(told["day"], [["d007", 2], ["d149", 2], *others[:98]])
+        self.assertEqual(told["year"], [[0, 50], [1, 50], [2, 50]])
+        told = server.ask("GET", "/search?groups=day:3,year:1")[1]["groups"]
+        self.assertEqual(told, {"day": [["d007", 2], ["d149", 2], ["d000", 1]], "year": [[0, 50]]})
+        self.assertEqual(len(server.ask("GET", "/search?groups=day:10000")[1]["groups"]["day"]), 150)
+        for groups, name in [
+            ("day:0", "BadLimit"), ("day:10001", "BadLimit"), ("day:", "BadParameter"), ("day:x", "BadParameter"),
+        ]:
+            status, told = server.ask("GET", f"/search?groups={groups}")
+            self.assertEqual((status, told["error"]), (400, name))
+        status, told = server.ask("GET", "/search?groups=" + ",".join(f"f{number}" for number in range(9)))
+        self.assertEqual((status, told["error"]), (400, "TooManyGroups"))
+
+    def test_limits(self):
+        """What one search may ask and be answered is bounded, and the refusal says so."""
+        server = self.serve("--clauses", 5, "--answer", 5000)
+        server.ask("POST", "/documents", [{"title": "word " * 100}] * 30)
+        for query, status in [
+            ("a+b+c+d+e", 200), ("a+b+c+d+e+f", 400), ("(a+OR+b)+AND+NOT+(c+OR+d)+AND+e", 200),
+            ("%22a+b+c+d+e%22", 200),
+            ("%22a+b+c+d+e+f%22", 400), ("year:[1+TO+2]+year:%3E3+title:a+day:b+c", 200),
+            ("year:[1+TO+2]+year:%3E3+title:a+day:b+c+*", 400),
+        ]:
+            with self.subTest(query=query):
+                got, told = server.ask("GET", f"/search?q={query}&fields=day")
+                self.assertEqual((got, told.get("error")), (status, None if status == 200 else "TooManyClauses"))
+        for path, status in [
+            ("/search", 400), ("/search?fields=day", 200), ("/documents", 400), ("/documents?limit=5", 200),
+        ]:
+            got, told = server.ask("GET", path)
+            self.assertEqual((got, told.get("error")), (status, None if status == 200 else "AnswerTooLarge"))
+        self.assertIn("fields", server.ask("GET", "/search")[1]["message"])
+
     @unittest.skipUnless(shutil.which("curl"), "there is no curl")
     def test_documented(self):
         """The commands of docs/SERVICE.md that ask a service do what they say."""
         server = self.serve()
         blocks = re.findall(r"(?:^    .*\n)+", GUIDE.read_text("utf-8"), re.MULTILINE)
         lines = [line for block in blocks if "localhost:8090" in block for line in block.splitlines()]
-        script = "\n".join(line[4:] for line in lines if "dilforec serve" not in line)
+        script = "\n".join(line[4:] for line in lines if "-m dilforec" not in line)
         (self.folder / "books.jsonl").write_text('{"title":"Managing Gigabytes","year":1994,"day":"2026-11-25"}\n' * 3)
         script = script.replace("localhost:8090", f"localhost:{server.port}").replace("curl ", "curl -sS ")
         done = subprocess.run(["sh", "-ec", script], cwd=self.folder, capture_output=True, text=True, timeout=60)
@@ -312,7 +317,7 @@ class Connections(Served):
 
     def test_end_in_progress(self):
         """What is on its way to the disk when it ends is answered."""
-        server = self.serve(program=("-c", SLOWLY))
+        server = self.serve(slow_syncs=True)
         sock, before = self.opened(server), self.journal.stat().st_size
         sock.sendall(b"".join(self.request(server, "the last")))
         while self.journal.stat().st_size == before:
@@ -322,7 +327,7 @@ class Connections(Served):
 
     def test_together(self):
         """Changes that wait at the same time share a sync, and each is answered by itself."""
-        server = self.serve(program=("-c", SLOWLY))
+        server = self.serve(slow_syncs=True)
         self.assertEqual(server.ask("POST", "/documents", [{"title": "a"}, {"title": "b"}])[0], 201)
         asked = [
             ("POST", "/documents", {"title": "c"}, 201, None), ("POST", "/documents", b"{", 400, "BadJson"),
@@ -362,6 +367,10 @@ class Starts(Served):
         self.assertIn("--journal", self.refused("serve", *schema))
         self.assertIn("HOST:PORT", self.refused("serve", *schema, *journal, "--listen", "nowhere"))
         self.assertIn("--token-file", self.refused("serve", *schema, *journal, "--token-reads"))
+        self.assertIn("--token-file", self.refused("serve", *schema, *journal, "--read-token-file", bad))
+        bad.write_text("sixteen-letters-")
+        same = ("--token-file", bad, "--read-token-file", bad)
+        self.assertIn("are the same", self.refused("serve", *schema, *journal, *same))
         bad.write_text("short")
         self.assertIn("16 letters", self.refused("serve", *schema, *journal, "--token-file", bad))
         self.assertIn("isn't there", self.refused("compact", *journal))
@@ -384,11 +393,11 @@ class Starts(Served):
         self.assertRegex(self.refused("serve", *schema, *journal), "line 4, byte [0-9]+: WrongKind")
         self.assertEqual(self.journal.read_bytes(), before)
 
-    def test_without_waitress(self):
-        (self.folder / "waitress.py").write_text("raise ImportError\n")
+    def test_without_uvicorn(self):
+        (self.folder / "uvicorn.py").write_text("raise ImportError\n")
         path = os.pathsep.join([str(self.folder), os.environ.get("PYTHONPATH", "")])
         told = self.refused("serve", "--example", env={**os.environ, "PYTHONPATH": path})
-        self.assertIn("python3-waitress", told)
+        self.assertIn("python3-uvicorn", told)
 
     def test_torn(self):
         """A torn tail is cut off and told."""
@@ -400,6 +409,32 @@ class Starts(Served):
         with self.serve() as server:
             self.assertEqual(server.ask("GET", "/status")[1]["documents"], 1)
             self.assertIn("cut 14 bytes", server.said())
+
+    def test_not_ready(self):
+        """While the journal is read the port is open: it says how far it is, and answers nothing else."""
+        server = self.serve()
+        for _ in range(3):
+            server.ask("POST", "/documents", [{"title": "x" * 5000}] * 250)
+        server.stop(signal.SIGTERM)
+        slow = "import sys, time; from dilforec.service import _command, _files; blocks = _files.blocks\n"
+        slow += "_files.blocks = lambda *given: (time.sleep(0.7) or each for each in blocks(*given))\n"
+        server = self.serve(program=("-c", slow + "sys.exit(_command.main(sys.argv[1:]))"), waits=False)
+        self.assertEqual(server.ask("GET", "/healthz"), (200, {"healthy": True}))
+        found = []
+        while (told := server.ask("GET", "/readyz", Host="anything"))[0] == 503:
+            self.assertFalse(told[1]["ready"])
+            found.append(told[1]["documents"])
+            status, told = server.ask("GET", "/search")
+            self.assertIn((status, told.get("error")), [(503, "Starting"), (200, None)])
+            time.sleep(0.1)
+        self.assertEqual(told[1], {"ready": True, "documents": 750, "writable": True})
+        self.assertEqual((found, found[0]), (sorted(found), 0))
+        self.assertIn(found[-1], range(1, 751))
+        self.assertEqual(server.ask("GET", "/search")[1]["count"], 750)
+        # It may be ended, too, before it is ready.
+        server.stop(signal.SIGTERM)
+        server = self.serve(program=("-c", slow + "sys.exit(_command.main(sys.argv[1:]))"), waits=False)
+        self.assertEqual(server.stop(signal.SIGTERM), 0)
 
     def test_systemd(self):
         """systemd is told when it is ready, and when it ends."""
@@ -456,6 +491,102 @@ class Guards(Served):
                 self.assertEqual(server.ask("GET", path)[0], 401 if reads else 200)
                 self.assertEqual(server.ask("GET", path, **right)[0], 200)
             self.assertEqual(server.ask("GET", "/")[0], 200)
+
+    def test_read_token(self):
+        """A token that only reads: reads need one of the two, changes the other, and SIGHUP reads both again."""
+        write, read = self.folder / "write", self.folder / "read"
+        write.write_text("writes-and-reads-all")
+        read.write_text("reads-and-no-more")
+        server = self.serve("--token-file", write, "--read-token-file", read)
+
+        def statuses(token):
+            given = {"Authorization": f"Bearer {token}"} if token else {}
+            return [server.ask(*asked, **given)[0] for asked in (
+                ("GET", "/search"), ("GET", "/status"), ("POST", "/documents", {}), ("DELETE", "/documents/9"),
+            )]
+
+        self.assertEqual(statuses(""), [401] * 4)
+        self.assertEqual(statuses("neither-of-the-two"), [401] * 4)
+        self.assertEqual(statuses("reads-and-no-more"), [200, 200, 403, 403])
+        self.assertEqual(statuses("writes-and-reads-all"), [200, 200, 201, 404])
+        self.assertEqual(server.ask("GET", "/readyz")[0], 200)
+        read.write_text("reads-from-now-on")
+        server.process.send_signal(signal.SIGHUP)
+        for _ in range(100):
+            if statuses("reads-from-now-on")[0] == 200:
+                break
+            time.sleep(0.05)
+        self.assertEqual(statuses("reads-from-now-on"), [200, 200, 403, 403])
+        self.assertEqual(statuses("reads-and-no-more"), [401] * 4)
+        read.write_text("short")
+        server.process.send_signal(signal.SIGHUP)
+        for _ in range(100):
+            if "the tokens stay as they are" in server.said():
+                break
+            time.sleep(0.05)
+        self.assertIn("the tokens stay as they are", server.said())
+        self.assertEqual(statuses("reads-from-now-on"), [200, 200, 403, 403])
+
+    def test_log(self):
+        """Who isn't let in is logged with the address, and no path can forge a line."""
+        token = self.folder / "token"
+        token.write_text("abcdefghijklmnop")
+        server = self.serve("--token-file", token, "--log", "debug")
+        forged = "/documents%0a2026-11-28%2000:00:00,000%20INFO%20ended%1b[31m"
+        server.ask("POST", forged, {})
+        server.ask("POST", "/documents", {}, X_Forwarded_For="203.0.113.7\x9b0m")
+        server.ask("POST", "/documents", {}, Origin="http://evil.example")
+        server.ask("POST", "/" + "long" * 10_000, {}, X_Forwarded_For="long" * 5_000)
+        said = server.said()
+        self.assertLess(max(map(len, said.splitlines())), 1000)
+        self.assertRegex(said, r"WARNING 'POST' '/documents' 401, asked by 127\.0\.0\.1 for '203\.0\.113\.7\\x9b0m'\n")
+        self.assertRegex(said, r"WARNING 'POST' '/documents' 403, asked by 127\.0\.0\.1\n")
+        self.assertIn(r"'/documents\n2026-11-28 00:00:00,000 INFO ended\x1b[31m' 404", said)
+        self.assertNotIn("\x1b", said)
+
+    def test_other_sites(self):
+        """Pages of a site that is allowed may search, and none may change anything."""
+        friend, other = "https://www.example.org", "https://www.example.net"
+        server = self.serve("--allow-origin", friend, "--allow-origin", "http://localhost:3000")
+        shown = "Access-Control-Allow-Origin"
+        for path in "/search?q=x", "/documents", "/documents/1", "/status":
+            for origin, wanted in (friend, friend), ("http://localhost:3000", "http://localhost:3000"), (other, None):
+                server.ask("GET", path, Origin=origin)
+                self.assertEqual((server.headers.get(shown), server.headers["Vary"]), (wanted, "Origin"))
+        server.ask("GET", "/metrics", Origin=friend)
+        self.assertNotIn(shown, server.headers)
+        asks = {"Access-Control-Request-Method": "GET", "Access-Control-Request-Headers": "authorization"}
+        self.assertEqual(server.ask("OPTIONS", "/search", Origin=friend, **asks), (204, ""))
+        self.assertEqual((server.headers[shown], server.headers["Access-Control-Allow-Methods"]), (friend, "GET, HEAD"))
+        self.assertIn("Authorization", server.headers["Access-Control-Allow-Headers"])
+        self.assertEqual(server.ask("OPTIONS", "/search", Origin=other, **asks)[0], 405)
+        asks["Access-Control-Request-Method"] = "POST"
+        self.assertEqual(server.ask("OPTIONS", "/documents", Origin=friend, **asks)[0], 405)
+        self.assertEqual(server.ask("POST", "/documents", {}, Origin=friend)[0], 403)
+        self.assertEqual(server.ask("DELETE", "/documents/1", Origin=friend)[0], 403)
+        for bad in "www.example.org", "https://www.example.org/", "*", "null", "https://a,b":
+            with self.subTest(origin=bad):
+                told = self.refused("serve", "--example", "--allow-origin", bad)
+                self.assertIn("isn't an origin", told)
+
+    def test_local_socket(self):
+        """A local socket, which only its owner and group may use, and which is gone at the end."""
+        path = self.folder / "socket"
+        with socket.socket(socket.AF_UNIX) as left:
+            left.bind(str(path))
+        words = [sys.executable, "-m", "dilforec", "serve", "--example", "--listen", f"unix:{path}"]
+        with subprocess.Popen(words, stdout=subprocess.PIPE, stderr=subprocess.DEVNULL) as served:
+            self.assertIn(f"at unix:{path}", served.stdout.readline().decode())
+            self.assertEqual(path.stat().st_mode & 0o777, 0o660)
+            self.assertIn("can't listen", self.refused("serve", "--example", "--listen", f"unix:{path}"))
+            for host, status in ("localhost", b" 200 "), ("elsewhere", b" 421 "):
+                with socket.socket(socket.AF_UNIX) as sock:
+                    sock.connect(str(path))
+                    sock.sendall(f"GET /search HTTP/1.1\r\nHost: {host}\r\n\r\n".encode())
+                    self.assertIn(status, sock.recv(100))
+            served.send_signal(signal.SIGTERM)
+            self.assertEqual(served.wait(30), 0)
+        self.assertFalse(path.exists())
 
     def test_beyond_the_machine(self):
         """Where it listens beyond the machine, nothing can be changed without a token, and it says so."""

@@ -11,7 +11,10 @@ import unittest
 from unittest import mock
 
 import dilforec
-from dilforec.service import BadJournal, BadSchema, Busy, NotWritten, OutcomeUnknown, Stopped, Store
+from dilforec.service import (
+    BadJournal, BadSchema, Busy, NotWritten, OutcomeUnknown, Stopped, Store, _compact, _files, _journal,
+)
+from dilforec.service._compactor import Compacting
 from service_tools import FIELDS, Failing, Stored, child
 
 BUILT = pathlib.Path(__file__).resolve().parents[3] / "crates/fts/out/fts"
@@ -173,6 +176,41 @@ class Journals(Stored):
             self.assertRaises((BadJournal, BadSchema), Store, FIELDS, self.journal)
             self.assertEqual(self.journal.read_bytes(), other)
 
+    def test_named_by_mistake(self):
+        """A file that isn't a journal is never emptied, unless all of it begins the line that is written."""
+        with Store(FIELDS, self.journal):
+            schema = self.journal.read_bytes()
+        mistakes = [
+            b'{"schema":[' + b"1," * 40_000 + b"1]}",
+            json.dumps({"schema": [{"name": "title", "kind": "text"}]}).encode(),
+            json.dumps([{"name": "title", "kind": "text"}]).encode(), schema[:-1] + b" ", schema[:20] + b"\0", b"{}",
+            b'{"schema":[{"name":"title","kind":"text","default":true}]}', schema[:-1] + schema[:-1],
+        ]
+        beside = self.folder / "journal.compacting"
+        beside.write_text("other")
+        for mistake in mistakes:
+            with self.subTest(mistake[:40]):
+                self.journal.write_bytes(mistake)
+                self.assertRaises(BadJournal, Store, FIELDS, self.journal)
+                self.assertEqual((self.journal.read_bytes(), beside.read_text()), (mistake, "other"))
+        for size in 0, 1, 20, len(schema) - 1:
+            self.journal.write_bytes(schema[:size])
+            with Store(FIELDS, self.journal) as store:
+                self.assertEqual((len(store), store.torn), (0, size))
+            self.assertEqual(self.journal.read_bytes(), schema)
+
+    def test_backwards(self):
+        """The lines of a file from the last to the first, however blocks cut them."""
+        lines = [b"x" * (number * 7 % 23) for number in range(200)]
+        text = b"head\n" + b"".join(line + b"\n" for line in lines)
+        self.journal.write_bytes(text)
+        with self.journal.open("rb") as file:
+            for block in 1, 2, 3, 7, 64, 1 << 20:
+                with mock.patch.object(_files, "_BLOCK", block):
+                    for forth, wanted in (_files.lines, lines), (_files.lines_backwards, lines[::-1]):
+                        self.assertEqual(list(forth(file.fileno(), len(b"head\n"), len(text))), wanted)
+                        self.assertEqual(list(forth(file.fileno(), 5, 5)), [])
+
     def test_script(self):
         """The journal is a script: an index and `fts run` that execute its lines answer as the store does."""
         self.filled()
@@ -198,6 +236,85 @@ class Journals(Stored):
             found = index.search("*", groups=["shelf", "year"], top=dilforec.Top("year", 100))
         self.assertEqual((found.count, found.groups), (expected.count, expected.groups))
         self.assertEqual([hit.document for hit in found.hits], [hit.document for hit in expected.hits])
+
+
+class Schemas(Stored):
+    """Compactions that change the schema."""
+
+    def filled(self):
+        store = self.opened()
+        for year in range(30):
+            store.add({"title": f"n{year}", "shelf": "ab"[year % 2], "year": year % 4})
+        for id in 3, 9, 4:
+            store.replace(id, {"title": "anew", "shelf": "c", "year": id % 4})
+        store.delete(5)
+        return store
+
+    def test_changed(self):
+        """Fields are added and dropped, marks change, another kind has to be dropped first; what stays is the same."""
+        store = self.filled()
+        there, commit = self.all(store), store.commits
+        with store.snapshot() as before:
+            sizes = store.compact(
+                schema=[dilforec.keyword("shelf", default=True), dilforec.i64("temp"), dilforec.text("year")],
+                drop=["title", "year"],
+            )
+            self.assertEqual((before.search("anew").count, len(before)), (3, 29))
+        self.assertEqual(sizes.after, self.journal.stat().st_size)
+        there = {id: {"shelf": document["shelf"]} for id, document in there.items()}
+        for again in False, True:
+            self.assertEqual((self.all(store), store.search("c").count, store.commits), (there, 3, commit + again))
+            there[store.replace(7, {"temp": -7, "year": "late"}).ids[0]] = {"temp": -7, "year": "late"}
+            self.assertEqual(([field.name for field in store.fields]), ["shelf", "temp", "year"])
+            fields = store.fields
+            store.compact()
+            store.close()
+            store = Store(fields, self.journal)
+            self.addCleanup(store.close)
+        store.compact(drop=["temp"])
+        self.assertEqual((store.get(7), len(store.fields)), ({"id": 7, "year": "late"}, 2))
+
+    def test_refused(self):
+        """A change that would lose something leaves all as it was."""
+        store = self.filled()
+        there, whole = self.all(store), self.journal.read_bytes()
+        title, shelf, year = FIELDS
+        for more in (
+            {"schema": [title, shelf]}, {"schema": [title, shelf, dilforec.i64("year")]}, {"drop": ["what"]},
+            {"schema": [*FIELDS, dilforec.u64("id")]}, {"schema": [*FIELDS, dilforec.text("AND")]},
+            {"drop": ["title", "shelf", "year", "x"]}, {"schema": [*FIELDS, shelf]},
+        ):
+            with self.subTest(more):
+                self.assertRaises(BadSchema, store.compact, **more)
+        self.assertRaises(TypeError, store.compact, drop="title")
+        with Store(FIELDS, self.folder / "keyed", key="shelf") as keyed:
+            self.assertRaises(BadSchema, keyed.compact, drop=["shelf"])
+        self.assertEqual((self.all(store), self.journal.read_bytes()), (there, whole))
+
+    def test_faults(self):
+        """A call on the disk that fails, and a transaction that waits meanwhile."""
+        disk = Failing()
+        store = self.opened(disk=disk)
+        store.add({"title": "first", "year": 1})
+        for name, after in ("write", 0), ("sync", 0), ("sync", 1), ("rename", 0):
+            with self.subTest(name=name, after=after):
+                disk.fails, disk.after = {name: 1}, {name: after}
+                self.assertRaises(NotWritten, store.compact, drop=["shelf"])
+                self.assertEqual([path.name for path in self.folder.iterdir()], ["journal"])
+                store.add({"shelf": "still"})
+        began, go, write = threading.Event(), threading.Event(), disk.write
+        disk.write = lambda *given: (began.set(), go.wait(20), write(*given))
+        threads = [threading.Thread(target=lambda: store.compact(drop=["shelf"]))]
+        threads[0].start()
+        self.assertTrue(began.wait(20))
+        threads.append(threading.Thread(target=lambda: store.add({"title": "waited"})))
+        threads[1].start()
+        self.assertEqual(len(store), 5)
+        go.set()
+        for thread in threads:
+            thread.join()
+        disk.write = write
+        self.assertEqual((len(store), store.get(2), store.search("waited").count), (6, {"id": 2}, 1))
 
 
 class Compactions(Stored):
@@ -309,12 +426,19 @@ class Compactions(Stored):
         self.assertEqual(len(self.opened()), 100)
 
     def test_busy(self):
+        """A second compaction is refused while one goes on, and only then."""
         store = self.opened()
-        store._compacting.acquire()
-        try:
+        store.add({})
+        began, go = threading.Event(), threading.Event()
+        write = store._journal.disk.write
+        with mock.patch.object(store._journal.disk, "write", lambda *given: (began.set(), go.wait(20), write(*given))):
+            thread = threading.Thread(target=store.compact)
+            thread.start()
+            self.assertTrue(began.wait(20))
             self.assertRaises(Busy, store.compact)
-        finally:
-            store._compacting.release()
+            go.set()
+            thread.join()
+        store.compact()
 
     def test_failing(self):
         """A call on the disk that fails during a compaction: the journal is as it was, and it goes on."""
@@ -331,7 +455,7 @@ class Compactions(Stored):
                 self.assertEqual((self.all(store), self.journal.stat().st_size), (there, size))
                 self.assertEqual([path.name for path in self.folder.iterdir()], ["journal"])
                 there[store.add({"title": "more"})] = {"title": "more"}
-        with mock.patch.object(store._journal, "beside_begin", side_effect=PermissionError(13, "Permission denied")):
+        with mock.patch.object(store._journal, "begin_beside", side_effect=PermissionError(13, "Permission denied")):
             self.assertRaises(NotWritten, store.compact)
         disk.fails, disk.after = {"sync_folder": 1}, {}
         self.assertRaises(OutcomeUnknown, store.compact)
@@ -339,11 +463,55 @@ class Compactions(Stored):
         store.close()
         self.assertEqual(self.all(self.opened()), there)
 
+    def test_owner(self):
+        """The new file has the owner, the group and the permissions of the old one, or isn't made."""
+        store = self.opened()
+        store.add({"title": "first"})
+        os.chmod(self.journal, 0o604)
+        if os.geteuid() == 0:
+            os.chown(self.journal, 1234, 2345)
+        before = self.journal.stat()
+        store.compact()
+        after = self.journal.stat()
+        self.assertNotEqual(before.st_ino, after.st_ino)
+        self.assertEqual((before.st_mode, before.st_uid, before.st_gid), (after.st_mode, after.st_uid, after.st_gid))
+        store.add({"title": "second"})
+        real = os.fstat(store._journal.fd)
+        other = os.stat_result((*real[:4], 99, 98, *real[6:]))
+        with mock.patch.object(os, "fstat", lambda fd: other if fd == store._journal.fd else real), \
+                mock.patch.object(os, "fchown", side_effect=PermissionError(1, "Operation not permitted")):
+            self.assertRaisesRegex(NotWritten, "is as it was: Operation not permitted", store.compact)
+        self.assertEqual([path.name for path in self.folder.iterdir()], ["journal"])
+        self.assertEqual((self.journal.stat().st_ino, store.add({})), (after.st_ino, 3))
+
+    def test_beside(self):
+        """A compaction writes into no file, and through no link, that somebody else has put there."""
+        store, beside, other = self.opened(), self.folder / "journal.compacting", self.folder / "other"
+        store.add({"title": "first"})
+        other.write_text("other")
+        for make in (lambda: beside.symlink_to(other)), (lambda: beside.write_text("theirs")):
+            make()
+            with mock.patch.object(_journal, "_remove"):
+                self.assertRaises(NotWritten, store.compact)
+            self.assertEqual(other.read_text(), "other")
+            store.compact()
+            self.assertEqual(other.read_text(), "other")
+        self.assertEqual(sorted(path.name for path in self.folder.iterdir()), ["journal", "other"])
+
+    def test_bits(self):
+        """A compaction remembers one bit for each document, from the first that is there."""
+        bits = _compact._Bits(range(1_000_005, 1_080_005, 2))
+        self.assertEqual(len(bits._bytes), 10_000)
+        self.assertEqual([1_000_005 in bits, 1_000_006 in bits, 5 in bits, 2_000_000 in bits], [True] + [False] * 3)
+        bits.remove(1_000_005)
+        self.assertEqual((1_000_005 in bits, 1_000_007 in bits, bits.count), (False, True, 39_999))
+
     def test_taken_back(self):
         """A transaction whose commit is refused after the sync isn't copied by a compaction meanwhile."""
         store = self.opened()
         store.add({"title": "first"})
-        compaction, snapshot = store._begin_compaction()
+        compactor, compacting = store._compactor, Compacting()
+        compaction, snapshot = compactor._begun(compacting)
         with snapshot:
             compaction.write(snapshot.ids())
 
@@ -354,7 +522,7 @@ class Compactions(Stored):
         with mock.patch.object(store._writer.index, "commit", commit):
             self.assertRaises(NotWritten, store.add, {"title": "second"})
         store.add({"title": "third"})
-        store._finish_compaction(compaction)
+        compactor._finish(compacting, compaction)
         there = self.all(store)
         store.close()
         self.assertEqual((self.all(self.opened()), there), (there, {1: {"title": "first"}, 2: {"title": "third"}}))

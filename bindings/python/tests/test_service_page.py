@@ -10,8 +10,9 @@ import sys
 import tempfile
 import time
 import unittest
+import urllib.parse
 
-from service_tools import Server, need_waitress
+from service_tools import Server, need_uvicorn
 
 CHROMIUM = next(filter(None, map(shutil.which, ("chromium", "chromium-browser", "google-chrome"))), None)
 
@@ -81,7 +82,11 @@ class Browser:
             self.do("Input.dispatchKeyEvent", type=kind, key=name, **with_text)
 
     def shot(self, path):
-        pathlib.Path(path).write_bytes(base64.b64decode(self.do("Page.captureScreenshot")["data"]))
+        """Writes a picture of the whole page, also of what is below the window."""
+        size = self.do("Page.getLayoutMetrics")["cssContentSize"]
+        clip = {"x": 0, "y": 0, "width": size["width"], "height": size["height"], "scale": 1}
+        told = self.do("Page.captureScreenshot", captureBeyondViewport=True, clip=clip)
+        pathlib.Path(path).write_bytes(base64.b64decode(told["data"]))
 
     def close(self):
         os.close(self.asked)
@@ -113,7 +118,7 @@ PICK = "document.querySelector('.pick[data-of=\\'%s\\']')"
 @unittest.skipUnless(CHROMIUM, "there is no Chromium")
 class Page(unittest.TestCase):
     def setUp(self):
-        need_waitress()
+        need_uvicorn()
         self.server = Server("--example")
         self.addCleanup(self.server.__exit__)
         self.browser = Browser()
@@ -184,6 +189,101 @@ class Page(unittest.TestCase):
             browser.do("Emulation.setEmulatedMedia", features=[{"name": "prefers-color-scheme", "value": scheme}])
             self.assertEqual(browser.value("getComputedStyle(document.body).backgroundColor"), ground)
 
+    def picked(self, field, value):
+        return PICK % json.dumps([field, value], separators=(",", ":"))
+
+    def test_picks(self):
+        """A facet that was picked can be taken off, also if no hit has it; Back and Forward, and a shared address."""
+        browser = self.browser
+        self.go()
+        browser.until(TOLD, "81 hits")
+        novel, english = self.picked("shelf", "novel"), self.picked("language", "English")
+        browser.value(f"{novel}.click()")
+        browser.until(f"{novel}?.getAttribute('aria-pressed')", "true")
+        many = browser.value(TOLD)
+        browser.value(f"{TYPED}('nosuchwordanywhere')")
+        browser.until(TOLD, "0 hits")
+        self.assertEqual(browser.value(f"{novel}.textContent"), "novel0")
+        shared = browser.value("location.search")
+        browser.value(f"{novel}.click()")
+        browser.until(f"{novel}", None)
+        self.assertEqual(browser.value(TOLD), "0 hits")
+        # Back to the pick, to the list without words, and to the beginning; what was typed in one go is one step.
+        browser.value("history.back()")
+        browser.until(f"{novel}?.textContent", "novel0")
+        browser.value("history.back()")
+        browser.until(TOLD, many)
+        self.assertEqual(browser.value("document.getElementById('query').value"), "")
+        browser.value("history.back()")
+        browser.until(TOLD, "81 hits")
+        browser.value("history.forward()")
+        browser.until(TOLD, many)
+        self.go(shared)
+        browser.until(f"{novel}?.textContent", "novel0")
+        self.assertEqual(browser.value("document.getElementById('query').value"), "nosuchwordanywhere")
+        # With a query that is refused, too.
+        self.go("?q=war+OR&pick=language%3AEnglish&pick=title%3Ax&pick=none%3Ay")
+        browser.until(f"{TOLD}?.startsWith('Syntax: ')", True)
+        browser.value(f"{english}.click()")
+        browser.until(f"{english}", None)
+        self.assertNotIn("pick", browser.value("location.search"))
+
+    def test_enter(self):
+        """Enter searches at once, an order is in the address, and each search is one request."""
+        browser = self.browser
+        self.go()
+        browser.until(TOLD, "81 hits")
+        browser.do("Network.enable")
+        browser.events.clear()
+        browser.value("const box = document.getElementById('query'); box.focus(); box.value = 'war'")
+        browser.key("Enter", "\r")
+        browser.until(TOLD, "5 hits")
+        sent = [each["params"] for each in browser.events if each["method"] == "Network.requestWillBeSent"]
+        asked = [each["request"]["url"] for each in sent]
+        self.assertEqual(len(asked), 1, asked)
+        self.assertIn("groups=shelf%3A12%2Clanguage%3A12", asked[0])
+        browser.value(f"{ORDERED}('pages,falling')")
+        browser.until(f"{TITLES}[0]", "Ἰλιάς")
+        self.assertEqual(browser.value("location.search"), "?q=war&order=pages%2Cfalling")
+        browser.value("history.back()")
+        browser.until("document.getElementById('order').value", "id,falling")
+
+    def test_marks(self):
+        """Words are marked as the index finds them: no operators, no names of fields, nothing that is excluded."""
+        documents = [
+            {"title": "War or peace", "author": "Title Word",
+             "about": "title of a WAR: ΣΟΦΟΣ, peace and war, left hand"},
+            {"title": ["new word", "order"], "about": "word order, new order"},
+        ]
+        self.assertEqual(self.server.ask("POST", "/documents", documents)[0], 201)
+        browser = self.browser
+        for query, wanted in [
+            ("war OR nothing", ["War", "WAR", "war"]), ("title:war", ["War"]),
+            ("war AND peace", ["War", "peace", "WAR", "peace", "war"]),
+            ("+war -title:order NOT author:peace", ["War", "WAR", "war"]), ('"and war"', ["and", "war"]),
+            ("σοφος", ["ΣΟΦΟΣ"]), ("left-hand", ["left", "hand"]), ('"word order"', ["word", "order"]),
+            ("war -(peace -left) year:>3", ["War", "WAR", "war"]),
+            ('about:"a war" (title:peace)', ["peace", "a", "WAR"]),
+        ]:
+            with self.subTest(query=query):
+                self.go("?" + urllib.parse.urlencode({"q": f"+id:>81 +({query})"}))
+                browser.until(f"document.readyState === 'complete' && {TOLD}?.includes('hit')", True)
+                found = browser.value("[...document.querySelectorAll('mark')].map(each => each.textContent)")
+                self.assertEqual(found, wanted)
+
+    def test_names(self):
+        """Each input has a label, the page a heading, and texts their own direction."""
+        self.go()
+        self.browser.until(TOLD, "81 hits")
+        self.assertEqual(self.browser.value("document.querySelector('h1').textContent"), "Search")
+        labelled = ("[...document.querySelectorAll('input, select')]"
+                    ".map(each => each.labels[0]?.textContent.trim().split(/\\s/)[0])")
+        self.assertEqual(self.browser.value(labelled), ["Query", "Order", "Token"])
+        self.assertEqual(self.server.ask("POST", "/documents", {"title": "שלום war"})[0], 201)
+        self.go("?q=שלום")
+        self.browser.until(TOLD, "1 hit")
+        self.assertEqual(self.browser.value("getComputedStyle(document.querySelector('h2')).direction"), "rtl")
+
     def test_token(self):
         """The page asks for a token where reads need one."""
         with tempfile.TemporaryDirectory() as folder:
@@ -191,11 +291,11 @@ class Page(unittest.TestCase):
             token.write_text("abcdefghijklmnop")
             with Server("--example", "--token-file", token, "--token-reads") as self.server:
                 self.go()
-                self.browser.until("document.getElementById('token')?.hidden", False)
+                self.browser.until("document.getElementById('secret')?.hidden", False)
                 self.browser.value("const box = document.getElementById('token'); box.value = 'abcdefghijklmnop';"
                                    "box.dispatchEvent(new Event('change'))")
                 self.browser.until(TOLD, "81 hits")
-                self.assertEqual(self.browser.value("document.getElementById('token').hidden"), True)
+                self.assertEqual(self.browser.value("document.getElementById('secret').hidden"), True)
 
 
 def shots(folder):

@@ -13,9 +13,12 @@ import unittest
 from unittest import mock
 
 import dilforec
+from dilforec.library import MEMORY, Channel
 from dilforec.service import (
-    BadSchema, Locked, NoSuchDocument, NotWritten, Stopped, Store, TransactionRefused, _merger, _turns,
+    BadSchema, KeyTaken, Locked, NoSuchDocument, NotWritten, Stopped, Store, TransactionRefused, VersionChanged,
+    _merger, version_of,
 )
+from dilforec.service._lines import read_json
 from service_tools import FIELDS, Failing, Stored
 
 
@@ -117,6 +120,17 @@ class Calls(Stored):
         self.assertEqual((self.all(store), self.journal.stat().st_size), ({1: {"title": "first"}}, size))
         self.assertEqual((store.add({}), store.replace(1, {"id": 1})), (2, ((1,), 3)))
 
+    def test_json(self):
+        """JSON that the service is sent means what it does in a script."""
+        store = self.opened()
+        for text in '{"add":{"year":-0}}', '{"add":{"year":1.0}}':
+            with self.subTest(text), self.assertRaises(TransactionRefused) as raised, store.transaction() as wrong:
+                wrong.command(read_json(text))
+            self.assertEqual(raised.exception.refusal.name, "WrongKind")
+        for text in "NaN", "[-Infinity]", "{", "01":
+            self.assertRaises(ValueError, read_json, text)
+        self.assertEqual(read_json('{"a":[0,-1,"-0",18446744073709551616]}'), {"a": [0, -1, "-0", 1 << 64]})
+
     def test_long(self):
         """A transaction that is executed in several blocks: all of it, or the number of the one that is refused."""
         store = self.opened()
@@ -184,6 +198,191 @@ class Calls(Stored):
         self.assertEqual(len(store), 0)
 
 
+class Keys(Stored):
+    """Stores whose documents are known by a key."""
+
+    def keyed(self, **more):
+        store = Store(FIELDS, self.journal, key="shelf", **more)
+        self.addCleanup(store.close)
+        return store
+
+    def test_documents(self):
+        """What is added with a key that is there replaces, and has its number."""
+        store = self.keyed()
+        self.assertEqual([store.add({"shelf": key, "year": year}) for year, key in enumerate("abaa")], [1, 2, 1, 1])
+        self.assertEqual(self.all(store), {1: {"shelf": "a", "year": 3}, 2: {"shelf": "b", "year": 1}})
+        self.assertEqual(store.put_by_key("b", {"shelf": "b"}), ((2,), 5))
+        self.assertEqual(store.put_by_key("c", {"shelf": "c"}), ((3,), 6))
+        self.assertEqual((store.get_by_key("c"), store.get_by_key("d")), ({"id": 3, "shelf": "c"}, None))
+        self.assertEqual(store.replace(3, {"shelf": "d"}), ((3,), 7))
+        self.assertEqual((store.get_by_key("c"), store.get_by_key("d")["id"]), (None, 3))
+        self.assertEqual((store.delete_by_key("a"), store.get_by_key("a")), (((), 8), None))
+        self.assertEqual((store.add({"shelf": "a"}), store.key_of("0")), (4, "0"))
+        with store.transaction() as transaction:
+            transaction.delete_all()
+            for year in range(300):
+                transaction.add({"shelf": f"{year % 200} \"\\", "year": year})
+            transaction.put_by_key("b", {"shelf": "b"})
+            transaction.delete("shelf", "d")
+            transaction.add({"shelf": "d"})
+        ids = transaction.ids
+        self.assertEqual((ids[:2], ids[200:202], ids[300:]), ((5, 6), (5, 6), (2, 205)))
+        there = self.all(store)
+        self.assertEqual((len(there), there[5]), (202, {"shelf": "0 \"\\", "year": 200}))
+        with store.transaction() as transaction:
+            transaction.replace(5, {"shelf": "e"})
+            transaction.delete_document(5)
+            transaction.add({"shelf": "e"})
+            transaction.put_by_key("0 \"\\", {"shelf": "0 \"\\"})
+        self.assertEqual(transaction.ids, (5, 206, 207))
+        there = self.all(store)
+        store.compact()
+        store.close()
+        self.assertEqual(self.all(self.keyed()), there)
+
+    def test_refusals(self):
+        store = self.keyed()
+        store.add({"shelf": "a"})
+        store.add({"shelf": "b"})
+        for wrong, call in [
+            (ValueError, lambda: store.add({"year": 1})), (ValueError, lambda: store.replace(1, {})),
+            (ValueError, lambda: store.put_by_key("a", {"shelf": "b"})),
+            (NoSuchDocument, lambda: store.delete_by_key("c")),
+            (dilforec.WrongKind, lambda: store.add({"shelf": 1})), (dilforec.WrongKind, lambda: store.delete_by_key(7)),
+            (dilforec.KeywordTooLong, lambda: store.add({"shelf": "x" * 300})),
+            (dilforec.UnknownField, lambda: store.add({"shelf": "a", "what": 1})),
+            (KeyTaken, lambda: store.replace(1, {"shelf": "b"})),
+            (NoSuchDocument, lambda: store.put_by_key("c", {"shelf": "c"}, version="*")),
+        ]:
+            with self.subTest(wrong.__name__), self.assertRaises(wrong):
+                call()
+        self.assertEqual(self.all(store), {1: {"shelf": "a"}, 2: {"shelf": "b"}})
+        for key in "title", "what":
+            self.assertRaises(BadSchema, Store, FIELDS, self.folder / "other", key=key)
+        with Store(FIELDS, self.folder / "plain") as plain:
+            for call in (lambda: plain.get_by_key("a"), lambda: plain.put_by_key("a", {}), lambda: plain.key_of("a")):
+                self.assertRaises(ValueError, call)
+
+    def test_numbers(self):
+        """Keys that are numbers, and the texts that mean them."""
+        with Store([*FIELDS, dilforec.i64("n")], self.journal, key="n") as store:
+            self.assertEqual([store.add({"n": n}) for n in (-5, 0, -5)], [1, 2, 1])
+            self.assertEqual((store.key_of("-5"), store.get_by_key(-5)), (-5, {"id": 1, "n": -5}))
+            for text in "", "x", "1.0", "-0", "01", " 1", "9223372036854775808":
+                self.assertRaises(ValueError, store.key_of, text)
+            self.assertRaises(dilforec.WrongKind, store.delete_by_key, True)
+
+    def test_versions(self):
+        """A change that names a version is done if the document has it, also after a restart and a compaction."""
+        store = self.keyed()
+        store.add({"shelf": "a", "title": ["x", "y"], "year": 7})
+        read = store.get(1)
+        version = version_of(read)
+        self.assertEqual(version, version_of(dict(reversed(read.items()))))
+        store.compact()
+        store.close()
+        store = self.keyed()
+        self.assertEqual(version_of(store.get_by_key("a")), version)
+        self.assertEqual(store.replace(1, {"shelf": "a", "year": 8}, version=version).ids, (1,))
+        for call in (
+            lambda: store.replace(1, {"shelf": "a"}, version=version), lambda: store.delete(1, version=version),
+            lambda: store.put_by_key("a", {"shelf": "a"}, version=version),
+            lambda: store.delete_by_key("a", version=version),
+        ):
+            self.assertRaises(VersionChanged, call)
+        self.assertRaises(NoSuchDocument, store.delete, 2, version=version)
+        # What has the same content again has the same version.
+        store.replace(1, {"shelf": "a", "title": ["x", "y"], "year": 7})
+        self.assertEqual(store.delete_by_key("a", version=version), ((), 4))
+
+    def test_one_of_many(self):
+        """Of threads that change a document of one version at the same time, one does."""
+        store = self.keyed()
+        for round in range(10):
+            store.put_by_key("a", {"shelf": "a", "year": 1000 + round})
+            version, done, lock = version_of(store.get(1)), [], threading.Lock()
+
+            def change(number):
+                try:
+                    store.replace(1, {"shelf": "a", "year": number}, version=version)  # noqa: B023
+                    with lock:  # noqa: B023
+                        done.append(number)  # noqa: B023
+                except VersionChanged:
+                    pass
+
+            run_all(change, 8)
+            self.assertEqual(([store.get(1)["year"]], len(store)), (done, 1))
+
+
+class Pages(Stored):
+    """Top lists that are gone on with after their last hit."""
+
+    def pages(self, searching, query, top, **more):
+        after, hits = None, []
+        while True:
+            found = searching.search(query, top=top, after=after, **more)
+            text = json.loads(searching.search_json(query, top=top, after=after, **more))
+            self.assertEqual((text["count"], text["hits"]), (found.count, [hit._asdict() for hit in found.hits]))
+            hits += found.hits
+            if len(found.hits) < top.k:
+                return hits, found.count
+            after = (found.hits[-1].value, found.hits[-1].id)
+
+    def test_each_hit(self):
+        """Each hit comes once, by value and then by number, however many have one value and were written anew."""
+        store, chance = self.opened(), random.Random(5)
+        with store.transaction() as transaction:
+            for number in range(300):
+                year = {} if number % 50 == 0 else {"year": chance.choice([1, 2, 2, 3, 1 << 63])}
+                transaction.add({"title": "rust" if number % 3 else "moss", **year})
+        for _ in range(60):
+            id = chance.randint(1, 300)
+            store.replace(id, {"title": "rust", "year": chance.choice([1, 2, 2, 2])})
+        with store.snapshot() as snapshot:
+            found_by = {
+                "*": lambda has: True, "rust": lambda has: has["title"] == "rust",
+                "rust year:2": lambda has: has["title"] == "rust" or has["year"] == 2,
+            }
+            there = [document for document in snapshot.documents(limit=1000) if "year" in document]
+            for query, k, order in itertools.product(found_by, [1, 7, 60, 299], ["rising", "falling"]):
+                hits, count = self.pages(snapshot, query, dilforec.Top("year", k, order))
+                sign = 1 if order == "rising" else -1
+                wanted = sorted((sign * has["year"], has["id"]) for has in there if found_by[query](has))
+                self.assertEqual([(sign * hit.value, hit.id) for hit in hits], wanted)
+                self.assertGreaterEqual(count, len(hits))
+            hits, _ = self.pages(snapshot, "rust", dilforec.Top("id", 50, "falling"), fields=["year"])
+            self.assertEqual([hit.id for hit in hits], sorted((hit.id for hit in hits), reverse=True))
+            self.assertEqual(snapshot.search("*", after=(11, 11)).hits[0].id, 10)
+            self.assertEqual(snapshot.search(" ", top=dilforec.Top("year", 5), after=(1, 1)).hits, ())
+
+    def test_limits(self):
+        """What can't be gone on with says so, and its first page is there all the same."""
+        store = self.opened()
+        for _ in range(5):
+            store.add({"title": "rust", "year": 1})
+        top = dilforec.Top("year", 3)
+        long, deep = "rust " * 819, "(" * 32 + "rust" + ")" * 32
+        for query, wrong in (long, dilforec.TooLong), (deep, dilforec.TooDeep):
+            self.assertEqual([hit.id for hit in store.search(query, top=top).hits], [1, 2, 3])
+            self.assertRaises(wrong, store.search, query, top=top, after=(1, 3))
+        for k in 0, 10_001:
+            self.assertRaises(dilforec.BadLimit, store.search, "*", top=dilforec.Top("year", k))
+        for after in (1,), ("1", 2), (1, -1), (1, 2, 3), (True, 1):
+            self.assertRaises(ValueError, store.search, "*", top=top, after=after)
+
+    def test_long(self):
+        """Ten thousand of one value, and more."""
+        store = self.opened()
+        with store.transaction() as transaction:
+            for _ in range(10_050):
+                transaction.add({"year": 1})
+        top = dilforec.Top("year", 10_000)
+        first = store.search("*", top=top, fields=[]).hits
+        self.assertEqual((len(first), first[-1].id), (10_000, 10_000))
+        rest = store.search("*", top=top, after=(1, 10_000)).hits
+        self.assertEqual([hit.id for hit in rest], list(range(10_001, 10_051)))
+
+
 class Merges(Stored):
     def test_beside(self):
         """A thread makes large segments while transactions and searches go on, and closing doesn't wait for it."""
@@ -207,8 +406,10 @@ class Merges(Stored):
         """A merge that can't be begun, run or ended is begun again after a later commit."""
         with mock.patch.object(_merger, "MOST_IN_A_COMMIT", 0):
             store = self.opened()
-        for target, name, error in [(dilforec.Index, "begin_merge", MemoryError), (threading.Thread, "start", RuntimeError),
-                                    (dilforec.Merge, "run", MemoryError), (dilforec.Index, "end_merge", MemoryError)]:
+        for target, name, error in [
+            (dilforec.Index, "begin_merge", MemoryError), (threading.Thread, "start", RuntimeError),
+            (dilforec.Merge, "run", MemoryError), (dilforec.Index, "end_merge", MemoryError),
+        ]:
             with mock.patch.object(target, name, side_effect=error), self.assertLogs("dilforec.service", "WARNING"):
                 for _ in range(20):
                     store.add({"title": "rust"})
@@ -306,98 +507,87 @@ class Threads(Stored):
         told = dict(came)
         self.assertEqual((told["again"], self.all(store)), (None, {2: {"title": "b"}}))
 
-    def test_interrupted_leader(self):
-        """Where the thread that leads is interrupted, nobody is told that what wasn't written is done."""
+    def test_many_refused(self):
+        """Refused transactions among those that wait together: no line is executed more than twice, by one sync."""
+        disk = Failing()
+        store, executed = self.opened(disk=disk), []
+        ask_block = Channel.ask_block
+
+        def counted(channel, lines, take):
+            executed.append(len(lines))
+            return ask_block(channel, lines, take)
+
+        wait = [store.new_transaction() for _ in range(800)]
+        for number, each in enumerate(wait):
+            each.add({"title": "first", "year": number})
+            each.add({"title": "second", "year": "late" if number % 2 else number})
+        with mock.patch.object(Channel, "ask_block", counted):
+            store.do(*wait)
+        self.assertLessEqual(sum(executed), 2 * 1600)
+        self.assertEqual((disk.calls.count("write"), store.commits), (2, 1))
+        self.assertEqual([type(each.error) for each in wait], [type(None), TransactionRefused] * 400)
+        self.assertEqual({(each.error.number, each.error.refusal.name) for each in wait[1::2]}, {(2, "WrongKind")})
+        self.assertEqual([each.ids for each in wait[::2]], [(id, id + 1) for id in range(1, 801, 2)])
+        self.assertEqual((len(store), store.search("year:<800").count), (800, 800))
+        there = self.all(store)
+        store.close()
+        self.assertEqual(self.all(self.opened()), there)
+
+    def test_no_memory_in_a_group(self):
+        """If memory runs out within a group, what was executed before is done, and the others have an error."""
         store = self.opened()
-        entered, go, told = threading.Event(), threading.Event(), []
-        append = store._writer.journal.append
+        ask_block = Channel.ask_block
+        for refusals in 1, 2:
+            left = [refusals]
 
-        def first_alone(data):
-            if entered.is_set():
-                raise KeyboardInterrupt
-            entered.set()
-            go.wait(20)
-            append(data)
+            def short(channel, lines, take):
+                if not left[0]:  # noqa: B023
+                    return ask_block(channel, lines, take)
+                left[0] -= 1  # noqa: B023
+                return MEMORY, ask_block(channel, lines[:3], take)[1]
 
-        def call(do):
-            try:
-                do()
-                told.append(None)
-            except BaseException as error:
-                told.append(type(error))
+            wait = [store.new_transaction() for _ in range(4)]
+            for each in wait:
+                each.add({"title": "first"})
+                each.add({"title": "second"})
+            with mock.patch.object(Channel, "ask_block", short):
+                store.do(*wait)
+            kinds = [type(each.error) for each in wait]
+            self.assertEqual(kinds, [[type(None), NotWritten, NotWritten, NotWritten], [NotWritten] * 4][refusals - 1])
+            self.assertEqual((len(store), store.writable), (2, True))
 
-        def add():
-            store.add({"title": "rust"})
+    def test_no_memory_to_look(self):
+        """If there is no memory to look for a document, that change isn't done, and the others are."""
+        store = self.opened()
+        store.add({})
+        wait = [store.new_transaction() for _ in range(3)]
+        wait[0].add({})
+        wait[1].replace(1, {"title": "never"})
+        wait[2].add({})
+        with mock.patch.object(dilforec.Index, "search", side_effect=MemoryError):
+            store.do(*wait)
+        self.assertEqual([type(each.error) for each in wait], [type(None), NotWritten, type(None)])
+        self.assertEqual((self.all(store), store.writable), ({1: {}, 2: {}, 3: {}}, True))
 
-        with mock.patch.object(store._writer.journal, "append", first_alone):
-            threads = []
-            for place, do in enumerate([add, add, lambda: store._alone(lambda: None), add], 1):
-                threads.append(threading.Thread(target=call, args=(do,)))
-                threads[-1].start()
-                self.assertTrue(entered.wait(20))
-                while len(store._turns._waiting) < place:
-                    time.sleep(0.001)
-            go.set()
-            for thread in threads:
-                thread.join()
-        self.assertEqual(sorted(map(str, told)), sorted(map(str, [None, KeyboardInterrupt, NotWritten, NotWritten])))
-        self.assertEqual(len(store), 1)
-
-    def test_interrupted(self):
-        """Threads that are interrupted while they wait for their turn don't keep others from theirs."""
-        led, interrupted = [], []
-
-        class Interrupted(_turns._Waiting):
-            def __init__(self, jobs):
-                super().__init__(jobs)
-                (job,), lock = jobs, self.woken
-
-                def acquire(blocking=True):
-                    if blocking and job % 3 == 1:
-                        time.sleep(0.002 * (job % 7))
-                        raise KeyboardInterrupt
-                    return lock.acquire(blocking)
-
-                self.woken = mock.Mock(acquire=acquire, release=lock.release)
-
-        def lead(jobs):
-            led.extend(jobs[:2])
-            time.sleep(0.003)
-            return min(len(jobs), 2)
-
-        def call(number):
-            try:
-                turns.do(number)
-            except KeyboardInterrupt:
-                interrupted.append(number)
-
-        turns = _turns.Turns(lead)
-        with mock.patch.object(_turns, "_Waiting", Interrupted):
-            run_all(call, 60)
-            turns.do(60)
-        self.assertEqual(len(led), len(set(led)))
-        self.assertEqual(set(range(61)) - set(interrupted) - set(led), set())
-        self.assertGreater(len(interrupted), 5)
-
-    def test_jobs_at_once(self):
-        """Threads that hand in several jobs at a time get all of them done, in their order, however many are taken."""
-        done, early = [], []
-
-        def lead(jobs):
-            time.sleep(0.0005)
-            taken = jobs[: random.randint(1, 5)]
-            done.extend(taken)
-            return len(taken)
-
-        def call(number):
-            jobs = [(number, place) for place in range(number % 7)]
-            turns.do(*jobs)
-            if [job for job in done if job[0] == number] != jobs:
-                early.append(number)
-
-        turns = _turns.Turns(lead)
-        run_all(call, 60)
-        self.assertEqual((early, len(done)), ([], sum(number % 7 for number in range(60))))
+    def test_one_after_the_other(self):
+        """Transactions that wait together do what they would do one after the other."""
+        store = self.opened()
+        store.add({"title": "rust", "shelf": "x"})
+        wait = [store.new_transaction() for _ in range(7)]
+        wait[0].add({})
+        wait[0].delete("id", 2)
+        wait[1].replace(2, {"title": "never"})
+        wait[2].replace(1, {"title": "anew"})
+        wait[3].delete_document(1)
+        wait[4].replace(1, {"title": "never"})
+        wait[5].add({"title": "last", "shelf": "x"})
+        wait[6].replace(3, {"title": "guessed"})
+        store.do(*wait)
+        missing = [number for number, each in enumerate(wait) if isinstance(each.error, NoSuchDocument)]
+        self.assertEqual((missing, [wait[number].error for number in (0, 2, 3, 5, 6)]), ([1, 4], [None] * 5))
+        self.assertEqual(self.all(store), {3: {"title": "guessed"}})
+        for wrong in store.new_transaction(), wait[0]:
+            self.assertRaises(ValueError, store.do, wrong)
 
     def test_readers(self):
         """A reader in a loop never sees half a transaction, and commits never fall."""

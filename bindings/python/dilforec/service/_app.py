@@ -1,108 +1,178 @@
-"""The service as a WSGI application: which call of a store each request is."""
+"""The service as an application: who may ask what, and which call of a store each request is. It serves WSGI itself."""
 from __future__ import annotations
 
 import logging
 import re
-import time
 from collections.abc import Callable, Iterable
 from functools import partial
 from http import HTTPStatus
-from typing import TYPE_CHECKING, Any, NamedTuple, Optional, TypeVar, Union
+from typing import TYPE_CHECKING, Optional, TypeVar, Union
 
-from dilforec.refusals import Refused, Syntax
-from dilforec.service import _lines as lines
-from dilforec.service._errors import Busy, NoSuchDocument, TransactionRefused, Unavailable
+from dilforec.refusals import Refused
+from dilforec.service._changes import Change, Changes
+from dilforec.service._errors import BadSchema, Busy, KeyTaken, NoSuchDocument, Unavailable, VersionChanged
 from dilforec.service._guard import Guard
 from dilforec.service._http import HttpError, Request, Response, answer, bad, failure
-from dilforec.service._metrics import Metrics, resident_bytes
+from dilforec.service._metrics import Metrics
 from dilforec.service._page import PAGE, POLICY
+from dilforec.service._reads import Limits, Reads
 from dilforec.service._store import Store
-from dilforec.service._writer import Pending
-from dilforec.values import Top, as_json
 
 if TYPE_CHECKING:
     from _typeshed.wsgi import StartResponse, WSGIEnvironment
 
 T = TypeVar("T")
+Call = Callable[[Request], Union[Response, Change]]
 
 log = logging.getLogger("dilforec.service")
 
-# Hits of an answer, and documents of a page, at most.
-MOST_HITS = 1000
-
 _STATUSES = {status: f"{status.value} {status.phrase}" for status in HTTPStatus}
-_HEADERS = ("Cache-Control", "no-store"), ("X-Content-Type-Options", "nosniff"), ("Referrer-Policy", "no-referrer")
-
 _DOCUMENT = re.compile("/documents/(0|[1-9][0-9]{0,19})")
-
-# Where the environment of a request has what was begun of it.
-BEGUN = "dilforec.begun"
-
-
-class Change(NamedTuple):
-    """A change that a request asks for. If its operations are a body's, `places` are their places in it, from 1."""
-
-    transaction: Pending
-    status: HTTPStatus
-    began: float
-    places: "Optional[list[int]]" = None
-
-
-class Begun(NamedTuple):
-    """A request that was looked at: its answer, or the change that has to be done before it is answered."""
-
-    request: Request
-    told: Union[Response, Change]
+# Anybody may ask for these, by any name: they say nothing that a stranger mustn't know.
+_HEALTH = ("/healthz", "/readyz")
+_OPEN = ("/", *_HEALTH)
+# What pages of other sites may read, if their origin is allowed.
+_SHARED = ("/search", "/documents", "/documents/ID", "/documents/key/KEY", "/status", "/openapi.json")
+# These stand for many paths.
+_NAMED = ("/documents/ID", "/documents/key/KEY")
+# To read these takes less time than to hand them to another thread; so does to begin a change with a short body.
+_BRIEF = ("/", *_HEALTH, "/status", "/documents/ID", "/documents/key/KEY")
+_BRIEF_BODY = 65_536
 
 
 class Application:
     """Answers requests from a store. Any WSGI server runs it that has one process; several threads may call it.
 
-    A server may have a request begun by itself, and the changes of several done at once, before it calls for answers.
+    A server of another kind asks in steps, so that a body is read only once its head was let in, and so that changes
+    of several clients share a sync: `admit`, `begin`, `submit` and `finish`, and `answered` at the end.
     """
 
-    def __init__(self, store: Store, guard: Guard, body_limit: int) -> None:
-        self._store, self._guard, self._body_limit = store, guard, body_limit
-        self._metrics = Metrics()
-        self._calls: "dict[str, dict[str, Callable[[Request], Union[Response, Change]]]]" = {
-            "/": {"GET": self._page},
-            "/documents": {"GET": self._list, "POST": self._add},
-            "/documents/": {"GET": self._get, "PUT": self._replace, "DELETE": self._delete},
-            "/transaction": {"POST": self._transaction},
-            "/search": {"GET": self._search},
-            "/status": {"GET": self._status},
-            "/metrics": {"GET": self._told_metrics},
-            "/compact": {"POST": self._compact},
+    def __init__(self, store: Optional[Store], guard: Guard, limits: Limits = Limits()) -> None:
+        """The application of a store, or of one that isn't open yet, until `open` hands it in."""
+        self.guard, self.limits, self.metrics = guard, limits, Metrics()
+        # How many documents a store that is being opened has so far.
+        self.replayed = 0
+        self._store: Optional[Store] = None
+        self._calls: "dict[str, dict[str, Call]]" = {
+            "/": {"GET": self._page}, "/healthz": {"GET": self._healthy}, "/readyz": {"GET": self._ready},
         }
+        if store is not None:
+            self.open(store)
+
+    def open(self, store: Store) -> None:
+        """Answers from a store from now on."""
+        reads, changes = Reads(store, self.metrics, self.limits), Changes(store)
+        self._store = store
+        self._calls.update({
+            "/documents": {"GET": reads.list, "POST": changes.add},
+            "/documents/ID": {"GET": reads.get, "PUT": changes.replace, "DELETE": changes.delete},
+            "/documents/key/KEY": {
+                "GET": reads.get_by_key, "PUT": changes.put_by_key, "DELETE": changes.delete_by_key,
+            },
+            "/transaction": {"POST": changes.transaction},
+            "/search": {"GET": reads.search},
+            "/status": {"GET": reads.status},
+            "/metrics": {"GET": reads.metrics},
+            "/compact": {"POST": reads.compact},
+            "/openapi.json": {"GET": reads.openapi},
+        })
 
     def __call__(self, environ: WSGIEnvironment, start_response: StartResponse) -> "Iterable[bytes]":
-        begun: Optional[Begun] = environ.pop(BEGUN, None)
-        request, told = begun or self.begin(environ)
-        response = told if isinstance(told, Response) else self._tried(request, partial(self._done, told))
-        if response.status >= 400:
-            self._metrics.count("failures_total" if response.status >= 500 else "refusals_total")
-        log.debug("%s %s %d", request.method, request.path, response.status)
-        start_response(_STATUSES[response.status], [
-            ("Content-Type", response.type), ("Content-Length", str(len(response.body))), *_HEADERS, *response.headers,
-        ])
+        request = _request(environ)
+        response = self.answered(request, self._answer(request, environ))
+        start_response(_STATUSES[response.status], response.lines())
         return [b"" if request.method == "HEAD" else response.body]
 
-    def begin(self, environ: WSGIEnvironment) -> Begun:
-        """Reads a request, and does all of it but a change."""
-        request = Request(environ, self._body_limit)
-        return Begun(request, self._tried(request, partial(self._called, request)))
+    def _answer(self, request: Request, environ: WSGIEnvironment) -> Response:
+        call = self.admit(request)
+        if isinstance(call, Response):
+            return call
+        if request.has_body:
+            length = request.length(self.limits.body)
+            request.body = environ["wsgi.input"].read(length or 0)
+            if len(request.body) != (length or 0):
+                return failure(bad("BadLength", "the body is shorter than its length"))
+        begun = self.begin(request, call)
+        if isinstance(begun, Response):
+            return begun
+        assert self._store is not None
+        self._store.do(begun.transaction)
+        return self.finish(request, begun)
 
-    def is_change(self, method: str, path: str) -> bool:
-        """Whether a request is for a change of documents, if it is for anything."""
-        return method not in ("GET", "HEAD") and path.startswith(("/documents", "/transaction"))
+    # The steps
 
-    def do(self, begun: "Iterable[Begun]") -> None:
-        """Does the changes that were begun."""
-        self._store.do([told.transaction for _, told in begun if isinstance(told, Change)])
+    def admit(self, request: Request) -> "Union[Response, Call]":
+        """The call that a request is for, by its head, or the answer to one that isn't let in."""
+        return self._tried(request, partial(self._admitted, request))
 
-    def _called(self, request: Request) -> "Union[Response, Change]":
-        self._guard.host(request)
-        return self._call(request)(request)
+    def is_brief(self, request: Request) -> bool:
+        """Whether a request takes less time to begin than to hand to another thread. Its body is there."""
+        name = _name(request.path)
+        is_change = name != "/compact" and request.method not in ("GET", "HEAD")
+        return len(request.body) <= _BRIEF_BODY if is_change else name in _BRIEF
+
+    def begin(self, request: Request, call: Call) -> "Union[Response, Change]":
+        """Does all of a request but its change."""
+        return self._tried(request, partial(call, request))
+
+    def submit(self, begun: "Iterable[Change]", then: "Callable[[], None]") -> None:
+        """Has changes done that were begun, and calls `then` from another thread once they are."""
+        assert self._store is not None
+        self._store.submit(*[each.transaction for each in begun], then=then)
+
+    def finish(self, request: Request, change: Change) -> Response:
+        """The answer to a change that was done."""
+        self.metrics.took("transactions", change.began)
+        return self._tried(request, change.response)
+
+    def failed(self, request: Request, error: Exception) -> Response:
+        """The answer if the service itself fails, which it logs."""
+        log.error("%s failed", request.line, exc_info=error)
+        words = "the service failed; its log says how"
+        return failure(HttpError(HTTPStatus.INTERNAL_SERVER_ERROR, "Failed", words))
+
+    def answered(self, request: Request, response: Response) -> Response:
+        """Counts an answer and logs it, and returns it with what a browser needs for a page of another site."""
+        if request.method in ("GET", "HEAD", "OPTIONS") and _name(request.path) in _SHARED:
+            response = response._replace(headers=(*response.headers, *self.guard.sharing(request)))
+        if response.status >= 400:
+            self.metrics.count("failures_total" if response.status >= 500 else "refusals_total")
+        level = logging.WARNING if response.status in (401, 403) else logging.DEBUG
+        if log.isEnabledFor(level):
+            log.log(level, "%s %d, asked by %s", request.line, response.status, request.address)
+        return response
+
+    def _admitted(self, request: Request) -> "Union[Response, Call]":
+        name = _name(request.path)
+        if name not in _HEALTH:
+            self.guard.host(request)
+        calls = self._calls.get(name) if name == request.path or name in _NAMED else None
+        if calls is None:
+            raise self._no_call()
+        asked = self.guard.asks_to_read(request) if name in _SHARED else None
+        if asked:
+            return asked
+        method = "GET" if request.method == "HEAD" else request.method
+        if method not in calls:
+            taken = ", ".join(calls)
+            raise HttpError(
+                HTTPStatus.METHOD_NOT_ALLOWED, "MethodNotAllowed", f"the path takes {taken}", Allow=taken,
+            )
+        if method != "GET":
+            self.guard.changes(request)
+        elif name not in _OPEN:
+            self.guard.reads(request)
+        if request.has_body:
+            request.length(self.limits.body)
+        return calls[method]
+
+    def _no_call(self) -> HttpError:
+        if self._store is None:
+            return HttpError(
+                HTTPStatus.SERVICE_UNAVAILABLE, "Starting", "the documents are being read from the journal",
+                Retry_After="1",
+            )
+        return HttpError(HTTPStatus.NOT_FOUND, "NotFound", "there is no such path")
 
     def _tried(self, request: Request, call: "Callable[[], T]") -> "Union[T, Response]":
         """What a call gives, or the answer that tells its error."""
@@ -112,184 +182,54 @@ class Application:
             return failure(error)
         except NoSuchDocument as error:
             return failure(HttpError(HTTPStatus.NOT_FOUND, "NoSuchDocument", str(error)))
+        except VersionChanged as error:
+            return failure(HttpError(HTTPStatus.PRECONDITION_FAILED, "VersionChanged", str(error)))
+        except KeyTaken as error:
+            whose: "dict[str, object]" = {"key": error.key, "id": error.id}
+            return failure(HttpError(HTTPStatus.CONFLICT, "KeyTaken", str(error), more=whose))
         except Refused as error:
             return failure(bad(error.name, str(error)))
+        except BadSchema as error:
+            return failure(bad("BadSchema", str(error)))
         except Busy as error:
             return failure(HttpError(HTTPStatus.CONFLICT, "Busy", str(error)))
         except Unavailable as error:
             return failure(HttpError(HTTPStatus.SERVICE_UNAVAILABLE, type(error).__name__, str(error)))
         except MemoryError:
             return failure(HttpError(HTTPStatus.SERVICE_UNAVAILABLE, "Memory", "there was no memory; nothing was done"))
-        except Exception:
-            log.exception("%s %s failed", request.method, request.path)
-            words = "the service failed; its log says how"
-            return failure(HttpError(HTTPStatus.INTERNAL_SERVER_ERROR, "Failed", words))
+        except Exception as error:
+            return self.failed(request, error)
 
-    def _call(self, request: Request) -> "Callable[[Request], Union[Response, Change]]":
-        """The call of a path and a method, if the request may do it."""
-        calls = self._calls.get("/documents/" if _DOCUMENT.fullmatch(request.path) else request.path)
-        if calls is None or request.path == "/documents/":
-            raise HttpError(HTTPStatus.NOT_FOUND, "NotFound", "there is no such path")
-        method = "GET" if request.method == "HEAD" else request.method
-        if method not in calls:
-            taken = ", ".join(calls)
-            raise HttpError(
-                HTTPStatus.METHOD_NOT_ALLOWED, "MethodNotAllowed", f"the path takes {taken}", Allow=taken,
-            )
-        if method != "GET":
-            self._guard.changes(request)
-        elif request.path != "/":
-            self._guard.reads(request)
-        return calls[method]
-
-    # What reads
+    # What needs no store
 
     def _page(self, request: Request) -> Response:
         return Response(HTTPStatus.OK, PAGE, "text/html; charset=utf-8", (("Content-Security-Policy", POLICY),))
 
-    def _search(self, request: Request) -> Response:
-        given = request.parameters("q", "top", lists=("groups", "fields"))
-        top = _top(given["top"]) if "top" in given else None
-        fields = _names(given["fields"]) if "fields" in given else None
-        query, groups = given.get("q", "*"), _names(given.get("groups", ""))
-        try:
-            with self._metrics.timed("searches"), self._store.snapshot() as snapshot:
-                found = snapshot.search_json(query, groups=groups, top=top, fields=fields)
-        except Syntax as error:
-            # The package tells it in characters.
-            raise bad("Syntax", str(error), None if error.at is None else len(query[:error.at].encode())) from None
-        return Response(HTTPStatus.OK, found)
+    def _healthy(self, request: Request) -> Response:
+        return answer({"healthy": True})
 
-    def _list(self, request: Request) -> Response:
-        given = request.parameters("after", "limit")
-        after, limit = _number("after", given.get("after", "0")), _number("limit", given.get("limit", "100"))
-        if not 1 <= limit <= MOST_HITS:
-            raise bad("BadLimit", f"a page has 1 to {MOST_HITS} documents")
-        with self._store.snapshot() as snapshot:
-            return answer({"documents": snapshot.documents(after, limit)})
-
-    def _get(self, request: Request) -> Response:
-        request.parameters()
-        document = self._store.get(_id(request))
-        if document is None:
-            raise NoSuchDocument(_id(request))
-        return answer(document)
-
-    def _status(self, request: Request) -> Response:
-        request.parameters()
+    def _ready(self, request: Request) -> Response:
         store = self._store
-        with store.snapshot() as snapshot:
-            stats = snapshot.stats()
-            return answer({
-                "documents": stats.live, "segments": stats.segments, "commit": snapshot.commit,
-                "writable": store.writable, "journal_bytes": store.journal_bytes, "resident_bytes": resident_bytes(),
-                "schema": [as_json(field) for field in store.fields],
-            })
-
-    def _told_metrics(self, request: Request) -> Response:
-        request.parameters()
-        store = self._store
-        with store.snapshot() as snapshot:
-            stats = snapshot.stats()
-        text = self._metrics.text({
-            "documents": ("Documents of the last commit.", stats.live),
-            "deleted_documents": ("Documents that were deleted, and aren't merged away yet.", stats.documents - stats.live),
-            "segments": ("Segments of the last commit.", stats.segments),
-            "commits": ("The number of the last commit.", store.commits),
-            "journal_bytes": ("The size of the journal.", store.journal_bytes),
-            "resident_bytes": ("The memory of the process.", resident_bytes()),
-            "writable": ("1, or 0 after a write whose outcome is unknown.", int(store.writable)),
-        })
-        return Response(HTTPStatus.OK, text.encode(), "text/plain; version=0.0.4; charset=utf-8")
-
-    # What changes something
-
-    def _add(self, request: Request) -> Change:
-        return self._posted(request, lines.add)
-
-    def _transaction(self, request: Request) -> Change:
-        return self._posted(request, lines.command)
-
-    def _posted(self, request: Request, operation: "Callable[[Any], lines.Operation]") -> Change:
-        """A transaction of the body's values. A refusal tells the line, or the place in a list."""
-        request.parameters()
-        began = time.perf_counter()
-        places: "list[int]" = []
-        operations: "list[lines.Operation]" = []
-        for place, value in request.values():
-            places.append(place)
-            operations.append(_operation(operation, value, place))
-        if not places:
-            raise bad("Empty", "there is nothing in the body")
-        return Change(Pending(tuple(operations)), HTTPStatus.CREATED, began, places)
-
-    def _replace(self, request: Request) -> Change:
-        request.parameters()
-        document, id = request.json(), _id(request)
-        try:
-            return self._change_of(id, lines.delete("id", id), lines.add(document, id))
-        except ValueError as error:
-            raise bad("BadId", str(error)) from None
-
-    def _delete(self, request: Request) -> Change:
-        request.parameters()
-        id = _id(request)
-        return self._change_of(id, lines.delete("id", id))
-
-    def _change_of(self, id: int, *operations: lines.Operation) -> Change:
-        return Change(Pending(operations, id), HTTPStatus.OK, time.perf_counter())
-
-    def _done(self, change: Change) -> Response:
-        """What came of a change, which is done now if it wasn't."""
-        transaction = change.transaction
-        if not transaction.is_done:
-            self._store.do([transaction])
-        self._metrics.took("transactions", change.began)
-        error = transaction.error
-        if isinstance(error, TransactionRefused):
-            refusal = error.refusal
-            raise bad(refusal.name, str(refusal), change.places[error.number - 1] if change.places else None)
-        if error:
-            raise error
-        ids = ",".join(map(str, transaction.ids))
-        return Response(change.status, f'{{"ids":[{ids}],"commit":{transaction.commit}}}\n'.encode())
-
-    def _compact(self, request: Request) -> Response:
-        request.parameters()
-        sizes = self._store.compact()
-        return answer(sizes._asdict())
+        if store is None:
+            told = answer({"ready": False, "documents": self.replayed}, HTTPStatus.SERVICE_UNAVAILABLE)
+            return told._replace(headers=(("Retry-After", "1"),))
+        return answer({"ready": True, "documents": len(store), "writable": store.writable})
 
 
-def _operation(operation: "Callable[[Any], lines.Operation]", value: Any, place: int) -> lines.Operation:
-    try:
-        return operation(value)
-    except Refused as error:
-        raise bad(error.name, str(error), place) from None
-    except ValueError as error:
-        raise bad("BadCommand", str(error), place) from None
+def _name(path: str) -> str:
+    """The name of a path's calls."""
+    if _DOCUMENT.fullmatch(path):
+        return "/documents/ID"
+    return "/documents/key/KEY" if path.startswith("/documents/key/") and path != "/documents/key/" else path
 
 
-def _id(request: Request) -> int:
-    return _number("the document's number", request.path.rpartition("/")[2])
-
-
-def _names(text: str) -> "list[str]":
-    return list(dict.fromkeys(name for name in text.split(",") if name))
-
-
-def _number(name: str, text: str) -> int:
-    if not re.fullmatch("[0-9]{1,20}", text) or int(text) >= 1 << 64:
-        raise bad("BadParameter", f"{name} is a number from 0 to 18446744073709551615")
-    return int(text)
-
-
-def _top(text: str) -> Top:
-    words = text.split(",")
-    if len(words) != 3 or words[2] not in ("rising", "falling"):
-        raise bad("BadParameter", "top is by,k,order: a number field, how many, and rising or falling")
-    most = _number("k", words[1])
-    if not 1 <= most <= MOST_HITS:
-        raise bad("BadLimit", f"a search has 1 to {MOST_HITS} hits")
-    return Top(words[0], most, "rising" if words[2] == "rising" else "falling")
-
-
+def _request(environ: WSGIEnvironment) -> Request:
+    headers = {
+        name[5:].lower().replace("_", "-"): value for name, value in environ.items() if name.startswith("HTTP_")
+    }
+    for name in "CONTENT_TYPE", "CONTENT_LENGTH":
+        if environ.get(name):
+            headers[name.lower().replace("_", "-")] = environ[name]
+    path = environ.get("PATH_INFO", "").encode("latin-1").decode(errors="replace")
+    query = environ.get("QUERY_STRING", "").encode("latin-1")
+    return Request(environ["REQUEST_METHOD"], path, query, headers, environ.get("REMOTE_ADDR", ""))

@@ -1,7 +1,7 @@
 """What a store raises, beside the refusals of the index."""
 from __future__ import annotations
 
-from typing import Optional
+from typing import Optional, Union
 
 from dilforec.refusals import Refused
 
@@ -22,9 +22,9 @@ class TransactionRefused(Exception):
 
 
 class NoSuchDocument(KeyError):
-    """No document has the number. Nothing was done."""
+    """No document has the number, or the key. Nothing was done."""
 
-    def __init__(self, id: int) -> None:
+    def __init__(self, id: "Union[int, str]") -> None:
         super().__init__(id)
         self.id = id
 
@@ -32,8 +32,34 @@ class NoSuchDocument(KeyError):
         return f"there is no document {self.id}"
 
 
+class VersionChanged(Exception):
+    """The document of a number or a key has another version than the one that was asked for. Nothing was done."""
+
+    def __init__(self, id: "Union[int, str]") -> None:
+        super().__init__(id)
+        self.id = id
+
+    def __str__(self) -> str:
+        return f"document {self.id} has another version"
+
+
+class KeyTaken(Exception):
+    """A document was to be replaced by one with the key of another document, whose number is `id`. Nothing was done."""
+
+    def __init__(self, key: "Union[int, str]", id: int) -> None:
+        super().__init__(key, id)
+        self.key = key
+        self.id = id
+
+    def __str__(self) -> str:
+        return f"document {self.id} has the key {self.key!r}"
+
+
 class BadSchema(ValueError):
-    """The schema can't be a store's: it has a field `id`, or no room for one, or isn't the journal's, or isn't one."""
+    """The schema can't be a store's: it has a field `id`, or no room for one, or isn't the journal's, or isn't one.
+
+    Or it has no keyword or number field of the key's name.
+    """
 
 
 class BadJournal(ValueError):
@@ -72,7 +98,7 @@ class OutcomeUnknown(Unavailable):
 
 
 class Stopped(Unavailable):
-    """The store was closed, or takes no writes until it is opened again. Nothing was done."""
+    """The store was closed, by a fork too, or takes no writes until it is opened again. Nothing was done."""
 
 
 class Busy(Unavailable):

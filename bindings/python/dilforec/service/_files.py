@@ -3,34 +3,97 @@ from __future__ import annotations
 
 import fcntl
 import os
+import threading
 from collections.abc import Iterator
+from weakref import WeakSet
 
 from dilforec.service._errors import Locked
 
 _BLOCK = 1 << 20
+_MODE = 0o640
+
+# Descriptors are opened and closed within it, so that a fork knows all of them.
+_FORKING = threading.RLock()
+_OPEN: "WeakSet[LockedFile]" = WeakSet()
 
 
-def open_locked(path: str) -> int:
-    """Opens a file, made if it isn't there, and locks it. Locked is raised if another process has it."""
-    while True:
-        fd = os.open(path, os.O_RDWR | os.O_CREAT | os.O_CLOEXEC, 0o640)
+class LockedFile:
+    """An open file that no other process has locked. A child of a fork has neither the file nor the lock."""
+
+    def __init__(self, path: str) -> None:
+        """Opens a file, made if it isn't there, and locks it. Locked is raised if another process has it."""
+        while True:
+            self._open(path, os.O_RDWR | os.O_CREAT)
+            try:
+                self._lock(path)
+                if _is_at(self.fd, path):
+                    return
+            except BaseException:
+                self.close()
+                raise
+            # A compaction put another file there, after this one was opened.
+            self.close()
+
+    @classmethod
+    def made(cls, path: str, like: int) -> LockedFile:
+        """Makes a file that wasn't there, with the owner, the group and the permissions of an open one, and locks it.
+
+        OSError is raised if this process may not give it to that owner, and the file is gone then.
+        """
+        file = cls.__new__(cls)
+        file._open(path, os.O_RDWR | os.O_CREAT | os.O_EXCL | os.O_NOFOLLOW)
         try:
-            lock(fd, path)
-            if _is_at(fd, path):
-                return fd
+            file._lock(path)
+            wanted, has = os.fstat(like), os.fstat(file.fd)
+            if (wanted.st_uid, wanted.st_gid) != (has.st_uid, has.st_gid):
+                os.fchown(file.fd, wanted.st_uid, wanted.st_gid)
+            os.fchmod(file.fd, wanted.st_mode & 0o777)
         except BaseException:
-            os.close(fd)
+            file.close()
+            os.remove(path)
             raise
-        # A compaction put another file there, after this one was opened.
+        return file
+
+    def _open(self, path: str, flags: int) -> None:
+        with _FORKING:
+            self.fd = os.open(path, flags | os.O_CLOEXEC, _MODE)
+            _OPEN.add(self)
+
+    def _lock(self, path: str) -> None:
+        try:
+            fcntl.flock(self.fd, fcntl.LOCK_EX | fcntl.LOCK_NB)
+        except BlockingIOError:
+            raise Locked(f"{path} is open in another process") from None
+
+    @property
+    def is_open(self) -> bool:
+        """Whether it wasn't closed, nor left to the parent by a fork."""
+        return self.fd >= 0
+
+    def close(self) -> None:
+        """Closes it, and so gives the lock back; again, it does nothing."""
+        with _FORKING:
+            if self.is_open:
+                # A child that was just forked may have the descriptor for a moment, and with it the lock.
+                fcntl.flock(self.fd, fcntl.LOCK_UN)
+                self.leave_to_parent()
+
+    def leave_to_parent(self) -> None:
+        """Closes it, but the lock stays the parent's, as long as that has the file open."""
+        fd, self.fd = self.fd, -1
+        _OPEN.discard(self)
         os.close(fd)
 
 
-def lock(fd: int, path: str) -> None:
-    """Locks an open file. Locked is raised if another process has it."""
-    try:
-        fcntl.flock(fd, fcntl.LOCK_EX | fcntl.LOCK_NB)
-    except BlockingIOError:
-        raise Locked(f"{path} is open in another process") from None
+def _after_fork_in_child() -> None:
+    for file in list(_OPEN):
+        file.leave_to_parent()
+    _FORKING.release()
+
+
+os.register_at_fork(
+    before=_FORKING.acquire, after_in_parent=_FORKING.release, after_in_child=_after_fork_in_child,
+)
 
 
 def _is_at(fd: int, path: str) -> bool:
@@ -57,12 +120,26 @@ def blocks(fd: int, start: int, end: int) -> "Iterator[tuple[int, bytes]]":
             kept += read
 
 
-def lines(fd: int, start: int, end: int) -> "Iterator[tuple[int, bytes]]":
-    """The lines between two places, each with its place, without its LF."""
-    for at, block in blocks(fd, start, end):
-        for line in block.split(b"\n")[:-1]:
-            yield at, line
-            at += len(line) + 1
+def lines(fd: int, start: int, end: int) -> "Iterator[bytes]":
+    """The lines between two places, each without its LF."""
+    for _, block in blocks(fd, start, end):
+        yield from block.split(b"\n")[:-1]
+
+
+def lines_backwards(fd: int, start: int, end: int) -> "Iterator[bytes]":
+    """The lines between two places from the last to the first, each without its LF."""
+    at, begun = end, b""
+    while at > start:
+        low = max(start, at - _BLOCK)
+        read = os.pread(fd, at - low, low)
+        if len(read) < at - low:
+            raise OSError(f"the file ends at byte {low + len(read)}, before {at}")
+        at, text = low, read + begun
+        if at > start:
+            # The first line may have begun in the block before.
+            first, lf, text = text.partition(b"\n")
+            begun = first + lf
+        yield from reversed(text.split(b"\n")[:-1])
 
 
 def after_last(fd: int, wanted: bytes, start: int, end: int) -> int:

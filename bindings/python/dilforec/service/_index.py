@@ -2,63 +2,88 @@
 from __future__ import annotations
 
 import json
-from typing import NamedTuple, Optional
+from collections.abc import Iterator
+from typing import NamedTuple
 
 from dilforec import sentences
 from dilforec.index import Index
-from dilforec.library import LINE_TOO_LONG, OK, fault
+from dilforec.library import LINE_TOO_LONG, MEMORY, OK, fault
 from dilforec.refusals import Refused, refused
 
-
 _BLOCK = 1 << 20
+_ERROR = b'{"error":'
 
 
 class Refusal(NamedTuple):
-    """The first line of a block that was refused: its place, from 0, and why."""
+    """A line that was refused: its place among those that were executed, from 0, the refusal's name, and the line."""
 
     place: int
-    why: Refused
+    name: str
+    line: bytes
+
+    def why(self, index: Index) -> Refused:
+        """The exception, with a sentence that tells the field."""
+        try:
+            ((_, given),) = json.loads(self.line).items()
+            sentence = sentences.of_document(self.name, index.schema, given) if isinstance(given, dict) else ""
+        except (ValueError, AttributeError):
+            sentence = ""
+        return refused(self.name, None, sentence)
 
 
-def execute_lines(index: Index, lines: bytes) -> Optional[Refusal]:
-    """Executes lines, each of which ends with its LF and isn't blank, and returns the first refusal.
+class Executed(NamedTuple):
+    """What came of lines: how many were gone through, which of them were refused, and whether memory ran out then."""
 
-    Some lines after a refused one may be executed too. MemoryError and others are raised as by `Index.execute`, after
-    the lines before.
+    lines: int
+    refusals: "list[Refusal]"
+    out_of_memory: bool = False
+
+
+def execute_lines(index: Index, lines: bytes) -> Executed:
+    """Executes lines, each of which ends with its LF and isn't blank. A refused one does nothing, and the others go on.
+
+    If memory runs out, some lines after those that it tells of may be done, too.
     """
-    start, before = 0, 0
+    refusals: "list[Refusal]" = []
+    before = 0
+    for block in _blocks(lines):
+        rest = block.split(b"\n")[:-1]
+        while rest:
+            code, done = _execute(index, rest, before, refusals)
+            if code == MEMORY:
+                return Executed(before + done, refusals, True)
+            if code == LINE_TOO_LONG:
+                refusals.append(Refusal(before + done, "LineTooLong", rest[done]))
+                done += 1
+            elif code != OK:
+                raise fault(code)
+            before, rest = before + done, rest[done:]
+    return Executed(before, refusals)
+
+
+def _blocks(lines: bytes) -> "Iterator[bytes]":
+    """Lines in blocks of a megabyte, or of one line that is longer. Each block has room made for its replies."""
+    start = 0
     while start < len(lines):
-        # Room for the replies is made for a block at a time.
         end = len(lines) if len(lines) - start <= _BLOCK else lines.rfind(b"\n", start, start + _BLOCK) + 1
         if end <= start:
             end = lines.index(b"\n", start) + 1
-        block = lines[start:end]
-        refusal = _execute_block(index, block)
-        if refusal:
-            return refusal._replace(place=before + refusal.place)
-        start, before = end, before + block.count(b"\n")
-    return None
+        yield lines[start:end]
+        start = end
 
 
-def _execute_block(index: Index, block: bytes) -> Optional[Refusal]:
+def _execute(index: Index, lines: "list[bytes]", before: int, refusals: "list[Refusal]") -> "tuple[int, int]":
+    """The library's code for lines, and how many were done or refused before it."""
     replies = bytearray()
-    code, done = index._channel.ask_block(block.split(b"\n")[:-1], replies.extend)
-    at = replies.find(b'{"error":')
-    if at >= 0:
-        name = json.loads(replies[at : replies.index(b"\n", at)])["error"]
-        return _refusal(index, block, replies.count(b"\n", 0, at), name)
-    if code == LINE_TOO_LONG:
-        return _refusal(index, block, done, "LineTooLong")
-    if code != OK:
-        raise fault(code)
-    return None
-
-
-def _refusal(index: Index, block: bytes, place: int, name: str) -> Refusal:
-    line = block.split(b"\n")[place]
     try:
-        ((_, given),) = json.loads(line).items()
-        sentence = sentences.of_document(name, index.schema, given) if isinstance(given, dict) else ""
-    except (ValueError, AttributeError):
-        sentence = ""
-    return Refusal(place, refused(name, None, sentence))
+        code, done = index._channel.ask_block(lines, replies.extend)
+    except MemoryError:
+        return MEMORY, 0
+    if replies.count(b"\n") < done:
+        # There was no memory to take the replies.
+        return MEMORY, 0
+    if _ERROR in replies:
+        for place, reply in enumerate(replies.split(b"\n")):
+            if reply.startswith(_ERROR):
+                refusals.append(Refusal(before + place, json.loads(reply)["error"], lines[place]))
+    return code, done

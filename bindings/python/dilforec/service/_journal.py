@@ -7,7 +7,10 @@ from typing import Optional
 from dilforec.service import _files as files
 from dilforec.service._disk import Disk
 from dilforec.service._errors import BadJournal, NotWritten, OutcomeUnknown
+from dilforec.service._files import LockedFile
 from dilforec.service._lines import COMMIT
+
+_LONGEST_SCHEMA = 1 << 16
 
 
 class Journal:
@@ -20,10 +23,8 @@ class Journal:
         """Opens a journal, or makes an empty file. Locked, OSError or BadJournal is raised, and nothing is written."""
         self.path = os.path.realpath(path)
         self.disk = disk
-        self.fd = files.open_locked(self.path)
+        self._file = LockedFile(self.path)
         try:
-            # What is beside it is what a compaction left that didn't come to its end.
-            _remove(self.beside)
             self.size = os.fstat(self.fd).st_size
             self.schema = self._first_line()
             self.end = files.after_last(self.fd, COMMIT, len(self.schema), self.size) if self.schema else 0
@@ -33,18 +34,19 @@ class Journal:
             raise
 
     @property
+    def fd(self) -> int:
+        """The descriptor of the file; -1 once it is closed."""
+        return self._file.fd
+
+    @property
     def beside(self) -> str:
         """The file that a compaction writes."""
         return self.path + ".compacting"
 
     def _first_line(self) -> bytes:
-        """The schema's line; nothing if there is none yet, or a beginning of one that no LF ends."""
-        head = os.pread(self.fd, 1 << 16, 0)
-        if b"\n" in head:
-            return head[: head.index(b"\n") + 1]
-        if head and not b'{"schema":['.startswith(head[:11]):
-            raise BadJournal(f"{self.path} isn't a journal: it doesn't begin with a schema")
-        return b""
+        """The schema's line; nothing if no LF ends it."""
+        head = os.pread(self.fd, _LONGEST_SCHEMA, 0)
+        return head[: head.find(b"\n") + 1]
 
     def before_last(self) -> int:
         """Where the last transaction begins."""
@@ -55,13 +57,18 @@ class Journal:
         return any(b"\0" in block for _, block in files.blocks(self.fd, start, self.end))
 
     def begin(self, schema: bytes) -> None:
-        """Writes the first line of a new journal."""
+        """Writes the first line of a new journal: the file is empty, or has a beginning of that line and nothing else.
+
+        BadJournal is raised for any other file, which somebody may need.
+        """
+        if not schema.startswith(os.pread(self.fd, len(schema), 0)) or self.size >= len(schema):
+            raise BadJournal(f"{self.path} isn't a journal: it doesn't begin with a line that is a schema")
         self.disk.cut(self.fd, 0)
         self.disk.write(self.fd, schema, 0)
         self.disk.sync(self.fd)
         self.disk.sync_folder(os.path.dirname(self.path))
         self.schema, self.end = schema, len(schema)
-        self.keep()
+        self._begin()
 
     def cut_tail(self) -> int:
         """Cuts off what follows the last whole transaction, and returns how many bytes that were."""
@@ -71,8 +78,13 @@ class Journal:
         # What was read may not have been synced by the process that wrote it, nor the file's name.
         self.disk.sync(self.fd)
         self.disk.sync_folder(os.path.dirname(self.path))
-        self.keep()
+        self._begin()
         return torn
+
+    def _begin(self) -> None:
+        # What is beside a journal is what a compaction left that didn't come to its end.
+        _remove(self.beside)
+        self.keep()
 
     def append(self, transaction: bytes) -> None:
         """Writes a transaction and syncs. NotWritten and OutcomeUnknown are raised if that fails; see `cut_back`."""
@@ -99,19 +111,20 @@ class Journal:
         self.end = end
         raise NotWritten(f"nothing was done: {_words(cause)}") from cause
 
-    def beside_begin(self) -> int:
-        """Opens a new, locked file for a compaction, with the permissions of the journal."""
-        _remove(self.beside)
-        fd = files.open_locked(self.beside)
-        os.fchmod(fd, os.fstat(self.fd).st_mode & 0o777)
-        return fd
+    def begin_beside(self) -> LockedFile:
+        """Makes a new, locked file for a compaction, whose owner, group and permissions are the journal's.
 
-    def take_place(self, fd: int, end: int) -> None:
-        """Puts the compacted file in the journal's place. It is open, locked, synced and whole, and has this end."""
+        OSError is raised if it can't be made, or can't be given to the journal's owner.
+        """
+        _remove(self.beside)
+        return LockedFile.made(self.beside, self.fd)
+
+    def take_place(self, file: LockedFile, schema: bytes, end: int) -> None:
+        """Puts the compacted file in the journal's place. It is locked, synced and whole, and has this end."""
         self.disk.rename(self.beside, self.path)
-        old, self.fd, self.end = self.fd, fd, end
+        old, self._file, self.schema, self.end = self._file, file, schema, end
         self.keep()
-        os.close(old)
+        old.close()
         try:
             self.disk.sync_folder(os.path.dirname(self.path))
         except OSError as error:
@@ -120,14 +133,15 @@ class Journal:
                 f"since its folder couldn't be synced: {_words(error)}"
             ) from error
 
-    def abandon(self, fd: int) -> None:
-        """Takes a compaction's file away."""
-        os.close(fd)
-        _remove(self.beside)
+    def abandon(self, file: LockedFile) -> None:
+        """Takes a compaction's file away, unless it is the journal, or a fork left it to the parent."""
+        if file is not self._file and file.is_open:
+            file.close()
+            _remove(self.beside)
 
     def close(self) -> None:
         """Closes the file, and so gives the lock back."""
-        os.close(self.fd)
+        self._file.close()
 
 
 def _remove(path: str) -> None:
@@ -144,5 +158,5 @@ def _words(error: BaseException) -> str:
 def journal_schema(path: str) -> Optional[bytes]:
     """The first line of a journal that may be open elsewhere, if there is one."""
     with open(path, "rb") as file:
-        head = file.readline(1 << 16)
+        head = file.readline(_LONGEST_SCHEMA)
     return head if head.endswith(b"\n") else None

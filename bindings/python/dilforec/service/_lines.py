@@ -6,6 +6,7 @@ two numbers in its query are the highest that was ever given to a document, and 
 """
 from __future__ import annotations
 
+import json
 import re
 from collections.abc import Mapping
 from typing import Any, NamedTuple, Optional, Union
@@ -23,17 +24,28 @@ OTHERS = b'{"delete":{', b'{"delete_all":true}', COMMIT[:-1]
 # A document within the limits of the index is within those of its line, since no letter is written as six.
 _encode = encoder(allow_nan=False)
 
+# What a document is known by in a store that has a key: the value of a keyword or number field.
+Key = Union[str, int]
+
 
 class Operation(NamedTuple):
     """An add, whose text is the document's, or a delete, whose text is the line's.
 
-    `id` is the number that the document of an add has already, or the one that a delete names. An add without one is
-    given one.
+    `id` is the number of the document that an add replaces or a delete names, `key` the key of the document that is
+    added or deleted. If it `needs` that document, it has to be there, and have the version, unless this is None.
     """
 
     text: bytes
     is_add: bool
     id: Optional[int] = None
+    key: Optional[Key] = None
+    needs: bool = False
+    version: Optional[str] = None
+
+    @property
+    def named(self) -> Key:
+        """The number or the key that it names, for a sentence."""
+        return self.id if self.id is not None else self.key if self.key is not None else ""
 
 
 def encode(value: object) -> bytes:
@@ -54,45 +66,40 @@ def mark(last_id: int, commit: int) -> bytes:
     return b'{"search":{"query":"id:%d id:%d"}}\n' % (last_id, commit)
 
 
-def add(document: Mapping[str, Any], id: Optional[int] = None) -> Operation:
-    """An add of a document without a number, or, in the place of another, of one with its number."""
+def document_text(document: Mapping[str, Any], id: Optional[int] = None) -> bytes:
+    """The JSON of a document without its number. ValueError is raised if it has one that isn't `id`."""
     if not isinstance(document, Mapping):
         raise refused("NotAnObject")
     if "id" in document:
         if document["id"] is not id and (document["id"] != id or isinstance(document["id"], bool)):
             raise ValueError("`id` is given by the store, and can't be chosen")
         document = {name: value for name, value in document.items() if name != "id"}
-    return Operation(encode(document if isinstance(document, dict) else dict(document)), True, id)
+    return encode(document if isinstance(document, dict) else dict(document))
 
 
-def delete(field: str, value: Union[str, int]) -> Operation:
-    """A delete by a field's value."""
-    of_id = value if field == "id" and isinstance(value, int) and not isinstance(value, bool) else None
-    return Operation(encode({"delete": {field: value}}), False, of_id)
+def delete_line(field: str, value: Union[str, int]) -> bytes:
+    """The line of a delete by a field's value, without its LF."""
+    return encode({"delete": {field: value}})
 
 
-def delete_all() -> Operation:
-    """A delete of all documents."""
-    return Operation(b'{"delete_all":true}', False)
+def add_line(text: bytes, id: int) -> bytes:
+    """The line that adds a document, with its LF."""
+    rest = text[1:]
+    return b'{"add":{"id":%d%s%s}\n' % (id, b"" if rest == b"}" else b",", rest)
 
 
-def command(value: object) -> Operation:
-    """The operation of a script's line: an add, a delete or a delete of all. ValueError is raised for any other."""
-    if isinstance(value, dict) and len(value) == 1:
-        ((name, given),) = value.items()
-        if name == "add":
-            return add(given)
-        if name == "delete" and isinstance(given, dict) and len(given) == 1:
-            return delete(*next(iter(given.items())))
-        if name == "delete_all" and given is True:
-            return delete_all()
-    raise ValueError("a transaction takes add, delete and delete_all alone, one in a line")
+def _number(text: str) -> Union[int, float]:
+    # Python's -0 is 0, and the index refuses it as it does -0.0.
+    return -0.0 if text == "-0" else int(text)
 
 
-def written(operation: Operation, next_id: int) -> "tuple[bytes, Optional[int]]":
-    """The line of an operation, with its LF, and the number of the document that it adds."""
-    if not operation.is_add:
-        return operation.text + b"\n", None
-    id = next_id if operation.id is None else operation.id
-    rest = operation.text[1:]
-    return b'{"add":{"id":%d%s%s}\n' % (id, b"" if rest == b"}" else b",", rest), id
+def _refuse_constant(name: str) -> None:
+    raise ValueError(f"{name} isn't JSON")
+
+
+_decode = json.JSONDecoder(parse_int=_number, parse_constant=_refuse_constant).decode
+
+
+def read_json(text: str) -> Any:
+    """What a text of JSON says, as a script reads it: `-0` isn't the whole number 0. ValueError if it isn't JSON."""
+    return _decode(text)

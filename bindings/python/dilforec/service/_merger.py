@@ -5,8 +5,10 @@ import logging
 import queue
 import threading
 from collections.abc import Callable
+from typing import Optional
 
 from dilforec.index import Index, Merge
+from dilforec.service._errors import Stopped
 
 log = logging.getLogger("dilforec.service")
 
@@ -17,13 +19,14 @@ MOST_IN_A_COMMIT = 1_000
 class Merger:
     """What is due above the limit of a commit is begun, run by a thread, and ended, one merge at a time.
 
-    `alone` does a call while nothing is written; `show` is called so, once there are other segments.
+    `alone` does a call while nothing is written; `show` is called so, once there are other segments. What a merge can't
+    do is logged, and left to a later one.
     """
 
     def __init__(self, index: Index, alone: "Callable[[Callable[[], None]], None]", show: "Callable[[], None]") -> None:
         index.limit_merges(MOST_IN_A_COMMIT)
         self._index, self._alone, self._show = index, alone, show
-        self._begun: "queue.SimpleQueue[Merge]" = queue.SimpleQueue()
+        self._begun: "queue.SimpleQueue[Optional[Merge]]" = queue.SimpleQueue()
         self._has_thread = self._is_under_way = self._closed = False
 
     def begin(self) -> None:
@@ -45,10 +48,18 @@ class Merger:
             self._has_thread = True
 
     def _work(self) -> None:
-        while not self._closed:
-            with self._begun.get() as merge:
+        while True:
+            merge = self._begun.get()
+            if merge is None:
+                return
+            with merge:
                 was_run = self._run(merge)
-            self._alone(self._end if was_run else self._give_up)
+            try:
+                self._alone(self._end if was_run else self._give_up)
+            except Stopped:
+                return
+            except Exception:
+                log.exception("a merge couldn't be ended, and waits for a later commit")
 
     def _run(self, merge: Merge) -> bool:
         try:
@@ -57,7 +68,7 @@ class Merger:
         except MemoryError:
             log.warning("a merge waits for a later commit, since there was no memory for it")
         except Exception:
-            log.exception("a merge failed")
+            log.exception("a merge failed, and waits for a later commit")
         return False
 
     def _end(self) -> None:
@@ -76,5 +87,9 @@ class Merger:
         self._is_under_way = False
 
     def close(self) -> None:
-        """Begins and ends no more merges; one that runs goes on without its index. Nothing may be written meanwhile."""
+        """Begins and ends no more merges; one that runs goes on without its index, and then the thread ends.
+
+        Nothing may be written meanwhile.
+        """
         self._closed = True
+        self._begun.put(None)

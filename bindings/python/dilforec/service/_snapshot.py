@@ -2,12 +2,17 @@
 from __future__ import annotations
 
 import json
-from collections.abc import Iterator, Sequence
+from collections.abc import Iterator, Mapping, Sequence
 from dataclasses import dataclass
 from typing import Any, NamedTuple, Optional
 
+from dilforec import values
 from dilforec.index import Searcher, to_line
-from dilforec.values import Groups, Stats, Top
+from dilforec.service._groups import most_frequent
+from dilforec.service._lines import Key
+from dilforec.service._lookups import key_query
+from dilforec.service._top import After, TopList
+from dilforec.values import Field, Groups, Stats, Top
 
 
 class Hit(NamedTuple):
@@ -43,9 +48,10 @@ class Snapshot:
             print(snapshot.commit, snapshot.search("pearls").count)
     """
 
-    def __init__(self, searcher: Searcher, commit: int) -> None:
+    def __init__(self, searcher: Searcher, commit: int, key: Optional[Field] = None) -> None:
         self._searcher = searcher
         self.commit = commit
+        self._key = key
 
     def __enter__(self) -> Snapshot:
         return self
@@ -67,35 +73,50 @@ class Snapshot:
 
     def search(
         self, query: str, *, groups: Sequence[str] = (), top: Optional[Top] = None,
-        fields: Optional[Sequence[str]] = None,
+        fields: Optional[Sequence[str]] = None, after: Optional[After] = None,
     ) -> Answer:
         """How many documents a query finds, how many with each value of some fields, and the first of them.
 
-        Without `top` the hits are the ten newest, by their numbers; `fields` names those of a hit's document. A query,
-        a field or a number of hits that the index refuses raises its refusal, as dilforec.Syntax.
+        Without `top` the hits are the ten newest, by their numbers; of equal values the smaller number comes first.
+        With `after`, the value and the number of a hit, they are those after it. `fields` names those of a hit's
+        document. A query, a field or a number of hits that the index refuses raises its refusal, as dilforec.Syntax.
         """
-        names = _names(groups, fields)
-        found = self._searcher.search(query, groups=list(groups), top=top or NEWEST, fields=names)
-        return Answer(
-            found.count, dict(found.groups),
-            tuple(_hit(hit.value, hit.document, fields) for hit in found.hits), self.commit,
-        )
+        wanted = self._top_list(query, groups, top, fields, after)
+        asked = wanted.asked if after is None else None
+        found = self._searcher.search(query, groups=list(groups), top=asked, fields=wanted.fields)
+        hits = wanted.first(found.hits) if after is None else wanted.rest(after)
+        return Answer(found.count, dict(found.groups), tuple(_hit(hit, fields) for hit in hits), self.commit)
 
     def search_json(
         self, query: str, *, groups: Sequence[str] = (), top: Optional[Top] = None,
-        fields: Optional[Sequence[str]] = None,
+        fields: Optional[Sequence[str]] = None, after: Optional[After] = None,
+        most: "Optional[Mapping[str, int]]" = None,
     ) -> bytes:
         """What `search` finds, as JSON: the text that the service sends, in which each hit is an object.
 
-        Groups are a list of values with their counts. There may be thousands, and they go as the index wrote them.
+        Groups are a list of values with their counts. There may be thousands, and they go as the index wrote them; of a
+        field that `most` names, the most frequent ones alone, as many as it says.
         """
-        names, groups = _names(groups, fields), list(dict.fromkeys(groups))
-        replies = [_taken_apart(it) for it in self._searcher._replies(query, groups, top or NEWEST, names)]
-        counted = b",".join(to_line(name) + b":" + reply.groups for name, reply in zip(groups, replies))
-        hits = [_hit(hit["value"], hit["doc"], fields)._asdict() for hit in json.loads(replies[0].hits.decode())]
+        wanted, groups = self._top_list(query, groups, top, fields, after), list(dict.fromkeys(groups))
+        asked = wanted.asked if after is None else None
+        replies = [_taken_apart(it) for it in self._searcher._replies(query, groups, asked, wanted.fields)]
+        told = [
+            most_frequent(reply.groups, most[name]) if most and name in most else reply.groups
+            for name, reply in zip(groups, replies)
+        ]
+        counted = b",".join(to_line(name) + b":" + each for name, each in zip(groups, told))
+        hits = wanted.first(replies[0].found_hits()) if after is None else wanted.rest(after)
         return b'{"count":%b,"groups":{%b},"hits":%b,"commit":%d}\n' % (
-            replies[0].found, counted, to_line(hits), self.commit,
+            replies[0].found, counted, to_line([_hit(hit, fields)._asdict() for hit in hits]), self.commit,
         )
+
+    def _top_list(
+        self, query: str, groups: Sequence[str], top: Optional[Top], fields: Optional[Sequence[str]],
+        after: Optional[After],
+    ) -> TopList:
+        if after is not None and not (len(after) == 2 and all(type(each) is int for each in after) and after[1] >= 0):
+            raise ValueError("`after` is the value and the number of a hit")
+        return TopList(self._searcher, query, top or NEWEST, _names(groups, fields))
 
     def stats(self) -> Stats:
         """How many segments there are, how many documents are in them, and how many of these are live."""
@@ -104,6 +125,13 @@ class Snapshot:
     def get(self, id: int) -> "Optional[dict[str, Any]]":
         """The document of a number, its `id` in it; None if there is none."""
         hits = self._searcher.search(f"id:{id:d}", top=Top("id", 1)).hits
+        return hits[0].document if hits else None
+
+    def get_by_key(self, key: Key) -> "Optional[dict[str, Any]]":
+        """The document of a key, its `id` in it; None if there is none. ValueError if the store has no key."""
+        if self._key is None:
+            raise ValueError("the store has no key")
+        hits = self._searcher.search(key_query(self._key, key), top=Top("id", 1)).hits
         return hits[0].document if hits else None
 
     def documents(self, after: int = 0, limit: int = 100) -> "list[dict[str, Any]]":
@@ -129,6 +157,10 @@ class _Reply(NamedTuple):
     groups: bytes
     hits: bytes
 
+    def found_hits(self) -> "list[values.Hit]":
+        """The hits."""
+        return [values.Hit(hit["value"], hit["stamp"], hit["doc"]) for hit in json.loads(self.hits.decode())]
+
 
 def _taken_apart(reply: bytes) -> _Reply:
     # Neither name can stand in what comes before it: a quote in a text is escaped, and after the one that ends it comes
@@ -145,8 +177,9 @@ def _names(groups: Sequence[str], fields: Optional[Sequence[str]]) -> "Optional[
     return None if fields is None else list(dict.fromkeys([*fields, "id"]))
 
 
-def _hit(value: int, document: "dict[str, Any]", fields: Optional[Sequence[str]]) -> Hit:
+def _hit(hit: values.Hit, fields: Optional[Sequence[str]]) -> Hit:
+    document = hit.document
     id = document["id"]
     if fields is not None and "id" not in fields:
         document = {name: document[name] for name in document if name != "id"}
-    return Hit(id, value, document)
+    return Hit(id, hit.value, document)

@@ -1,94 +1,33 @@
 """A store: an index, and the journal that keeps it."""
 from __future__ import annotations
 
-import json
 import logging
 import os
-import threading
-from collections.abc import Callable, Iterable, Iterator, Mapping, Sequence
+from collections.abc import Callable, Collection, Iterable, Iterator, Mapping, Sequence
 from contextlib import contextmanager
-from typing import Any, NamedTuple, Optional, Union
+from typing import Any, Optional, Union
+from weakref import WeakSet
 
-from dilforec.index import Index
-from dilforec.refusals import Refused
-from dilforec.service import _lines as lines
-from dilforec.service._compact import Compaction, Sizes
+from dilforec.service._compact import Sizes
+from dilforec.service._compactor import Compacting, Compactor
 from dilforec.service._disk import Disk
-from dilforec.service._errors import (
-    BadSchema, Busy, NotWritten, OutcomeUnknown, Stopped, TransactionRefused,
-)
+from dilforec.service._errors import BadSchema, NotWritten, Stopped, TransactionRefused
+from dilforec.service._fields import store_fields
 from dilforec.service._journal import Journal
+from dilforec.service._lines import Key
 from dilforec.service._merger import Merger
+from dilforec.service._publication import Publication
 from dilforec.service._replay import Progress, replay
 from dilforec.service._snapshot import Answer, Snapshot
-from dilforec.service._turns import Turns
-from dilforec.service._writer import Pending, Writer
+from dilforec.service._top import After
+from dilforec.service._transaction import Done, Transaction
+from dilforec.service._worker import Worker
+from dilforec.service._writer import Writer
 from dilforec.values import Field, Top
 
 log = logging.getLogger("dilforec.service")
 
 PathLike = Union[str, "os.PathLike[str]"]
-
-
-class Done(NamedTuple):
-    """What came of a transaction: the numbers of the documents that it added, in its order, and its commit's."""
-
-    ids: "tuple[int, ...]"
-    commit: int
-
-
-class Transaction:
-    """Operations that are done together, in their order, or not at all. Store.transaction opens one."""
-
-    def __init__(self) -> None:
-        self._operations: "list[lines.Operation]" = []
-        self._done: Optional[Done] = None
-
-    def add(self, document: "Mapping[str, Any]") -> None:
-        """Adds a document, to which the store gives a number, so it has none: else ValueError is raised."""
-        self._operations.append(lines.add(document))
-
-    def delete(self, field: str, value: "Union[str, int]") -> None:
-        """Deletes the documents that have a value: a whole keyword, a number, `id` too, or a word of a text."""
-        self._operations.append(lines.delete(field, value))
-
-    def delete_all(self) -> None:
-        """Deletes all documents."""
-        self._operations.append(lines.delete_all())
-
-    def command(self, command: object) -> None:
-        """Does what a script's line says, read from its JSON: {"add": ..}, {"delete": ..} or {"delete_all": true}."""
-        self._operations.append(lines.command(command))
-
-    def __len__(self) -> int:
-        """How many operations there are so far."""
-        return len(self._operations)
-
-    @property
-    def done(self) -> Done:
-        """What came of it, once it is committed."""
-        if self._done is None:
-            raise ValueError("the transaction isn't committed")
-        return self._done
-
-    @property
-    def ids(self) -> "tuple[int, ...]":
-        """The numbers of the documents that it added, in its order, once it is committed."""
-        return self.done.ids
-
-    @property
-    def commit(self) -> int:
-        """The number of its commit, once it is committed."""
-        return self.done.commit
-
-
-class _Alone:
-    """What has to be done while nothing is written."""
-
-    def __init__(self, call: "Callable[[], None]") -> None:
-        self.call = call
-        self.error: Optional[Exception] = None
-
 
 class Store:
     """Documents that many threads search and change, and that come back after a crash. docs/SERVICE.md has the whole.
@@ -101,44 +40,47 @@ class Store:
     Each document has a number, which the store gives and which is never given again. What a call answered is on disk.
     Calls that change something raise NotWritten if the disk or memory refused, and then nothing was done;
     OutcomeUnknown if even that can't be said, and then Stopped until the store is opened again. Searches go on.
+
+    A thread of the store does all that changes it, and a call waits for that. If the wait is interrupted, as by Ctrl-C,
+    the change is done whole or not at all. In a child of a fork the store is closed; a snapshot that was taken before
+    may be searched there.
     """
 
     def __init__(
-        self, schema: Iterable[Field], journal: PathLike, *, progress: Optional[Progress] = None,
-        disk: Optional[Disk] = None,
+        self, schema: Iterable[Field], journal: PathLike, *, key: Optional[str] = None,
+        progress: Optional[Progress] = None, disk: Optional[Disk] = None,
     ) -> None:
         """Opens a store, from its journal if there is one, else with a new journal.
 
-        The schema is without `id`, which the store adds. `progress` is called now and then, with how many bytes of how
-        many were replayed. BadSchema, Locked, BadJournal, MemoryError or OSError is raised, and the journal is as it
-        was then.
+        The schema is without `id`, which the store adds. With a `key`, the name of a keyword or number field, each
+        document has a value there, and one that is added replaces the one of its key. `progress` is called now and
+        then, with how many bytes of how many were replayed, and how many documents there are so far. BadSchema, Locked,
+        BadJournal, MemoryError or OSError is raised, and the journal is as it was then.
         """
-        self.fields = list(schema)
-        self._all_fields = _with_id(self.fields)
-        _opened(self._all_fields).close()
+        self._fields = store_fields(list(schema), key)
+        self._fields.new_index().close()
         self._journal = Journal(os.fspath(journal), disk or Disk())
         try:
-            self._start(progress or (lambda done, of: None))
+            self._start(progress or (lambda done, of, documents: None))
         except BaseException:
             self._journal.close()
             raise
 
     def _start(self, progress: Progress) -> None:
-        journal, schema = self._journal, lines.schema_line(self._all_fields)
-        if journal.schema and not _is_schema(journal.schema, self._all_fields):
+        journal, fields = self._journal, self._fields
+        if journal.schema and not fields.is_line(journal.schema):
             begins = journal.schema.decode(errors="replace").strip()
             raise BadSchema(f"the schema isn't that of {journal.path}, which begins {begins}")
-        index, numbers = replay(journal, lambda: _opened(self._all_fields), progress)
+        index, numbers = replay(journal, fields.new_index, progress)
         self.torn = journal.cut_tail() if journal.schema else journal.size
         if not journal.schema:
-            journal.begin(schema)
-        self._writer = Writer(index, journal, numbers)
-        self._published = threading.Lock()
-        self._searcher, self._commit = index.searcher(), numbers.commit
-        self._turns: "Turns[Union[Pending, _Alone]]" = Turns(self._lead)
-        self._merger = Merger(index, self._alone, self._show_merged)
-        self._compacting = threading.Lock()
-        self._closing = self._closed = False
+            journal.begin(fields.line)
+        self._writer = Writer(index, journal, numbers, fields.key)
+        self._published = Publication(index.searcher(), numbers.commit)
+        self._worker: "Worker[Transaction]" = Worker("dilforec-store", self._work)
+        self._compactor = Compactor(self._writer, self._worker.call, self._last)
+        self._merger = Merger(index, self._worker.call, self._show_merged)
+        _OPEN.add(self)
 
     def __enter__(self) -> Store:
         return self
@@ -151,23 +93,31 @@ class Store:
 
         Later calls raise Stopped, except `close`.
         """
-        self._closing = True
-        with self._compacting:
-            self._alone(self._close)
-
-    def _check_open(self) -> None:
-        if self._closing:
-            raise Stopped("the store is closed")
+        self._compactor.end()
+        try:
+            self._worker.call(self._close)
+        except Stopped:
+            # Another call closes it.
+            self._worker.wait_for_end()
 
     def _close(self) -> None:
-        if not self._closed:
-            self._closed = True
-            self._merger.close()
-            self._writer.stopped = "the store is closed"
-            with self._published:
-                self._searcher.close()
-            self._writer.index.close()
-            self._journal.close()
+        why = "the store is closed"
+        self._worker.end(why)
+        self._compactor.wait()
+        self._merger.close()
+        self._writer.stopped = why
+        self._published.close(why)
+        self._writer.index.close()
+        self._journal.close()
+        _OPEN.discard(self)
+
+    def _leave_to_parent(self) -> None:
+        """Closes the store in a child of a fork: the threads, the file and its lock are the parent's."""
+        why = "the store is closed in a child of a fork, and open in its parent"
+        self._writer.stopped = why
+        self._compactor.end()
+        self._published.leave(why)
+        self._worker.forget(why)
 
     # What changes something
 
@@ -182,118 +132,134 @@ class Store:
 
         An operation that the index refuses raises TransactionRefused at the end.
         """
-        transaction = Transaction()
+        transaction = self.new_transaction()
         yield transaction
-        transaction._done = self._do(tuple(transaction._operations))
+        self.do(transaction)
+        if transaction.error:
+            raise transaction.error
+
+    def new_transaction(self) -> Transaction:
+        """A transaction for `do` or `submit`."""
+        return Transaction(self._fields.key)
 
     def add(self, document: "Mapping[str, Any]") -> int:
-        """Adds a document, and returns its number. A refusal is an exception of its name, as dilforec.WrongKind."""
-        return self._do_one((lines.add(document),)).ids[0]
+        """Adds a document, and returns its number. A refusal is an exception of its name, as dilforec.WrongKind.
 
-    def replace(self, id: int, document: "Mapping[str, Any]") -> Done:
-        """Puts a document in the place of another, with its number. NoSuchDocument is raised if there is none."""
-        return self._do_one((lines.delete("id", id), lines.add(document, id)), id)
+        In a store with a key it replaces the document of its key, and has that one's number. ValueError is raised if it
+        has no key, or an `id`.
+        """
+        transaction = self.new_transaction()
+        transaction.add(document)
+        return self._done(transaction).ids[0]
 
-    def delete(self, id: int) -> Done:
-        """Deletes a document. NoSuchDocument is raised if there is none."""
-        return self._do_one((lines.delete("id", id),), id)
+    def replace(self, id: int, document: "Mapping[str, Any]", *, version: Optional[str] = None) -> Done:
+        """Puts a document in the place of another, with its number. NoSuchDocument is raised if there is none.
 
-    def _do_one(self, operations: "tuple[lines.Operation, ...]", needs: Optional[int] = None) -> Done:
+        With a version, which `version_of` tells of a document, VersionChanged is raised if it has another by now.
+        KeyTaken is raised if another document has its key.
+        """
+        transaction = self.new_transaction()
+        transaction.replace(id, document, version=version)
+        return self._done(transaction)
+
+    def delete(self, id: int, *, version: Optional[str] = None) -> Done:
+        """Deletes a document. NoSuchDocument is raised if there is none, VersionChanged as by `replace`."""
+        transaction = self.new_transaction()
+        transaction.delete_document(id, version=version)
+        return self._done(transaction)
+
+    def put_by_key(self, key: Key, document: "Mapping[str, Any]", *, version: Optional[str] = None) -> Done:
+        """Adds the document of a key, or puts it in the place of the one that is there, with its number.
+
+        With a version, as for `replace`, or "*", NoSuchDocument is raised if none is there. ValueError is raised if the
+        document has another key, or the store none.
+        """
+        transaction = self.new_transaction()
+        transaction.put_by_key(key, document, version=version)
+        return self._done(transaction)
+
+    def delete_by_key(self, key: Key, *, version: Optional[str] = None) -> Done:
+        """Deletes the document of a key. NoSuchDocument is raised if there is none, VersionChanged as by `replace`."""
+        transaction = self.new_transaction()
+        transaction.delete_by_key(key, version=version)
+        return self._done(transaction)
+
+    def key_of(self, text: str) -> Key:
+        """The key that a text means, as a part of an address. ValueError is raised if it is none, or there are none."""
+        return self._fields.key_of(text)
+
+    def _done(self, transaction: Transaction) -> Done:
+        """What came of a transaction of one operation."""
+        self.do(transaction)
+        if isinstance(transaction.error, TransactionRefused):
+            raise transaction.error.refusal
+        return transaction.done
+
+    def do(self, *transactions: Transaction) -> None:
+        """Does transactions, each whole or not at all, in their order. Each has an `error` then, or is `done`.
+
+        ValueError is raised, and nothing done, if one of them has no operation or was handed in before.
+        """
+        _check_new(transactions)
+        self._worker.do(*transactions)
+
+    def submit(self, *transactions: Transaction, then: "Optional[Callable[[], None]]" = None) -> None:
+        """Hands in transactions, as `do` does, and doesn't wait.
+
+        `then` is called when all of them are done, in the thread of the store; in this one, if the store is closed. It
+        should take no time, and make no call of the store.
+        """
+        _check_new(transactions)
+        self._worker.submit(*transactions, then=then)
+
+    def _work(self, waiting: "Iterator[Transaction]") -> int:
+        taken = self._writer.commit(waiting)
         try:
-            return self._do(operations, needs)
-        except TransactionRefused as error:
-            raise error.refusal from None
-
-    def _do(self, operations: "tuple[lines.Operation, ...]", needs: Optional[int] = None) -> Done:
-        if not operations:
-            raise ValueError("a transaction has at least one operation")
-        pending = Pending(operations, needs)
-        self.do([pending])
-        if pending.error:
-            raise pending.error
-        return Done(tuple(pending.ids), pending.commit)
-
-    def do(self, transactions: "Sequence[Pending]") -> None:
-        """Does transactions, each whole or not at all, and notes in each what came of it."""
-        self._turns.do(*transactions)
-
-    def _lead(self, jobs: "list[Union[Pending, _Alone]]") -> int:
-        try:
-            return self._lead_first(jobs)
-        except BaseException:
-            # The thread was interrupted, and all of them count as done.
-            for job in jobs:
-                if not (job.is_done if isinstance(job, Pending) else job.error):
-                    job.error = NotWritten("nothing was done: the thread whose turn it was was interrupted")
-            raise
-
-    def _lead_first(self, jobs: "list[Union[Pending, _Alone]]") -> int:
-        """Does the transactions of the beginning, or what comes first if that isn't one."""
-        transactions: "list[Pending]" = []
-        for job in jobs:
-            if isinstance(job, _Alone):
-                break
-            transactions.append(job)
-        if transactions:
-            taken = self._writer.commit(transactions)
             self._publish()
             self._merger.begin()
-            return taken
-        alone = jobs[0]
-        assert isinstance(alone, _Alone)
-        try:
-            alone.call()
-        except Exception as error:
-            alone.error = error
-        return 1
-
-    def _alone(self, call: "Callable[[], None]") -> None:
-        job = _Alone(call)
-        self._turns.do(job)
-        if job.error:
-            raise job.error
+        except Exception:
+            # The transactions are done all the same.
+            log.exception("searches don't see the last commit yet")
+        return taken
 
     def _publish(self) -> None:
-        """Lets searches see the last commit. Without memory they see the one before, until the next."""
-        if self._commit != self._writer.numbers.commit:
-            self._show()
+        """Lets searches see the last commit."""
+        if self._published.commit != self._writer.numbers.commit:
+            self._published.show(self._writer.index, self._writer.numbers.commit)
 
     def _show_merged(self) -> None:
         """Lets searches see the last commit in other segments, unless it isn't known which commit that is."""
         if self._writer.stopped is None:
-            self._show()
+            self._published.show(self._writer.index, self._writer.numbers.commit)
 
-    def _show(self) -> None:
-        try:
-            searcher = self._writer.index.searcher()
-        except MemoryError:
-            log.error("there was no memory for searches to see what the index has now")
-            return
-        with self._published:
-            old, self._searcher, self._commit = self._searcher, searcher, self._writer.numbers.commit
-        old.close()
+    def _last(self) -> Snapshot:
+        """What the index has, unless there is no memory to look at it."""
+        self._publish()
+        return self.snapshot()
 
     # What searches
 
     def snapshot(self) -> Snapshot:
         """The last commit. It never waits for what is being written. Close it soon: it holds the commit's memory."""
-        with self._published:
-            if self._closed:
-                raise Stopped("the store is closed")
-            return Snapshot(self._searcher.searcher(), self._commit)
+        return self._published.snapshot(self._fields.key)
 
     def search(
         self, query: str, *, groups: Sequence[str] = (), top: Optional[Top] = None,
-        fields: Optional[Sequence[str]] = None,
+        fields: Optional[Sequence[str]] = None, after: Optional[After] = None,
     ) -> Answer:
         """What a query finds in the last commit, as Snapshot.search says."""
         with self.snapshot() as snapshot:
-            return snapshot.search(query, groups=groups, top=top, fields=fields)
+            return snapshot.search(query, groups=groups, top=top, fields=fields, after=after)
 
     def get(self, id: int) -> "Optional[dict[str, Any]]":
         """The document of a number, its `id` in it; None if there is none."""
         with self.snapshot() as snapshot:
             return snapshot.get(id)
+
+    def get_by_key(self, key: Key) -> "Optional[dict[str, Any]]":
+        """The document of a key, its `id` in it; None if there is none. ValueError if the store has no key."""
+        with self.snapshot() as snapshot:
+            return snapshot.get_by_key(key)
 
     def documents(self, after: int = 0, limit: int = 100) -> "list[dict[str, Any]]":
         """The documents with the smallest numbers above one, at most `limit`; none at the end."""
@@ -310,9 +276,19 @@ class Store:
         return True
 
     @property
+    def fields(self) -> "list[Field]":
+        """The fields of the schema, without `id`."""
+        return list(self._fields.given)
+
+    @property
+    def key(self) -> Optional[str]:
+        """The name of the field that is the key, if there is one."""
+        return None if self._fields.key is None else self._fields.key.name
+
+    @property
     def commits(self) -> int:
         """The number of the last commit. It never falls."""
-        return self._commit
+        return self._published.commit
 
     @property
     def journal_bytes(self) -> int:
@@ -326,79 +302,62 @@ class Store:
 
     # The journal
 
-    def compact(self) -> Sizes:
+    def compact(self, *, schema: Optional[Iterable[Field]] = None, drop: Collection[str] = ()) -> Sizes:
         """Writes the journal anew with the live documents alone, while searches and transactions go on.
 
-        No answer changes by it. Busy is raised if another thread does it, NotWritten if there is no room; the journal
-        is as it was then.
+        No answer changes by it. With a schema, the store has those fields then: new ones are empty, those of `drop` are
+        gone from the documents, and the marks as default are those of the schema. Transactions wait for that as long as
+        a start takes, and there is an index of each schema meanwhile.
+
+        Busy is raised if another thread does it, BadSchema if a field would be lost or have another kind, NotWritten if
+        there is no room, or the file can't be given to the journal's owner; the journal is as it was then. So it is if
+        the wait is interrupted.
         """
-        if not self._compacting.acquire(blocking=False):
-            raise Busy("the journal is being compacted already")
+        if isinstance(drop, str):
+            raise TypeError("`drop` is a list of names")
+        compacting, worker = Compacting(), self._worker
+        fields = [field for field in self.fields if field.name not in drop] if schema is None else list(schema)
         try:
-            return self._compact()
+            if schema is None and not drop:
+                worker.call(lambda: self._compactor.begin(compacting))
+                worker.wait(compacting)
+            else:
+                worker.call(lambda: self._change_schema(compacting, fields, frozenset(drop)))
+            if compacting.error:
+                raise compacting.error
+            return compacting.sizes
         except OSError as error:
             raise NotWritten(f"the journal wasn't compacted, and is as it was: {error.strerror or error}") from error
         finally:
-            self._compacting.release()
+            # If the wait was interrupted, it is given up.
+            compacting.withdrawn = True
 
-    def _compact(self) -> Sizes:
-        begun: "list[tuple[Compaction, Snapshot]]" = []
-        self._alone(lambda: begun.append(self._begin_compaction()))
-        ((compaction, snapshot),) = begun
-        sizes: "list[Sizes]" = []
-        try:
-            with snapshot:
-                compaction.write(snapshot.ids())
-            compaction.follow()
-            self._alone(lambda: sizes.append(self._finish_compaction(compaction)))
-        except BaseException as error:
-            if not isinstance(error, OutcomeUnknown):
-                compaction.abandon()
-            raise
-        return sizes[0]
-
-    def _begin_compaction(self) -> "tuple[Compaction, Snapshot]":
-        if self._writer.stopped:
-            raise Stopped(self._writer.stopped)
-        self._publish()
-        snapshot = self.snapshot()
-        try:
-            if snapshot.commit != self._writer.numbers.commit:
-                raise MemoryError("there was no memory to look at the last commit")
-            return Compaction(self._journal, self._writer.numbers, self._check_open), snapshot
-        except BaseException:
-            snapshot.close()
-            raise
-
-    def _finish_compaction(self, compaction: Compaction) -> Sizes:
-        if self._writer.stopped:
-            raise Stopped(self._writer.stopped)
-        try:
-            return compaction.finish()
-        except OutcomeUnknown as error:
-            self._writer._stop(str(error))
-            raise
+    def _change_schema(self, compacting: Compacting, given: "list[Field]", drop: "frozenset[str]") -> None:
+        fields = self._fields.changed(given, drop)
+        index = self._compactor.change_schema(compacting, fields, drop)
+        old, self._fields, self._writer.index = self._writer.index, fields, index
+        self._merger.close()
+        self._merger = Merger(index, self._worker.call, self._show_merged)
+        self._published.show(index, self._writer.numbers.commit)
+        old.close()
 
 
-def _is_schema(line: bytes, fields: "list[Field]") -> bool:
-    """Whether a line is the one of a schema, however it is written."""
-    try:
-        found = json.loads(line)["schema"]
-        return [Field(**field) for field in found] == fields
-    except (ValueError, TypeError, KeyError):
-        return False
+# The stores of this process that are open.
+_OPEN: "WeakSet[Store]" = WeakSet()
 
 
-def _with_id(fields: "list[Field]") -> "list[Field]":
-    if any(field.name == "id" for field in fields):
-        raise BadSchema("the schema has a field `id`, which is the store's own")
-    if len(fields) >= 32:
-        raise BadSchema(f"the schema has {len(fields)} fields: 31 at most, since the store adds `id`")
-    return [*fields, Field("id", "u64")]
+def _after_fork_in_child() -> None:
+    for store in list(_OPEN):
+        store._leave_to_parent()
+    _OPEN.clear()
 
 
-def _opened(fields: "list[Field]") -> Index:
-    try:
-        return Index(*fields)
-    except Refused as error:
-        raise BadSchema(f"the schema is refused: {error}") from error
+os.register_at_fork(after_in_child=_after_fork_in_child)
+
+
+def _check_new(transactions: "tuple[Transaction, ...]") -> None:
+    for each in transactions:
+        if not len(each):
+            raise ValueError("a transaction has at least one operation")
+        if each.is_submitted:
+            raise ValueError("a transaction is done once")

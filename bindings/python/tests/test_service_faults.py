@@ -1,0 +1,266 @@
+"""The service over HTTP under what the world does to it: clients that don't read, drip, are silent, or send what is no
+request; and an end in the middle of an answer."""
+import contextlib
+import json
+import os
+import re
+import signal
+import socket
+import time
+import unittest
+
+from service_tools import Served
+
+JSON = "Content-Type: application/json"
+
+
+class Faults(Served):
+    def opened(self, server, data=b"", room=None):
+        """A connection that sends something. With `room`, the system takes so many bytes for it, and no more."""
+        sock = socket.socket()
+        self.addCleanup(sock.close)
+        if room:
+            sock.setsockopt(socket.SOL_SOCKET, socket.SO_RCVBUF, room)
+        sock.settimeout(30)
+        sock.connect(("127.0.0.1", server.port))
+        sock.sendall(data)
+        return sock
+
+    @staticmethod
+    def request(server, line, *headers, body=b""):
+        head = "\r\n".join([f"{line} HTTP/1.1", f"Host: localhost:{server.port}", *headers, "", ""])
+        return head.encode() + body
+
+    @staticmethod
+    def all(sock):
+        """All that comes before the connection ends."""
+        told = b""
+        with contextlib.suppress(ConnectionResetError):
+            while data := sock.recv(1 << 20):
+                told += data
+        return told
+
+    def refusal(self, sock):
+        """The status and the error of an answer, which is the documented JSON, and after which the connection ends."""
+        head, _, body = self.all(sock).partition(b"\r\n\r\n")
+        self.assertIn(b"content-type: application/json", head.lower())
+        told = json.loads(body)
+        self.assertRegex(told["message"], "[a-z]")
+        return int(head[9:12]), told["error"]
+
+    def count(self, server, name):
+        return int(re.search(rf"^dilforec_{name} ([0-9]+)$", server.ask("GET", "/metrics")[1], re.MULTILINE)[1])
+
+    def fill(self, server):
+        """Documents of 6 MB, which all are the answer to a search."""
+        for _ in range(4):
+            status, _ = server.ask("POST", "/documents", [{"title": "x" * 6000, "year": 1}] * 250)
+            self.assertEqual(status, 201)
+        return self.request(server, "GET /search?top=id,1000,rising")
+
+    def others(self, server):
+        """Others search and change."""
+        began = time.monotonic()
+        self.assertEqual(server.ask("GET", "/search?q=none")[0], 200)
+        self.assertEqual(server.ask("POST", "/documents", {})[0], 201)
+        self.assertLess(time.monotonic() - began, 10)
+
+
+class Readers(Faults):
+    def test_no_reader(self):
+        """As many clients as threads ask for large answers and don't read: others are answered, and they are closed."""
+        server = self.serve("--threads", 2, "--idle", 3)
+        large = self.fill(server)
+        silent = [self.opened(server, large * 30, room=4096) for _ in range(4)]
+        time.sleep(1)
+        self.others(server)
+        for _ in range(100):
+            if "doesn't read" in server.said():
+                break
+            time.sleep(0.1)
+        time.sleep(1.5)
+        self.assertEqual(server.said().count("doesn't read"), 4)
+        self.others(server)
+        for sock in silent:
+            # Far less than all arrives, whatever the system has taken.
+            self.assertLess(len(self.all(sock)), 30_000_000)
+
+    def test_no_reader_of_a_change(self):
+        """A client asks for large answers and then for changes, and doesn't read: small changes of others are done."""
+        server = self.serve("--idle", 60)
+        body = b"[" + b",".join([b"{}"] * 10_000) + b"]"
+        change = self.request(server, "POST /documents", JSON, f"Content-Length: {len(body)}", body=body)
+        sock = self.opened(server, room=4096)
+        sock.setblocking(False)
+        # 66 MB of answers, and then some MB of answers to changes: a server that waits in a change once 64 MiB are
+        # unsent hangs, however much of it the system takes.
+        left, last = memoryview(self.fill(server) * 11 + change * 120), time.monotonic() + 5
+        while left and time.monotonic() < last:
+            try:
+                left = left[sock.send(left):]
+            except BlockingIOError:
+                time.sleep(0.01)
+        for _ in range(8):
+            self.others(server)
+            time.sleep(0.4)
+
+    def test_idle_connections(self):
+        """What a request costs the service doesn't grow with the connections that are silent."""
+        server = self.serve("--idle", 600)
+
+        def seconds():
+            with open(f"/proc/{server.process.pid}/stat") as file:
+                return sum(map(int, file.read().rpartition(")")[2].split()[11:13])) / os.sysconf("SC_CLK_TCK")
+
+        def cost():
+            sock, asked = self.opened(server), self.request(server, "GET /status")
+            before = seconds()
+            for _ in range(600):
+                sock.sendall(asked)
+                self.assertIn(b"200 OK", sock.recv(65536))
+            return seconds() - before
+
+        cost()
+        alone = cost()
+        silent = [self.opened(server) for _ in range(700)]
+        server.ask("GET", "/status")
+        beside = cost()
+        self.assertLess(beside, 3 * alone + 0.1)
+        for sock in silent:
+            sock.close()
+
+    def test_sent_ahead(self):
+        """Requests that are sent ahead are answered in their order, up to a number."""
+        server = self.serve()
+        asked = self.request(server, "GET /documents/1")
+        sock = self.opened(server, asked * 2000)
+        told = self.all(sock)
+        self.assertIn(told.count(b'"NoSuchDocument"'), range(256, 2000))
+
+
+class Heads(Faults):
+    def test_no_request(self):
+        """What is no request is answered by the documented JSON, and counted."""
+        server = self.serve("--body", 1000)
+        before = self.count(server, "refusals_total")
+        tried = [
+            ("POST /documents", [JSON, "Content-Length: 5000000"], b"", 413, "BodyTooLarge"),
+            ("POST /documents", [JSON, "Transfer-Encoding: chunked"], b"800\r\n" + b"x" * 2048 + b"\r\n", 413,
+             "BodyTooLarge"),
+            ("POST /documents", [JSON, "Transfer-Encoding: chunked"], b"2\r\n{}\r\nzz\r\n", 400, "BadRequest"),
+            ("GET /search", ["Connection: Upgrade", "Upgrade: websocket"], b"", 400, "BadRequest"),
+            ("GET /", ["X: " + "a" * 99_000], b"", 431, "HeadTooLarge"),
+            ("GET /", [f"X{number}: {'a' * 900}" for number in range(100)], b"", 431, "HeadTooLarge"),
+            ("GET /search?q=" + "a" * 70_000, [], b"", 414, "TooLong"),
+            ("POST /documents", ["Content-Length: x"], b"", 400, "BadRequest"),
+            ("POST /documents", ["Content-Length: -1"], b"", 400, "BadRequest"),
+            ("POST /documents", ["Content-Length: 1", "Content-Length: 2"], b"", 400, "BadRequest"),
+            ("POST /documents", [JSON, "Content-Length: 4", "Transfer-Encoding: chunked"], b"", 400, "BadRequest"),
+            ("POST /documents", [JSON, "Transfer-Encoding: gzip"], b"", 501, "NotImplemented"),
+            ("BREW /documents", [], b"", 501, "NotImplemented"),
+            ("GET", [], b"", 400, "BadRequest"),
+            ("GET http://[", [], b"", 400, "BadRequest"),
+            ("\0\1\2", [], b"", 501, "NotImplemented"),
+        ]
+        for line, headers, body, status, name in tried:
+            with self.subTest(line=line[:40], headers=[header[:40] for header in headers]):
+                sock = self.opened(server, self.request(server, line, *headers, body=body))
+                self.assertEqual(self.refusal(sock), (status, name))
+        failures = self.count(server, "failures_total")
+        refusals = self.count(server, "refusals_total") - before
+        self.assertEqual((refusals, failures), (len(tried) - 3, 3))
+
+    def test_after_a_request(self):
+        """What comes after a request and is none doesn't take the place of its answer."""
+        server = self.serve(slow_syncs=True)
+        post = self.request(server, "POST /documents", JSON, "Content-Length: 2", body=b"{}")
+        told = self.all(self.opened(server, post + b"nonsense\r\n\r\n"))
+        self.assertEqual((told.count(b"HTTP/1.1"), told.count(b"201 Created")), (1, 1))
+
+    def test_slow(self):
+        """A head and a body that drip are refused after their time; one that is silent is closed."""
+        server = self.serve("--head-seconds", 1, "--body-seconds", 2, "--idle", 3)
+        head = self.request(server, "POST /documents", JSON, "Content-Length: 50")
+        began = time.monotonic()
+        slow = [self.opened(server, head[:30]), self.opened(server, head + b"{"), self.opened(server)]
+        for _ in range(20):
+            for sock in slow[:2]:
+                with contextlib.suppress(OSError):
+                    sock.sendall(b" ")
+            time.sleep(0.2)
+        self.assertEqual([self.refusal(sock) for sock in slow[:2]], [(408, "TooSlow")] * 2)
+        self.assertEqual(self.all(slow[2]), b"")
+        self.assertLess(time.monotonic() - began, 15)
+
+    def test_token_before_body(self):
+        """Who may not change anything needn't send a body, and is told so before it comes."""
+        token = self.folder / "token"
+        token.write_text("abcdefghijklmnop")
+        server = self.serve("--token-file", token)
+        for wanted in "Content-Length: 10000000", "Transfer-Encoding: chunked", "Content-Length: 99999999":
+            sock = self.opened(server, self.request(server, "POST /documents", JSON, wanted))
+            self.assertIn(b" 401 ", sock.recv(1000))
+        sock = self.opened(server, self.request(
+            server, "POST /documents", JSON, "Content-Length: 1000000", "Expect: 100-continue"))
+        self.assertNotIn(b"100 Continue", sock.recv(1000))
+        # A body that comes anyway is read over, and what comes then is answered.
+        sock.sendall(b"x" * 1_000_000 + self.request(server, "GET /healthz"))
+        self.assertIn(b'{"healthy":true}', sock.recv(1000))
+
+    def test_connections(self):
+        """More connections than there may be are refused with JSON, and taken again when others went."""
+        server = self.serve("--connections", 20, "--idle", 60)
+        held = [self.opened(server, self.request(server, "GET /healthz")) for _ in range(20)]
+        for sock in held:
+            self.assertIn(b"200 OK", sock.recv(1000))
+        self.assertEqual(self.refusal(self.opened(server)), (503, "TooManyConnections"))
+        held.pop().close()
+        time.sleep(0.5)
+        self.assertEqual(server.ask("GET", "/healthz"), (200, {"healthy": True}))
+
+
+class Ends(Faults):
+    def slow_reader(self, server):
+        """A client that was sent a part of a large answer."""
+        large = self.fill(server)
+        sock = self.opened(server, large, room=65536)
+        time.sleep(1)
+        return sock
+
+    def test_answer_under_way(self):
+        """SIGTERM in the middle of a large answer: all of it arrives, and what comes new is refused."""
+        server = self.serve("--grace", 20)
+        sock = self.slow_reader(server)
+        waiting = self.opened(server)
+        server.process.send_signal(signal.SIGTERM)
+        time.sleep(0.5)
+        with self.assertRaises(OSError):
+            self.opened(server)
+        self.assertEqual(self.all(waiting), b"")
+        head, _, body = self.all(sock).partition(b"\r\n\r\n")
+        self.assertEqual(len(body), int(re.search(rb"(?i)content-length: ([0-9]+)", head)[1]))
+        self.assertEqual(server.process.wait(10), 0)
+
+    def test_grace(self):
+        """A client that doesn't read holds the end up for the time of grace, and no longer."""
+        server = self.serve("--grace", 2)
+        self.slow_reader(server)
+        began = time.monotonic()
+        self.assertEqual(server.stop(signal.SIGTERM), 0)
+        self.assertLess(time.monotonic() - began, 15)
+        self.assertIn("are cut off", server.said())
+
+    def test_twice(self):
+        """SIGTERM again, and SIGINT, change nothing about the end."""
+        server = self.serve(slow_syncs=True)
+        sock = self.opened(server, self.request(server, "POST /documents", JSON, "Content-Length: 2", body=b"{}"))
+        time.sleep(0.2)
+        for number in signal.SIGTERM, signal.SIGTERM, signal.SIGTERM:
+            server.process.send_signal(number)
+            time.sleep(0.02)
+        self.assertIn(b"201 Created", self.all(sock))
+        self.assertEqual(server.process.wait(10), 0)
+
+
+if __name__ == "__main__":
+    unittest.main()

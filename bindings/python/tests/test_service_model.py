@@ -1,0 +1,24 @@
+"""A store beside a model: transactions, refusals, faults of its disk, compactions, changes of the schema, restarts.
+
+    DILFOREC_EXAMPLES=1000 python3 test_service_model.py
+
+needs hypothesis (Debian: python3-hypothesis). Without the variable there are 60 runs, the same each time.
+"""
+import unittest
+
+try:
+    from service_machine import Machine
+except ImportError:
+    Machine = None
+
+
+@unittest.skipIf(Machine is None, "hypothesis isn't there")
+class Models(unittest.TestCase):
+    def test_machine(self):
+        """Whatever is done to a store, it has what the model has, and answers so."""
+        test = Machine.TestCase()
+        test.runTest()
+
+
+if __name__ == "__main__":
+    unittest.main()
