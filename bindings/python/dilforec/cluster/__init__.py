@@ -11,10 +11,11 @@
 It needs Dask: `pip install dilforec[cluster]`. Dask says where partitions are made, and makes those of a lost worker
 again on another from their sources; docs/SCALE.md has the whole of it.
 """
-from dilforec.cluster._cluster import Cluster, Counts
-from dilforec.cluster._partitions import Refusal, SourceChanged, SourceRefused
+from dilforec.cluster._cluster import Cluster, Counts, Search
+from dilforec.cluster._partitions import Refusal, SourceChanged, SourceRefused, SourceUnreadable
 from dilforec.cluster._sources import Documents, JsonLines, Script, Source
 
 __all__ = [
-    "Cluster", "Counts", "Documents", "JsonLines", "Refusal", "Script", "Source", "SourceChanged", "SourceRefused",
+    "Cluster", "Counts", "Documents", "JsonLines", "Refusal", "Script", "Search", "Source", "SourceChanged", "SourceRefused",
+    "SourceUnreadable",
 ]
