@@ -140,8 +140,10 @@ class Cluster(Searching):
                fields: Optional[Sequence[str]] = None, timeout: Optional[float] = None) -> Answer[Groups]: ...
 
     @overload
-    def search(self, query: str, *, groups: Union[list[str], tuple[str, ...]], top: Optional[Top] = None,
-               fields: Optional[Sequence[str]] = None, timeout: Optional[float] = None) -> Answer[dict[str, Groups]]: ...
+    def search(
+        self, query: str, *, groups: Union[list[str], tuple[str, ...]], top: Optional[Top] = None,
+        fields: Optional[Sequence[str]] = None, timeout: Optional[float] = None,
+    ) -> Answer[dict[str, Groups]]: ...
 
     def search(self, query: str, *, groups: Union[str, list[str], tuple[str, ...], None] = None,
                top: Optional[Top] = None, fields: Optional[Sequence[str]] = None,
@@ -163,7 +165,7 @@ class Cluster(Searching):
         return [self._answered(each, list(itertools.islice(replies, len(each.lines)))) for each in asked]
 
     def searcher(self, *, timeout: Optional[float] = None) -> Searcher:
-        """A searcher of the partitions as they are now. Each of its searches raises TimeoutError after `timeout` seconds."""
+        """A searcher of the partitions as they are now. Its searches raise TimeoutError after `timeout` seconds."""
         return Searcher(self._channel.within(_checked(timeout)), self._schema)
 
     def _made(self, sources: Sequence[Source]) -> dict[str, Part]:

@@ -25,9 +25,7 @@ PATIENCE = 1.0
 FIRST_PAUSE, LONGEST_PAUSE = 0.02, 0.5
 # How often a source that can't be read is tried, and the seconds between.
 TRIES, BETWEEN_TRIES = 3, 0.3
-
-
-# Bytes of a reply that takes long to read.
+# Bytes of a reply that is read in a thread, since others wait for the event loop.
 LONG = 65_536
 
 
@@ -135,8 +133,9 @@ class Gathering:
             return None
         if reply is None:
             raise RuntimeError(f"{node.address} can't answer searches: has it another version of dilforec?")
-        # Others wait for the event loop, so a long reply is read in a thread.
-        return await asyncio.get_running_loop().run_in_executor(None, _read, reply) if len(reply) > LONG else _read(reply)
+        if len(reply) < LONG:
+            return _read(reply)
+        return await asyncio.get_running_loop().run_in_executor(None, _read, reply)
 
     async def _send_directly(self, address: str, sent: dict[str, Any]) -> Any:
         return await getattr(self._client.rpc(address), OPERATION)(request=sent["request"])

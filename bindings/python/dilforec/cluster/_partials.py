@@ -17,17 +17,16 @@ from dilforec import joins
 _HIT_END = re.compile(rb'\},"stamp":([0-9]+),"value":(-?[0-9]+)\}')
 _TOP = b',"top":['
 
-
-# A hit of a top list: its value, the place of its partition among all, its stamp, and its text. No two hits are equal in
-# the first three. Plain tuples are pickled in a fraction of the time of named ones.
+# A hit of a top list: its value, the place of its partition among all, its stamp, and its text. No two are equal in the
+# first three. Plain tuples are pickled in a fraction of the time of named ones.
 Hit = tuple[int, int, int, bytes]
 
 
 class Partial(NamedTuple):
     """The answer to a search over some partitions; without arguments, over none of them.
 
-    `documents` are counted. `groups` has the values, in rising order, and their counts. `other` is a reply that is no answer: a refusal.
-    `fault` is an exception, pickled.
+    `documents` are counted. `groups` has the values, in rising order, and their counts. `other` is a reply that is no
+    answer, as a refusal. `fault` is an exception, pickled.
     """
 
     documents: int = 0

@@ -94,7 +94,7 @@ class Built:
 
 
 class Partition:
-    """The index of a source. It never leaves its process: pickled, it is its source, which is read again if it is asked.
+    """The index of a source. It never leaves its process: pickled, it is its source, to be read again if it is asked.
 
     Dask unpickles in the thread that talks to the scheduler, so nothing is read there.
     """

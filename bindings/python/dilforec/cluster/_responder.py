@@ -57,13 +57,17 @@ class Responder:
     async def answer(self, comm: Any, request: bytes) -> bytes:
         """The handler: a Reply to a Request, both pickled."""
         task, node, searches = pickle.loads(request)
-        replies: list[Reply] = await asyncio.gather(
-            self._own(task, node.wanted, searches), *(self._others(Request(task, each, searches)) for each in node.below),
-        )
-        return await self._in_thread(_joined_replies, task, replies, searches)
+        others = [asyncio.ensure_future(self._others(Request(task, each, searches))) for each in node.below]
+        found, missing = await self._found(node.wanted)
+        count = min(self._threads, len(found)) or 1
+        if count == 1 and not others:
+            return await self._in_thread(_pickled_reply, task, found, searches, missing)
+        work = [self._in_thread(results, task, found[place::count], searches) for place in range(count)]
+        replies = [Reply(each, ()) for each in await asyncio.gather(*work)] + [await each for each in others]
+        return await self._in_thread(_joined_replies, task, searches, [*replies, Reply([], missing)])
 
     async def _others(self, request: Request) -> Reply:
-        """What another worker replies."""
+        """What another worker, with those below it, replies."""
         try:
             reply = await getattr(self._worker.rpc(request.node.address), OPERATION)(request=request.pickled())
         except OSError:
@@ -73,17 +77,14 @@ class Responder:
             return Reply([], [Missing(wanted.rank, LOST) for wanted, _ in request.node.holders()])
         return await self._in_thread(_unpickled, reply)
 
-    async def _own(self, task: str, wanted: Sequence[Wanted], searches: Sequence[Asked]) -> Reply:
-        """What the partitions on this worker reply."""
+    async def _found(self, wanted: Sequence[Wanted]) -> tuple[list[Found], list[Missing]]:
+        """The partitions that are here, made now if that is asked for, and why the others aren't."""
         looked_up = [self._looked_up(each) for each in wanted]
         for place, each in enumerate(looked_up):
             if isinstance(each, Partition):
                 looked_up[place] = await self._made(wanted[place], each)
         found = [each for each in looked_up if isinstance(each, Found)]
-        missing = [each for each in looked_up if isinstance(each, Missing)]
-        if task == "search":
-            return Reply(await self._searched(found, searches), missing)
-        return Reply([(each.rank, TASKS[task](each.built)) for each in found], missing)
+        return found, [each for each in looked_up if isinstance(each, Missing)]
 
     def _looked_up(self, wanted: Wanted) -> Found | Missing | Partition:
         """A partition that is here, or why it isn't, or one that has to be made."""
@@ -109,17 +110,15 @@ class Responder:
         if task is not None and task.state == "memory":
             self._worker.handle_stimulus(FreeKeysEvent(keys=[key], stimulus_id="dilforec-partition-absent"))
 
-    async def _searched(self, found: Sequence[Found], searches: Sequence[Asked]) -> list[Partial]:
-        """The answers of some partitions, from as many threads as the worker has."""
-        chunks = [found[place::self._threads] for place in range(min(self._threads, len(found)))]
-        results: list[list[Partial]] = await asyncio.gather(
-            *(self._in_thread(search, chunk, searches) for chunk in chunks))
-        if len(results) == 1:
-            return results[0]
-        return await self._in_thread(_joined_results, results, searches)
-
     async def _in_thread(self, function: Callable[..., T], *given: Any) -> T:
         return await asyncio.get_running_loop().run_in_executor(self._searching, function, *given)
+
+
+def results(task: str, found: Sequence[Found], searches: Sequence[Asked]) -> list[Any]:
+    """What partitions reply: the joined answers to the searches, or what each says of itself."""
+    if task == "search":
+        return search(found, searches)
+    return [(each.rank, TASKS[task](each.built)) for each in found]
 
 
 def search(found: Sequence[Found], searches: Sequence[Asked]) -> list[Partial]:
@@ -128,10 +127,9 @@ def search(found: Sequence[Found], searches: Sequence[Asked]) -> list[Partial]:
     answers: list[list[Partial]] = [[] for _ in searches]
     for rank, built, source in found:
         with built.index.searcher() as searcher:
-            for place, each in enumerate(searches):
-                ranks = only[place]
+            for asked, ranks, answer in zip(searches, only, answers):
                 if ranks is None or rank in ranks:
-                    answers[place].append(_answered(searcher, each, rank, source))
+                    answer.append(_answered(searcher, asked, rank, source))
     return [joined(each, asked.k, asked.is_falling) for each, asked in zip(answers, searches)]
 
 
@@ -143,21 +141,19 @@ def _answered(searcher: Any, asked: Asked, rank: int, source: bytes) -> Partial:
         return Partial(fault=pickled(error))
 
 
-def _joined_replies(task: str, replies: Sequence[Reply], searches: Sequence[Asked]) -> bytes:
-    """One reply of several, pickled."""
-    missing = [each for reply in replies for each in reply.missing]
-    results: Sequence[Any] = replies[0].results
-    if len(replies) > 1 and task == "search":
-        results = _joined_results([reply.results for reply in replies], searches)
-    elif len(replies) > 1:
-        results = [each for reply in replies for each in reply.results]
-    return Reply(results, missing).pickled()
+def _pickled_reply(
+    task: str, found: Sequence[Found], searches: Sequence[Asked], missing: Sequence[Missing],
+) -> bytes:
+    return Reply(results(task, found, searches), missing).pickled()
 
 
-def _joined_results(results: Sequence[Sequence[Partial]], searches: Sequence[Asked]) -> list[Partial]:
-    """Lists of answers to some searches, joined search by search."""
-    lists = [each for each in results if each]
-    return [joined([each[place] for each in lists], asked.k, asked.is_falling) for place, asked in enumerate(searches)]
+def _joined_replies(task: str, searches: Sequence[Asked], replies: Sequence[Reply]) -> bytes:
+    """One reply of several, pickled. Those that lack all of their partitions have no results."""
+    lists = [reply.results for reply in replies if reply.results]
+    answers = [each for some in lists for each in some]
+    if task == "search":
+        answers = [joined(each, asked.k, asked.is_falling) for each, asked in zip(zip(*lists), searches)]
+    return Reply(answers, [each for reply in replies for each in reply.missing]).pickled()
 
 
 def _unpickled(reply: bytes) -> Reply:

@@ -78,11 +78,12 @@ class Joined:
             raise ValueError("the cluster has no source")
         searches = [_Search(line, names, len(rounds.parts)) for line, names in lines]
         answers = _asked(rounds, [(search, search.first()) for search in searches], deadline)
-        again = {place: ranks for place, search in enumerate(searches) if (ranks := search.to_ask_again(answers[place]))}
+        ranks = [search.to_ask_again(answer) for search, answer in zip(searches, answers)]
+        again = [place for place, each in enumerate(ranks) if each]
         if again:
-            more = _asked(rounds, [(searches[place], searches[place].again(ranks)) for place, ranks in again.items()], deadline)
-            for (place, ranks), each in zip(again.items(), more):
-                answers[place] = searches[place].replaced(answers[place], ranks, each)
+            more = _asked(rounds, [(searches[place], searches[place].again(ranks[place])) for place in again], deadline)
+            for place, each in zip(again, more):
+                answers[place] = searches[place].replaced(answers[place], ranks[place], each)
         return [encoded(answer) for answer in answers]
 
     def stats(self) -> Stats:
