@@ -307,9 +307,9 @@ def joining() -> dict[str, Join]:
     for name, reply, k in ("hit", hits, parts * size), ("group", groups, None):
         line = joins.encoded(reply)
         began = time.perf_counter()
-        read = [_partials.partial(line, rank, b'"source"') for rank in range(parts)]
+        read = [_partials.partial(line, rank, b'"source"', False) for rank in range(parts)]
         were_read = time.perf_counter()
-        answer = _partials.joined(read, k, False)
+        answer = _partials.joined(read, k)
         were_joined = time.perf_counter()
         _partials.encoded(answer)
         ended = time.perf_counter()

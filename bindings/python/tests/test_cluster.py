@@ -33,7 +33,7 @@ import machines
 from dilforec import joins
 from dilforec.cluster import (
     Cluster, Documents, JsonLines, Refusal, Script, Search, SourceChanged, SourceRefused, SourceUnreadable, _gathering,
-    _requests, _rounds, _sources,
+    _requests, _responder, _rounds, _sources,
 )
 
 ROOT = pathlib.Path(__file__).resolve().parents[3]
@@ -182,8 +182,9 @@ class Exact(unittest.TestCase):
                     self.compare_bytes(names, parts, many, asked)
 
     def test_random_cuttings(self):
-        """The documents of random scripts, cut anyhow into files and functions."""
+        """The documents of random scripts, cut anyhow into files and functions; every other time, workers ask workers."""
         compared = 0
+        fan_out = mock.patch.object(_requests, "FAN_OUT", 1)
         for seed in range(CUTTINGS):
             chance = random.Random(seed)
             commands = [random_scripts.document(chance) for _ in range(chance.randrange(60))]
@@ -191,7 +192,8 @@ class Exact(unittest.TestCase):
             for document in commands:
                 chance.choice(parts).append(document)
             sources = [self.source(f"{seed}.{place}", part, chance.randrange(3)) for place, part in enumerate(parts)]
-            with dilforec.Index(*SCHEMA) as one, cluster(sources) as many:
+            between = fan_out if seed % 2 else contextlib.nullcontext()
+            with dilforec.Index(*SCHEMA) as one, cluster(sources) as many, between:
                 for document in commands:
                     one.add(document)
                 one.commit()
@@ -242,6 +244,22 @@ class Exact(unittest.TestCase):
                 with killing(count, "processing"), cluster(source(first, first + step) for first in firsts) as many:
                     self.compare(one, many, [{"query": "w1", "groups": "tag"}, {"query": "*"}])
 
+    def test_killed_meanwhile(self):
+        """Workers that die before a search, while it waits for them, and after it."""
+        with cluster(source(first, first + 100) for first in range(0, 800, 100)) as many:
+            expected = many.search("*", groups="tag")
+            for count in 1, 3:
+                MACHINES.kill(MACHINES.with_partitions("has_what")[:count])
+                MACHINES.four()
+                self.assertEqual(many.search("*", groups="tag"), expected)
+                with slow_answers(1.5), ThreadPoolExecutor(1) as thread:
+                    answer = thread.submit(many.search, "*", groups="tag")
+                    time.sleep(0.5)
+                    MACHINES.kill(MACHINES.with_partitions("has_what")[:count])
+                    MACHINES.four()
+                    self.assertEqual(answer.result(), expected)
+                self.assertEqual(many.search("*", groups="tag"), expected)
+
     def test_deadly(self):
         """A source that ends every worker that reads it: Dask gives up, and says so."""
         CLIENT.run_on_scheduler(_allow, 1)
@@ -249,6 +267,22 @@ class Exact(unittest.TestCase):
             self.assertRaises(KilledWorker, cluster, [source(0, 10), Documents("deadly", _die)])
         finally:
             CLIENT.run_on_scheduler(_allow, 10)
+
+
+@contextlib.contextmanager
+def slow_answers(seconds):
+    """The workers of now take their time for each search."""
+    CLIENT.run(_slow_down, seconds)
+    try:
+        yield
+    finally:
+        CLIENT.run(_slow_down, 0)
+
+
+def _slow_down(seconds):
+    before = getattr(_responder, "search_at_once", _responder.search)
+    _responder.search_at_once = before
+    _responder.search = lambda *given: (time.sleep(seconds), before(*given))[1]
 
 
 def _allow(failures, dask_scheduler):

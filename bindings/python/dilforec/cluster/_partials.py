@@ -6,6 +6,7 @@ nobody reads a document twice.
 from __future__ import annotations
 
 import collections
+import itertools
 import json
 import re
 from collections.abc import Sequence
@@ -17,8 +18,8 @@ from dilforec import joins
 _HIT_END = re.compile(rb'\},"stamp":([0-9]+),"value":(-?[0-9]+)\}')
 _TOP = b',"top":['
 
-# A hit of a top list: its value, the place of its partition among all, its stamp, and its text. No two are equal in the
-# first three. Plain tuples are pickled in a fraction of the time of named ones.
+# A hit of a top list: its value (if values fall, what it is below 0), the place of its partition among all, its stamp, and
+# its text. Sorted, hits are in the order of the list. Plain tuples are pickled in a fraction of the time of named ones.
 Hit = tuple[int, int, int, bytes]
 
 
@@ -36,7 +37,7 @@ class Partial(NamedTuple):
     fault: Optional[bytes] = None
 
 
-def partial(reply: bytes, rank: int, source: bytes) -> Partial:
+def partial(reply: bytes, rank: int, source: bytes, is_falling: bool) -> Partial:
     """What a partition replied to a search. `source` is the name of its source, as JSON."""
     if not reply.startswith(b'{"count":'):
         return Partial(other=reply)
@@ -45,22 +46,22 @@ def partial(reply: bytes, rank: int, source: bytes) -> Partial:
     groups = None
     if "groups" in answer:
         groups = ([value for value, _ in answer["groups"]], [count for _, count in answer["groups"]])
-    hits = None if top < 0 else _hits(reply, top + len(_TOP), rank, b',"source":' + source)
+    hits = None if top < 0 else _hits(reply, top + len(_TOP), rank, b',"source":' + source, is_falling)
     return Partial(answer["count"], groups, hits)
 
 
-def _hits(reply: bytes, begin: int, rank: int, mark: bytes) -> list[Hit]:
+def _hits(reply: bytes, begin: int, rank: int, mark: bytes, is_falling: bool) -> list[Hit]:
     """The hits of a reply's top list, which begins there. The mark is put after each document."""
-    hits = []
+    hits, sign = [], -1 if is_falling else 1
     for end in _HIT_END.finditer(reply, begin):
         document = end.start() + 1
         text = reply[begin:document] + mark + reply[document:end.end()]
-        hits.append((int(end[2]), rank, int(end[1]), text))
+        hits.append((sign * int(end[2]), rank, int(end[1]), text))
         begin = end.end() + 1
     return hits
 
 
-def joined(partials: Sequence[Partial], k: Optional[int], is_falling: bool) -> Partial:
+def joined(partials: Sequence[Partial], k: Optional[int]) -> Partial:
     """One answer of several, none of which has a partition of another. A top list has the first k hits."""
     for name in "fault", "other":
         for each in partials:
@@ -69,16 +70,9 @@ def joined(partials: Sequence[Partial], k: Optional[int], is_falling: bool) -> P
     if len(partials) == 1 and k is None:
         return partials[0]
     lists = [each.hits for each in partials if each.hits is not None]
-    hits = in_order([hit for each in lists for hit in each], is_falling)[:k] if lists else None
+    hits = sorted(itertools.chain.from_iterable(lists))[:k] if lists else None
     groups = [each.groups for each in partials if each.groups is not None]
     return Partial(sum(each.documents for each in partials), _joined_groups(groups) if groups else None, hits)
-
-
-def in_order(hits: list[Hit], is_falling: bool) -> list[Hit]:
-    """Hits by their values, then their partitions, then their stamps."""
-    if is_falling:
-        return [hit for _, _, _, hit in sorted((-hit[0], hit[1], hit[2], hit) for hit in hits)]
-    return sorted(hits)
 
 
 def _joined_groups(
@@ -95,12 +89,13 @@ def _joined_groups(
     return values, [counts[value] for value in values]
 
 
-def replaced(first: Partial, ranks: Sequence[int], again: Partial, k: int, is_falling: bool) -> Partial:
+def replaced(first: Partial, ranks: Sequence[int], again: Partial, k: Optional[int]) -> Partial:
     """An answer whose hits of some partitions are those of another one."""
     if again.fault is not None or again.other is not None:
         return again
-    left = [hit for hit in first.hits or () if hit[1] not in set(ranks)]
-    return first._replace(hits=in_order([*left, *(again.hits or ())], is_falling)[:k])
+    out = frozenset(ranks)
+    left = [hit for hit in first.hits or () if hit[1] not in out]
+    return first._replace(hits=sorted([*left, *(again.hits or ())])[:k])
 
 
 def encoded(answer: Partial) -> bytes:

@@ -1,6 +1,7 @@
 """What the client and the workers send each other, pickled: Dask takes bytes as they are."""
 from __future__ import annotations
 
+import io
 import pickle
 from collections.abc import Iterator, Mapping, Sequence
 from typing import Any, NamedTuple, Optional
@@ -55,7 +56,12 @@ class Reply(NamedTuple):
     missing: Sequence[Missing]
 
     def pickled(self) -> bytes:
-        return pickle.dumps(self, protocol=5)
+        # Nothing in it is there twice, and without looking for that it takes a quarter of the time.
+        file = io.BytesIO()
+        pickler = pickle.Pickler(file, protocol=5)
+        pickler.fast = True
+        pickler.dump(self)
+        return file.getvalue()
 
 
 class Node(NamedTuple):

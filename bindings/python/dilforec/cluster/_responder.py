@@ -130,13 +130,13 @@ def search(found: Sequence[Found], searches: Sequence[Asked]) -> list[Partial]:
             for asked, ranks, answer in zip(searches, only, answers):
                 if ranks is None or rank in ranks:
                     answer.append(_answered(searcher, asked, rank, source))
-    return [joined(each, asked.k, asked.is_falling) for each, asked in zip(answers, searches)]
+    return [joined(each, asked.k) for each, asked in zip(answers, searches)]
 
 
 def _answered(searcher: Any, asked: Asked, rank: int, source: bytes) -> Partial:
     try:
         (reply,) = searcher._channel.ask_each([asked.line], asked.names)
-        return partial(reply, rank, source)
+        return partial(reply, rank, source, asked.is_falling)
     except Exception as error:
         return Partial(fault=pickled(error))
 
@@ -152,7 +152,7 @@ def _joined_replies(task: str, searches: Sequence[Asked], replies: Sequence[Repl
     lists = [reply.results for reply in replies if reply.results]
     answers = [each for some in lists for each in some]
     if task == "search":
-        answers = [joined(each, asked.k, asked.is_falling) for each, asked in zip(zip(*lists), searches)]
+        answers = [joined(each, asked.k) for each, asked in zip(zip(*lists), searches)]
     return Reply(answers, [each for reply in replies for each in reply.missing]).pickled()
 
 

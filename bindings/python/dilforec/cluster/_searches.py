@@ -127,7 +127,7 @@ class _Search:
 
     def joined(self, partials: Sequence[Partial]) -> Partial:
         """One answer. If a partition's search failed, its exception is raised."""
-        answer = joined(partials, self._k, self._is_falling)
+        answer = joined(partials, self._k)
         if answer.fault is not None:
             raise loads(answer.fault)
         return answer
@@ -139,7 +139,7 @@ class _Search:
         return joins.parts_to_ask_again((hit[1] for hit in answer.hits), self._share)
 
     def replaced(self, answer: Partial, ranks: Sequence[int], again: Partial) -> Partial:
-        return replaced(answer, ranks, again, self._k or 0, self._is_falling)
+        return replaced(answer, ranks, again, self._k)
 
 
 def _first_of(top: dict[str, Any]) -> tuple[Optional[int], bool]:
