@@ -22,6 +22,7 @@ import json
 import math
 import os
 import pathlib
+import pickle
 import random
 import statistics
 import subprocess
@@ -289,8 +290,9 @@ def read_alone(path: str) -> float:
 
 
 class Join(NamedTuple):
-    """Microseconds of a hit or a group: to read it from a partition's reply, to join it with others', to print it."""
+    """Microseconds of a hit or a group: to read it from a partition's reply, to send it, to join it with others', to print it."""
     read: float
+    sent: float
     joined: float
     printed: float
 
@@ -298,7 +300,7 @@ class Join(NamedTuple):
 def joining() -> dict[str, Join]:
     """What the joining of a hit of a top list, and of a group, takes."""
     from dilforec import joins
-    from dilforec.cluster import _partials
+    from dilforec.cluster import _partials, _requests
 
     parts, size = 8, 10_000
     hits: dict[str, Any] = {"count": size, "top": [{"doc": {"price": number}, "stamp": number, "value": number} for number in range(size)]}
@@ -306,16 +308,18 @@ def joining() -> dict[str, Join]:
     took = {}
     for name, reply, k in ("hit", hits, parts * size), ("group", groups, None):
         line = joins.encoded(reply)
-        began = time.perf_counter()
+        times = [time.perf_counter()]
         read = [_partials.partial(line, rank, b'"source"', False) for rank in range(parts)]
-        were_read = time.perf_counter()
-        answer = _partials.joined(read, k)
-        were_joined = time.perf_counter()
+        times.append(time.perf_counter())
+        sent = pickle.loads(_requests.Reply(read, ()).pickled()).results
+        times.append(time.perf_counter())
+        answer = _partials.joined(sent, k)
+        times.append(time.perf_counter())
         _partials.encoded(answer)
-        ended = time.perf_counter()
-        each = 1e6 / (parts * size)
-        printed = 1e6 / (size if name == "group" else parts * size)
-        took[name] = Join((were_read - began) * each, (were_joined - were_read) * each, (ended - were_joined) * printed)
+        times.append(time.perf_counter())
+        # Of equal groups there is one in the end.
+        counts = [parts * size] * 3 + [size if k is None else parts * size]
+        took[name] = Join(*((end - begin) / count * 1e6 for begin, end, count in zip(times, times[1:], counts)))
     return took
 
 
@@ -368,7 +372,8 @@ def groups_joined(constants: dict[str, float], groups: float, partitions: int, w
     """Milliseconds of joining groups, of which each partition has as many."""
     share = partitions / workers
     own = share * groups * (constants["group read"] + (constants["group joined"] if share > 1 else 0))
-    return (own + lists(workers) * groups * constants["group joined"] + groups * constants["group printed"]) / 1e3
+    others = lists(workers) * groups * (constants["group sent"] + constants["group joined"])
+    return (own + others + groups * constants["group printed"]) / 1e3
 
 
 def hits_joined(constants: dict[str, float], k: float, partitions: int, workers: int) -> float:
@@ -377,8 +382,8 @@ def hits_joined(constants: dict[str, float], k: float, partitions: int, workers:
 
     share = joins.share(int(k), partitions)
     own = partitions / workers * share * (constants["hit read"] + constants["hit joined"])
-    at_the_end = partitions * share * constants["hit joined"]
-    return (own + at_the_end + k * constants["hit printed"]) / 1e3
+    others = partitions * share * (constants["hit sent"] + constants["hit joined"])
+    return (own + others + k * constants["hit printed"]) / 1e3
 
 
 def joined(constants: dict[str, float], documents: float, partitions: int, workers: int) -> float:

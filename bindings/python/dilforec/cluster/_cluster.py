@@ -8,6 +8,7 @@ import itertools
 import os
 import sys
 import threading
+import time
 import uuid
 from collections.abc import Iterable, Sequence
 from dataclasses import dataclass
@@ -24,6 +25,9 @@ from dilforec.cluster._sources import JsonLines, Source
 from dilforec.index import Searcher, Searching, SearchLines
 from dilforec.library import Closed
 from dilforec.values import Answer, Field, Groups, Top
+
+# Seconds between the tries to have all workers answer searches.
+PAUSES = (0.1, 0.5, 2.0)
 
 
 class Counts(NamedTuple):
@@ -200,6 +204,13 @@ def _register(client: distributed.Client) -> None:
     """Has the workers answer searches, those that are there and those that come."""
     # Since version 2023.9.2, Dask has one function for all kinds of plugins.
     register = getattr(client, "register_plugin", None) or client.register_worker_plugin
+    for pause in PAUSES:
+        try:
+            register(ResponderPlugin(), name=ResponderPlugin.name)
+            return
+        except OSError:
+            # A worker died, and the scheduler didn't know.
+            time.sleep(pause)
     register(ResponderPlugin(), name=ResponderPlugin.name)
 
 
