@@ -605,15 +605,16 @@ class Paths(unittest.TestCase):
         """One worker is busy, the others are idle: it answers meanwhile, and no partition is made a second time."""
         with cluster(counted(f"stolen.{number}") for number in range(8)) as many:
             (busy, *_) = MACHINES.with_partitions("has_what")
-            blocking = CLIENT.map(time.sleep, [2, 2.01, 2.02], workers=[busy])
-            began = time.monotonic()
+            path = FOLDER / "idle"
+            blocking = CLIENT.map(_wait_for, [str(path)] * 3, range(3), workers=[busy])
             for _ in range(30):
                 self.assertEqual(many.search("*", groups="tag").count, 80)
-            self.assertLess(time.monotonic() - began, 6, "it waited for the other tasks")
             many.add_source(counted("stolen.8"))
-            del blocking
             time.sleep(1)
             self.assertEqual(many.search("*").count, 90)
+            self.assertFalse(any(future.done() for future in blocking), "it answered before it was idle")
+            path.touch()
+            CLIENT.gather(blocking)
             self.assertEqual([builds(f"stolen.{number}") for number in range(9)], [1] * 9)
 
     def test_beside_others(self):
@@ -692,6 +693,11 @@ def _lose(key, dask_worker):
 
 def _has(key, dask_worker):
     return key in dask_worker.data
+
+
+def _wait_for(path, number):
+    while not os.path.exists(path):
+        time.sleep(0.01)
 
 
 def _size_known(key, dask_scheduler):

@@ -64,15 +64,13 @@ class Cluster(Searching):
     `search`, `hits` and `execute` are those of an index. A hit's stamp is of its `source`: of hits with equal values
     those of the source that was added first come first, and then those of the smaller stamp.
 
-    A partition that is lost with its worker is made again from its source by the next search, which waits for it. If
-    the source has other lines by then, or can't be read, searches raise SourceChanged until it is added again or
-    dropped. No search leaves a partition out: it answers over all of them, or raises, also what Dask raises when the
-    cluster can't go on.
+    Searches go to the workers themselves, those of several threads together, and are joined on the way. With a
+    `timeout`, in seconds, a search raises TimeoutError if it isn't answered in time; the cluster stays as it is.
 
-    What keeps a source from being read is tried again, and then raised as SourceUnreadable.
-
-    Searches go to the workers themselves, those of several threads together, and are joined on the way. `timeout` is a
-    number of seconds after which a search raises TimeoutError; the cluster stays as it is.
+    A partition that is lost with its worker is made again from its source; searches wait for it. If the source has
+    other lines by then, they raise SourceChanged until it is added again or dropped. If an OSError keeps it from being
+    read, that is tried again, and then SourceUnreadable is raised; the next search tries again. No search leaves a
+    partition out: it answers over all of them, or raises, also what Dask raises when the cluster can't go on.
 
     It may be used from several threads. `close`, or the end of a `with`, drops the partitions; the client stays open.
     """
