@@ -563,6 +563,15 @@ class Paths(unittest.TestCase):
                 self.assertTrue(all(len(node.below) <= 16 for node in nodes))
                 nodes = [each for node in nodes for each in node.below]
 
+    def test_threads(self):
+        """Workers of several threads, with more partitions than threads and with fewer, in one process with the client."""
+        with Client(processes=False, n_workers=2, threads_per_worker=3, dashboard_address=None, set_as_default=False) as client:
+            for step in 10, 200:
+                sources = [source(first, first + step) for first in range(0, 200, step)]
+                asked = [line({"search": search}) for seed in range(5) for search in searches(seed)]
+                with Cluster(client, SCHEMA, sources, progress=False) as many, cluster(sources) as others:
+                    self.assertEqual(many._channel.ask_each(asked, None), others._channel.ask_each(asked, None))
+
     def test_through_the_scheduler(self):
         """Workers that the client can't reach by itself."""
         async def fails(*_):

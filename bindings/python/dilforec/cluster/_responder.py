@@ -5,6 +5,7 @@ from __future__ import annotations
 
 import asyncio
 import json
+import math
 import pickle
 from collections.abc import Sequence
 from concurrent.futures import ThreadPoolExecutor
@@ -59,12 +60,25 @@ class Responder:
         task, node, searches = pickle.loads(request)
         others = [asyncio.ensure_future(self._others(Request(task, each, searches))) for each in node.below]
         found, missing = await self._found(node.wanted)
-        count = min(self._threads, len(found)) or 1
-        if count == 1 and not others:
+        chunks, slices = self._cut(found, searches)
+        if len(chunks) == len(slices) == 1 and not others:
             return await self._in_thread(_pickled_reply, task, found, searches, missing)
-        work = [self._in_thread(results, task, found[place::count], searches) for place in range(count)]
-        replies = [Reply(each, ()) for each in await asyncio.gather(*work)] + [await each for each in others]
+        replies = list(await asyncio.gather(*(self._own(task, chunk, slices) for chunk in chunks), *others))
         return await self._in_thread(_joined_replies, task, searches, [*replies, Reply([], missing)])
+
+    def _cut(
+        self, found: Sequence[Found], searches: Sequence[Asked],
+    ) -> tuple[list[Sequence[Found]], list[Sequence[Asked]]]:
+        """Partitions and searches, cut so that each thread has some of both."""
+        count = min(self._threads, len(found)) or 1
+        size = math.ceil(len(searches) * count / self._threads) or 1
+        chunks = [found[place::count] for place in range(count)]
+        return chunks, [searches[first:first + size] for first in range(0, len(searches), size)] or [searches]
+
+    async def _own(self, task: str, found: Sequence[Found], slices: Sequence[Sequence[Asked]]) -> Reply:
+        """What partitions on this worker reply."""
+        parts = await asyncio.gather(*(self._in_thread(results, task, found, searches) for searches in slices))
+        return Reply([answer for part in parts for answer in part], ())
 
     async def _others(self, request: Request) -> Reply:
         """What another worker, with those below it, replies."""
@@ -80,11 +94,11 @@ class Responder:
     async def _found(self, wanted: Sequence[Wanted]) -> tuple[list[Found], list[Missing]]:
         """The partitions that are here, made now if that is asked for, and why the others aren't."""
         looked_up = [self._looked_up(each) for each in wanted]
-        for place, each in enumerate(looked_up):
-            if isinstance(each, Partition):
-                looked_up[place] = await self._made(wanted[place], each)
-        found = [each for each in looked_up if isinstance(each, Found)]
-        return found, [each for each in looked_up if isinstance(each, Missing)]
+        unmade = {place: each for place, each in enumerate(looked_up) if isinstance(each, Partition)}
+        made = await asyncio.gather(*(self._made(wanted[place], each) for place, each in unmade.items()))
+        every = [*looked_up, *made]
+        found = [each for each in every if isinstance(each, Found)]
+        return found, [each for each in every if isinstance(each, Missing)]
 
     def _looked_up(self, wanted: Wanted) -> Found | Missing | Partition:
         """A partition that is here, or why it isn't, or one that has to be made."""
