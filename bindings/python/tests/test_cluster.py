@@ -394,6 +394,7 @@ class Sources(unittest.TestCase):
         self.assertRaises(ValueError, cluster, [b"/tmp/\xff".decode("utf-8", "surrogateescape")])
         with cluster([]) as none:
             self.assertRaises(ValueError, none.search, "*")
+            self.assertRaises(ValueError, none.stats)
         with self.assertRaises(dilforec.BadName):
             Cluster(CLIENT, [dilforec.text("AND")], [Documents("a", list)], progress=False)
 
@@ -608,6 +609,7 @@ class Paths(unittest.TestCase):
             self.assertEqual(many.search_many([Search(query, **given) for query, given in asked]), alone)
             self.assertEqual(many.search_many(["*", "w1"]), [many.search("*"), many.search("w1")])
             self.assertEqual(many.search_many([]), [])
+            self.assertEqual([answer.count for answer in many.search_many(["*"] * 1_000)], [800] * 1_000)
             self.assertRaises(dilforec.Syntax, many.search_many, ["*", "rust OR", "w1"])
 
     def test_stealing(self):

@@ -18,8 +18,8 @@ from dilforec import joins
 _HIT_END = re.compile(rb'\},"stamp":([0-9]+),"value":(-?[0-9]+)\}')
 _TOP = b',"top":['
 
-# A hit of a top list: its value (if values fall, what it is below 0), the place of its partition among all, its stamp, and
-# its text. Sorted, hits are in the order of the list. Plain tuples are pickled in a fraction of the time of named ones.
+# A hit of a top list: its value, negated if values fall; the place of its partition among all; its stamp; its text.
+# Sorted, hits are in the order of the list. Plain tuples are pickled in a fraction of the time of named ones.
 Hit = tuple[int, int, int, bytes]
 
 

@@ -50,11 +50,12 @@ class Rounds:
 
         Besides what Gathering.results raises: TimeoutError if there are none in time.
         """
-        waiting = _Waiting(searches)
         self._check()
-        self._waiting.append(waiting)
+        deadline = _deadline(timeout)
+        together = [_Waiting(searches[first:first + SEARCHES]) for first in range(0, len(searches), SEARCHES)]
+        self._waiting.extend(together)
         self._client.loop.add_callback(self._begin)
-        return self._result(waiting.future, timeout)
+        return [answer for waiting in together for answer in self._result(waiting.future, deadline)]
 
     def summaries(self) -> list[Summary]:
         """What each partition says of itself."""
@@ -82,10 +83,11 @@ class Rounds:
     def _call(self, begin: Callable[[], Coroutine[Any, Any, T]], timeout: Optional[float] = None) -> T:
         """What a coroutine of the client's event loop gives."""
         self._check()
-        return self._result(asyncio.run_coroutine_threadsafe(begin(), self._client.loop.asyncio_loop), timeout)
+        future = asyncio.run_coroutine_threadsafe(begin(), self._client.loop.asyncio_loop)
+        return self._result(future, _deadline(timeout))
 
-    def _result(self, future: concurrent.futures.Future[T], timeout: Optional[float]) -> T:
-        deadline = None if timeout is None else time.monotonic() + timeout
+    def _result(self, future: concurrent.futures.Future[T], deadline: Optional[float]) -> T:
+        """What a future gives, if it does so in time, and the client stays open."""
         while True:
             rest = LOOK if deadline is None else min(LOOK, deadline - time.monotonic())
             try:
@@ -99,9 +101,11 @@ class Rounds:
             self._check()
 
     def _begin(self) -> None:
-        """Begins a round, if searches wait for one and it may begin."""
-        if not self._waiting or len(self._running) >= ROUNDS:
-            return
+        """Begins rounds, as long as searches wait and one more may begin."""
+        while self._waiting and len(self._running) < ROUNDS:
+            self._begin_one()
+
+    def _begin_one(self) -> None:
         together: list[_Waiting] = []
         count = size = 0
         while self._waiting and (not together or count < SEARCHES and size < LINES):
@@ -130,6 +134,10 @@ class Rounds:
         answers = iter([[result[place] for result in results if result] for place in range(len(searches))])
         for waiting in together:
             waiting.future.set_result([next(answers) for _ in waiting.searches])
+
+
+def _deadline(timeout: Optional[float]) -> Optional[float]:
+    return None if timeout is None else time.monotonic() + timeout
 
 
 class _Waiting:

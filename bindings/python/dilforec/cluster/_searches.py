@@ -42,12 +42,19 @@ class Joined:
     @property
     def parts(self) -> dict[str, Part]:
         """The partitions, by the names of their sources."""
-        return {part.source: part for part in self._rounds.parts} if self._rounds else {}
+        rounds = self._rounds
+        return {part.source: part for part in rounds.parts} if rounds else {}
 
     def _open(self) -> Rounds:
         rounds = self._rounds
         if rounds is None:
             raise Closed("closed")
+        return rounds
+
+    def _open_with_parts(self) -> Rounds:
+        rounds = self._open()
+        if not rounds.parts:
+            raise ValueError("the cluster has no source")
         return rounds
 
     def searcher(self) -> Joined:
@@ -71,11 +78,7 @@ class Joined:
 
     def ask_all(self, lines: Sequence[tuple[bytes, Optional[bytes]]]) -> list[bytes]:
         """The joined replies to some searches, each with the names of the fields that its hits have."""
-        rounds, deadline = self._open(), None if self._timeout is None else time.monotonic() + self._timeout
-        if not lines:
-            return []
-        if not rounds.parts:
-            raise ValueError("the cluster has no source")
+        rounds, deadline = self._open_with_parts(), None if self._timeout is None else time.monotonic() + self._timeout
         searches = [_Search(line, names, len(rounds.parts)) for line, names in lines]
         answers = _asked(rounds, [(search, search.first()) for search in searches], deadline)
         ranks = [search.to_ask_again(answer) for search, answer in zip(searches, answers)]
@@ -88,7 +91,7 @@ class Joined:
 
     def stats(self) -> Stats:
         """How large the partitions are together."""
-        return self._open().stats(self._timeout)
+        return self._open_with_parts().stats(self._timeout)
 
 
 def _asked(rounds: Rounds, asked: Sequence[tuple[_Search, Asked]], deadline: Optional[float]) -> list[Partial]:
