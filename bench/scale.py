@@ -192,8 +192,8 @@ class Way:
         line = self.output.readline()
         if not line:
             raise RuntimeError(f"a way ended with {self.process.wait()}")
-        told: dict[str, Any] = json.loads(line)
-        return told
+        found: dict[str, Any] = json.loads(line)
+        return found
 
     def ask(self, asked: str) -> dict[str, Any]:
         self.input.write(asked + "\n")
@@ -241,22 +241,22 @@ def in_turns(ways: dict[str, Way], asked: str) -> dict[str, dict[str, Any]]:
     rounds: dict[str, list[dict[str, Any]]] = {name: [] for name in ways}
     for _, name in itertools.product(range(TURNS), ways):
         rounds[name].append(ways[name].ask(asked))
-    if len({told["digest"] for each in rounds.values() for told in each}) != 1:
+    if len({found["digest"] for each in rounds.values() for found in each}) != 1:
         raise AssertionError(f"the ways {', '.join(ways)} differ")
-    return {name: min(each, key=lambda told: float(told["mean"])) for name, each in rounds.items()}
+    return {name: min(each, key=lambda found: float(found["mean"])) for name, each in rounds.items()}
 
 
 def point(count: int) -> dict[str, Any]:
     """All three ways over `count` documents."""
     with written(count, WORKERS) as paths:
-        told: dict[str, Any] = {"documents": count, "load": os.getloadavg()[0], "json": sum(map(os.path.getsize, paths))}
+        found: dict[str, Any] = {"documents": count, "load": os.getloadavg()[0], "json": sum(map(os.path.getsize, paths))}
         before = {name: built(name, paths) for name in WAYS}
         with Way("one", paths) as index, Way("threads", paths) as of_threads, Way("dask", paths) as cluster:
             ways = {"one": index, "threads": of_threads, "dask": cluster}
             times = in_turns(ways, "mixed")
         for name, way in ways.items():
-            told[name] = {**times[name], **{key: min(value, before[name].get(key, value)) for key, value in way.ready.items()}}
-    return told
+            found[name] = {**times[name], **{key: min(value, before[name].get(key, value)) for key, value in way.ready.items()}}
+    return found
 
 
 def many() -> dict[str, Any]:
@@ -265,15 +265,15 @@ def many() -> dict[str, Any]:
         ways = {"one": index, "dask": cluster}
         top, search = in_turns(ways, "long"), in_turns(ways, "mixed")
         second = max(cluster.ask("mixed together")["second"] for _ in range(TURNS))
-        return {"top": {name: told["mean"] for name, told in top.items()}, "search": {name: told["mean"] for name, told in search.items()},
+        return {"top": {name: found["mean"] for name, found in top.items()}, "search": {name: found["mean"] for name, found in search.items()},
                 "second": second, "build": cluster.ready["build"]}
 
 
 def small(workers: int, partitions: int) -> dict[str, Any]:
     """Partitions of few documents: what a search costs besides itself."""
     with written(partitions * FEW, partitions) as paths, Way("dask", paths, workers) as cluster:
-        told = [cluster.ask("mixed") for _ in range(TURNS)]
-        return {"workers": workers, "partitions": partitions, "mean": min(each["mean"] for each in told), **cluster.ready}
+        found = [cluster.ask("mixed") for _ in range(TURNS)]
+        return {"workers": workers, "partitions": partitions, "mean": min(each["mean"] for each in found), **cluster.ready}
 
 
 def read_alone(path: str) -> float:
@@ -409,7 +409,7 @@ def model(raw: dict[str, Any]) -> dict[str, float]:
     documents, more = base["documents"], max(most["documents"] - least["documents"], 1)
     resident = (most["one"]["resident"] - least["one"]["resident"]) / more or least["one"]["resident"] / least["documents"]
     million = max((most["one"]["mean"] - least["one"]["mean"]) / more * 1e6, 0)
-    start = min(told["build"] for told in raw["small"])
+    start = min(found["build"] for found in raw["small"])
     constants = {
         "build": base["one"]["build"] / documents * 1e6, "beside": max(base["dask"]["build"] - start, 0) * WORKERS / documents * 1e6,
         "turns": base["threads"]["build"] / documents * 1e6, "reading": raw["reading"], "start": start,
@@ -420,7 +420,7 @@ def model(raw: dict[str, Any]) -> dict[str, float]:
         "round": 0.0, "worker": 0.0, "partition": 0.0, "handing": 0.0,
     }
     # What is left of a measured search once all else is taken away.
-    by_size = {(told["workers"], told["partitions"]): told["mean"] for told in raw["small"]}
+    by_size = {(found["workers"], found["partitions"]): found["mean"] for found in raw["small"]}
     few, base_of_four, many_of_four = (by_size[size] - of_cluster(constants, FEW, size[1], size[0]) for size in FITTED)
     (_, parts), (workers, share), (_, full) = FITTED
     constants["partition"] = max((many_of_four - base_of_four) / (full / workers - share / workers), 0)
@@ -491,14 +491,14 @@ def points_shown(raw: dict[str, Any], constants: dict[str, float]) -> tuple[str,
     heads = [f"{head} | model | ratio" for head, _ in COLUMNS.values()]
     rows = ["| documents | | " + " | ".join(heads) + " | median, ms | 99 %, ms |", "|---|---|" + "---:|" * (3 * len(heads) + 2)]
     ratios = []
-    for (place, told), way in itertools.product(enumerate(raw["points"]), WAYS):
-        said = predicted(way, constants, told["documents"])
+    for (place, found), way in itertools.product(enumerate(raw["points"]), WAYS):
+        said = predicted(way, constants, found["documents"])
         cells = []
         for name, (_, unit) in COLUMNS.items():
-            ratios.append(Ratio(told[way][name] / said[name], is_fitted(way, name, place, len(raw["points"]))))
-            cells += [figure(told[way][name] * unit), figure(said[name] * unit), str(ratios[-1])]
-        cells += [figure(told[way]["median"]), figure(told[way]["most"])]
-        rows.append(f"| {told['documents']:,} | {NAMES[way]} | " + " | ".join(cells) + " |")
+            ratios.append(Ratio(found[way][name] / said[name], is_fitted(way, name, place, len(raw["points"]))))
+            cells += [figure(found[way][name] * unit), figure(said[name] * unit), str(ratios[-1])]
+        cells += [figure(found[way]["median"]), figure(found[way]["most"])]
+        rows.append(f"| {found['documents']:,} | {NAMES[way]} | " + " | ".join(cells) + " |")
     last = raw["points"][-1]
     times = last["dask"]["mean"] / last["threads"]["mean"]
     return "\n".join(rows) + f"\n\nOver {last['documents']:,} documents a search takes {times:.2f} times as long on Dask as by threads.", ratios
@@ -507,26 +507,26 @@ def points_shown(raw: dict[str, Any], constants: dict[str, float]) -> tuple[str,
 def clusters_shown(raw: dict[str, Any], constants: dict[str, float]) -> tuple[str, list[Ratio]]:
     rows = [f"| partitions of {FEW:,} documents | Dask workers | search, mean ms | model | ratio |", "|---:|---:|---:|---:|---:|"]
     ratios = []
-    for told in raw["small"]:
-        said = of_cluster(constants, FEW, told["partitions"], told["workers"])
-        ratios.append(Ratio(told["mean"] / said, (told["workers"], told["partitions"]) in FITTED))
-        rows.append(f"| {told['partitions']} | {told['workers']} | {figure(told['mean'])} | {figure(said)} | {ratios[-1]} |")
+    for found in raw["small"]:
+        said = of_cluster(constants, FEW, found["partitions"], found["workers"])
+        ratios.append(Ratio(found["mean"] / said, (found["workers"], found["partitions"]) in FITTED))
+        rows.append(f"| {found['partitions']} | {found['workers']} | {figure(found['mean'])} | {figure(said)} | {ratios[-1]} |")
     return "\n".join(rows), ratios
 
 
 def many_shown(raw: dict[str, Any]) -> str:
-    told = raw["many"]
+    found = raw["many"]
     rows = [
-        (f"milliseconds of a top list of {LONG_TOP:,}", told["top"]["dask"]), ("and in one index", told["top"]["one"]),
-        ("times as long", told["top"]["dask"] / told["top"]["one"]), ("milliseconds of a search alone", told["search"]["dask"]),
-        (f"searches a second, from {THREADS} threads", told["second"]),
+        (f"milliseconds of a top list of {LONG_TOP:,}", found["top"]["dask"]), ("and in one index", found["top"]["one"]),
+        ("times as long", found["top"]["dask"] / found["top"]["one"]), ("milliseconds of a search alone", found["search"]["dask"]),
+        (f"searches a second, from {THREADS} threads", found["second"]),
     ]
     title = f"{PARTITIONS} partitions of {FEW:,} documents on {WORKERS} Dask workers"
     return "\n".join([f"| {title} | |", "|---|---:|", *(f"| {words} | {figure(value)} |" for words, value in rows)])
 
 
 def constants_shown(constants: dict[str, float]) -> str:
-    told = [
+    found = [
         ("microseconds to build a document, in one process", constants["build"]),
         (f"in each of {WORKERS} beside each other", constants["beside"]),
         (f"by {WORKERS} threads of one process", constants["turns"]),
@@ -544,7 +544,7 @@ def constants_shown(constants: dict[str, float]) -> str:
         ("and per partition of a worker", constants["partition"]),
         *((f"microseconds per {name} that is {part}", constants[f"{name} {part}"]) for name in ("hit", "group") for part in Join._fields),
     ]
-    return "\n".join(["| constant of the model | |", "|---|---:|", *(f"| {words} | {figure(value)} |" for words, value in told)])
+    return "\n".join(["| constant of the model | |", "|---|---:|", *(f"| {words} | {figure(value)} |" for words, value in found)])
 
 
 def machines_shown(constants: dict[str, float], machines: int = 100, documents: float = 1e10) -> str:
@@ -552,7 +552,7 @@ def machines_shown(constants: dict[str, float], machines: int = 100, documents: 
     workers = machines * WORKERS
     said = predicted("dask", constants, documents, workers)
     alone = searched(constants, documents / workers)
-    told = [
+    found = [
         ("documents of a partition", documents / workers),
         ("gigabytes of a machine", (said["resident"] / machines + constants["empty"] * WORKERS) / 1e9),
         ("minutes to build", said["build"] / 60), ("milliseconds of a search alone", said["mean"]),
@@ -563,7 +563,7 @@ def machines_shown(constants: dict[str, float], machines: int = 100, documents: 
         ("minutes until a lost machine's partitions are there again, on as many idle workers", constants["beside"] * documents / workers / 1e6 / 60),
     ]
     title = f"By the model, {machines} machines of {WORKERS} workers with {documents:,.0f} documents, a partition for each worker"
-    return "\n".join([f"| {title} | |", "|---|---:|", *(f"| {words} | {figure(value)} |" for words, value in told)])
+    return "\n".join([f"| {title} | |", "|---|---:|", *(f"| {words} | {figure(value)} |" for words, value in found)])
 
 
 def figure(value: float) -> str:

@@ -409,16 +409,16 @@ class Sources(unittest.TestCase):
     def test_added_and_dropped(self):
         """A new source, and one that goes, touch no other partition."""
         with cluster([source(0, 10), source(10, 20)]) as many:
-            kept = {name: part.future.key for name, part in many._channel.parts.items()}
+            keys = {name: part.future.key for name, part in many._channel.parts.items()}
             many.add_source(source(20, 25))
             self.assertEqual((many.search("*").count, list(many.counts())), (25, ["0", "10", "20"]))
             many.drop_source("10")
             self.assertEqual((many.search("*").count, list(many.counts())), (15, ["0", "20"]))
-            self.assertEqual(many._channel.parts["0"].future.key, kept["0"])
+            self.assertEqual(many._channel.parts["0"].future.key, keys["0"])
             deadline = time.monotonic() + 10
-            while kept["10"] in CLIENT.who_has() and time.monotonic() < deadline:
+            while keys["10"] in CLIENT.who_has() and time.monotonic() < deadline:
                 time.sleep(0.05)
-            self.assertNotIn(kept["10"], CLIENT.who_has())
+            self.assertNotIn(keys["10"], CLIENT.who_has())
 
 
 class Lost(unittest.TestCase):
