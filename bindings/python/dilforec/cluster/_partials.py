@@ -8,18 +8,19 @@ from __future__ import annotations
 import collections
 import itertools
 import json
-import re
 from collections.abc import Sequence
 from typing import Any, NamedTuple, Optional, Union
 
 from dilforec import joins
 
-# A document has no object within, and a quote within a text is escaped, so only the end of a hit looks like this.
-_HIT_END = re.compile(rb'\},"stamp":([0-9]+),"value":(-?[0-9]+)\}')
-_TOP = b',"top":['
+# What is between the members of a reply, and around the hits of its top list. A document has no object within, and a
+# quote within a text is escaped, so nothing else in a reply looks like these.
+_TOP, _FIRST, _NEXT, _LAST = b',"top":[', b'{"doc":{', b'},{"doc":{', b'}]}\n'
+_STAMP, _VALUE = b'},"stamp":', b',"value"'
 
-# A hit of a top list: its value, negated if values fall; the place of its partition among all; its stamp; its text.
-# Sorted, hits are in the order of the list. Plain tuples are pickled in a fraction of the time of named ones.
+# A hit of a top list: its value, negated if values fall; the place of its partition among all; its stamp; its text
+# without what is around it. Sorted, hits are in the order of the list. Plain tuples are pickled in a fraction of the time
+# of named ones.
 Hit = tuple[int, int, int, bytes]
 
 
@@ -52,12 +53,13 @@ def partial(reply: bytes, rank: int, source: bytes, is_falling: bool) -> Partial
 
 def _hits(reply: bytes, begin: int, rank: int, mark: bytes, is_falling: bool) -> list[Hit]:
     """The hits of a reply's top list, which begins there. The mark is put after each document."""
-    hits, sign = [], -1 if is_falling else 1
-    for end in _HIT_END.finditer(reply, begin):
-        document = end.start() + 1
-        text = reply[begin:document] + mark + reply[document:end.end()]
-        hits.append((sign * int(end[2]), rank, int(end[1]), text))
-        begin = end.end() + 1
+    hits: list[Hit] = []
+    sign = -1 if is_falling else 1
+    if reply.startswith(_FIRST, begin):
+        texts = reply[begin + len(_FIRST):-len(_LAST)].replace(_STAMP, b"}" + mark + _STAMP[1:]).split(_NEXT)
+        for text in texts:
+            _, stamp, value = text.rsplit(b":", 2)
+            hits.append((sign * int(value), rank, int(stamp[:-len(_VALUE)]), text))
     return hits
 
 
@@ -107,4 +109,6 @@ def encoded(answer: Partial) -> bytes:
         head["groups"] = list(zip(*answer.groups))
     if answer.hits is None:
         return joins.encoded(head)
-    return b"%b%b%b]}\n" % (joins.encoded(head)[:-2], _TOP, b",".join([hit[3] for hit in answer.hits]))
+    if not answer.hits:
+        return joins.encoded({**head, "top": []})
+    return b"".join([joins.encoded(head)[:-2], _TOP, _FIRST, _NEXT.join([hit[3] for hit in answer.hits]), _LAST])
