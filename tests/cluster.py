@@ -93,7 +93,7 @@ def with_distributed():
 
 def unittests(name, python, *paths):
     """Counts the tests of a module of bindings/python/tests; what they print goes on."""
-    done = run(python, "-m", "unittest", name, env=environment(PACKAGE, PACKAGE / "tests", *paths))
+    done = run(python, "-m", "unittest", name, env=environment(PACKAGE, PACKAGE / "tests", *paths), seconds=480)
     tests = int((re.search(r"Ran (\d+) test", done.said) or [0, 0])[1])
     bad = len(re.findall(r"^(?:FAIL|ERROR): ", done.said, re.MULTILINE))
     if done.status != 0 or not tests:

@@ -45,8 +45,8 @@ SCHEMA = (
     dilforec.text("title", default=True), dilforec.keyword("tag", default=True), dilforec.u64("price"),
     dilforec.i64("temp"),
 )
-CUTTINGS = int(os.environ.get("DILFOREC_CUTTINGS", 200))
-DOCUMENTS = int(os.environ.get("DILFOREC_DOCUMENTS", 1_000_000))
+CUTTINGS = int(os.environ.get("DILFOREC_CUTTINGS", 120))
+DOCUMENTS = int(os.environ.get("DILFOREC_DOCUMENTS", 400_000))
 WORDS = [f"w{number}" for number in range(300)]
 # Texts that might be taken for a part of a reply.
 AWKWARD = ['a},"stamp":1,"value":2}', '{"doc":{', ',"top":[', '"\\', "é\u2028\U0001f600", "\x00\x1f\x7f\t", "plain", "}]}"]
@@ -211,7 +211,7 @@ class Exact(unittest.TestCase):
             return JsonLines(written(name, map(line, documents)))
         return Script(written(name, [line({"add": document}) for document in documents]))
 
-    def test_a_million(self):
+    def test_many_documents(self):
         """Many documents over 8 partitions; workers are killed while they are searched, and then two at once."""
         step = DOCUMENTS // 8
         asked = [
