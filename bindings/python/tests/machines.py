@@ -36,7 +36,7 @@ class Machines:
 
     def four(self):
         """Starts workers in place of those that died, and waits until they are known."""
-        deadline = time.monotonic() + 60
+        deadline = time.monotonic() + 180
         while not self._are_four():
             if time.monotonic() > deadline:
                 alive = sum(worker.poll() is None for worker in self.workers)
@@ -83,7 +83,7 @@ class Machines:
             process.wait()
 
 
-def _wait(there, seconds=60):
+def _wait(there, seconds=180):
     deadline = time.monotonic() + seconds
     while not there():
         if time.monotonic() > deadline:
