@@ -23,10 +23,14 @@ class Machines:
         self.scheduler = self._started("scheduler", "--port", "0", "--host", "127.0.0.1")
         self.workers = []
         self.client = None
-        _wait(self.file.exists)
-        self.four()
-        self.client = Client(scheduler_file=str(self.file))
-        self.four()
+        try:
+            _wait(self.file.exists)
+            self.four()
+            self.client = Client(scheduler_file=str(self.file))
+            self.four()
+        except BaseException:
+            self.close()
+            raise
 
     def _started(self, kind, *options):
         module = f"distributed.cli.dask_{kind}"
@@ -77,7 +81,8 @@ class Machines:
         return 0
 
     def close(self):
-        self.client.close()
+        if self.client:
+            self.client.close()
         for process in (*self.workers, self.scheduler):
             process.kill()
             process.wait()
