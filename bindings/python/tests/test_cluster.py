@@ -524,7 +524,7 @@ class Lost(unittest.TestCase):
             for call in (functools.partial(many.search, "*", timeout=0.3), many.searcher(timeout=0.3).stats,
                          functools.partial(many.search_many, ["*", "x"], timeout=0.3)):
                 self.assertRaises(TimeoutError, call)
-            self.assertEqual(many.search("*", timeout=60).count, 10)
+            self.assertEqual(many.search("*", timeout=300).count, 10)
             self.assertRaises(ValueError, many.search, "*", timeout=0)
 
 
