@@ -1,34 +1,37 @@
-"""Times builds and searches of one process, of four partitions in one process, and of four Dask workers, and a model of them.
+#!/usr/bin/env python3
+"""Times builds and searches of one process, of four partitions in one process, and of Dask workers, and a model of them.
 
     python3 bench/scale.py [DOCUMENTS ..]
 
 It needs `distributed` (tests/cluster.py says how to get it) and the shared object of bindings/python/link.py. Without an argument there are
-100,000, 1,000,000 and 10,000,000 documents, which take 6 GB of memory and 2 GB of disk. Each way runs in a process of its own, ROUNDS times, and
-its quickest build and its quickest searches count. All ways read the same files of JSON lines, and must give the same counts, groups and values
-of top lists.
+100,000, 1,000,000 and 10,000,000 documents, which take 16 GB of memory and 2 GB of disk. Each way runs in a process of its own. Those that are
+compared are there at the same time and take turns, TURNS rounds each, of which the quickest counts; the quickest of BUILDS builds counts too. All
+ways read the same files of JSON lines, and must give the same counts, groups and values of top lists.
 
-`model` takes its constants from one process, from threads over the fewest documents, and from Dask over next to none; `shown` has what it says
-beside every point that was measured, and of 100 machines.
+`many` has the documents cut into many small partitions: long top lists beside one index, and searches from many threads. `model` takes its
+constants from some of the points, which `FITTED` names, and is judged by the others.
 """
 # Dask has no types.
 # mypy: allow-untyped-calls
 from __future__ import annotations
 
+import contextlib
 import hashlib
 import itertools
 import json
 import math
 import os
 import pathlib
+import pickle
 import random
 import statistics
 import subprocess
 import sys
 import tempfile
 import time
-from collections.abc import Callable, Iterator
+from collections.abc import Callable, Iterable, Iterator
 from concurrent.futures import ProcessPoolExecutor, ThreadPoolExecutor
-from typing import Any
+from typing import Any, NamedTuple
 
 ROOT = pathlib.Path(__file__).resolve().parent.parent
 sys.path.insert(0, str(ROOT / "bindings/python"))
@@ -39,17 +42,21 @@ COUNTS = (100_000, 1_000_000, 10_000_000)
 WORKERS = 4
 # Fewer than other timings have, so that ten million documents fit into a small machine.
 WORDS_EACH = 10
-ROUNDS = 2
+TURNS, BUILDS = 4, 2
 # How near the model has to come: within a third.
 NEAR = 1 / 3
-# Documents of the clusters that tell what a task costs: so few that their own searches take next to nothing.
-FEW, FEW_PARTS, MORE_PARTS = 1_000, 4, 16
+# Documents of the small partitions, so few that their searches take next to nothing.
+FEW = 1_000
+# Workers and partitions of the clusters that tell what a round, a worker and a partition cost, and of those that judge that.
+FITTED, JUDGED = ((1, 4), (4, 4), (4, 64)), ((2, 8), (4, 16), (4, 256))
+# Partitions of `many`, the threads that search them at once, and how long a top list of them is.
+PARTITIONS, THREADS, LONG_TOP = 400, 64, 10_000
 SEARCHES = 200
 
 
 # Searches.
 
-def searches() -> Iterator[bytes]:
+def mixed() -> Iterator[bytes]:
     """In turn: a word, two words that both have to match, a range with groups, and a word with a top list."""
     chance = random.Random(7)
     for number in range(SEARCHES):
@@ -62,29 +69,41 @@ def searches() -> Iterator[bytes]:
         ][number % 4]}).encode()
 
 
-def timed(ask: Callable[[bytes], bytes]) -> dict[str, Any]:
-    """Milliseconds of the searches, of the quicker of two rounds, and a digest of what partitions don't change in the replies."""
+def long_tops() -> Iterator[bytes]:
+    """Long top lists over all documents and over those with a frequent word, rising and falling."""
+    for query, order in itertools.product(["*", corpus.WORDS[0], corpus.WORDS[1]], ["rising", "falling"]):
+        yield json.dumps({"search": {"query": query, "top": {"by": "price", "k": LONG_TOP, "order": order}}}).encode()
+
+
+SETS: dict[str, Callable[[], Iterable[bytes]]] = {"mixed": mixed, "long": long_tops}
+
+
+def timed(ask: Callable[[bytes], bytes], lines: Iterable[bytes]) -> dict[str, Any]:
+    """Milliseconds of searches, and a digest of what partitions don't change in the replies."""
     digest = hashlib.blake2b(digest_size=8)
-    first = []
-    for line in searches():
-        reply, took = answered(ask, line)
-        first.append(took)
-        told = json.loads(reply)
-        told["top"] = [hit["value"] for hit in told.get("top", [])]
-        digest.update(json.dumps(told, sort_keys=True).encode())
-    times = min(first, [answered(ask, line)[1] for line in searches()], key=sum)
+    times = []
+    for line in lines:
+        began = time.perf_counter()
+        reply = ask(line)
+        times.append((time.perf_counter() - began) * 1e3)
+        answer = json.loads(reply)
+        answer["top"] = [hit["value"] for hit in answer.get("top", [])]
+        digest.update(json.dumps(answer, sort_keys=True).encode())
     ranks = statistics.quantiles(times, n=100)
     return {"mean": statistics.fmean(times), "median": ranks[49], "most": ranks[98], "digest": digest.hexdigest()}
 
 
-def answered(ask: Callable[[bytes], bytes], line: bytes) -> tuple[bytes, float]:
-    """The reply to a search, and its milliseconds."""
-    began = time.perf_counter()
-    reply = ask(line)
-    return reply, (time.perf_counter() - began) * 1e3
+def together(ask: Callable[[bytes], bytes], lines: Iterable[bytes]) -> dict[str, Any]:
+    """Searches a second of THREADS threads."""
+    every = list(lines) * math.ceil(10 * THREADS / SEARCHES)
+    with ThreadPoolExecutor(THREADS) as pool:
+        began = time.perf_counter()
+        for _ in pool.map(ask, every):
+            pass
+    return {"second": len(every) / (time.perf_counter() - began)}
 
 
-# The three ways, each in a process of its own.
+# The ways, each in a process of its own: a line of JSON when it is ready, and one for each line that it is given.
 
 def resident() -> int:
     """Bytes that are resident in this process."""
@@ -97,7 +116,15 @@ def schema() -> tuple[Any, ...]:
     return tuple(dilforec.Field(field["name"], field["kind"], field.get("default", False)) for field in corpus.SCHEMA["schema"])
 
 
-def one(paths: list[str]) -> dict[str, Any]:
+def serve(ask: Callable[[bytes], bytes], **ready: Any) -> None:
+    """Says that a way is ready, and has it search as it is asked: `SET` for one thread, `SET together` for many."""
+    print(json.dumps(ready), flush=True)
+    for asked in sys.stdin:
+        name, _, how = asked.strip().partition(" ")
+        print(json.dumps((together if how else timed)(ask, SETS[name]())), flush=True)
+
+
+def one(paths: list[str], workers: int) -> None:
     """One partition of all files, in this process."""
     from dilforec.cluster._partitions import Partition
     from dilforec.cluster._sources import JsonLines
@@ -107,13 +134,13 @@ def one(paths: list[str]) -> dict[str, Any]:
             return itertools.chain.from_iterable(JsonLines(path).lines() for path in paths)
 
     empty, began = resident(), time.perf_counter()
-    index = Partition(schema(), Files(paths[0])).held().index
+    index = Partition(schema(), Files(paths[0])).built().index
     built = time.perf_counter() - began
     with index.searcher() as searcher:
-        return {"build": built, "resident": resident() - empty, **timed(searcher.execute)}
+        serve(searcher.execute, build=built, resident=resident() - empty)
 
 
-def threads(paths: list[str]) -> dict[str, Any]:
+def threads(paths: list[str], workers: int) -> None:
     """A partition for each path, each made and searched by a thread of its own."""
     from dilforec import joins
     from dilforec.cluster._partitions import Partition
@@ -121,7 +148,7 @@ def threads(paths: list[str]) -> dict[str, Any]:
 
     empty, began = resident(), time.perf_counter()
     with ThreadPoolExecutor(len(paths)) as pool:
-        made = list(pool.map(lambda path: Partition(schema(), JsonLines(path)).held().index, paths))
+        made = list(pool.map(lambda path: Partition(schema(), JsonLines(path)).built().index, paths))
         built = time.perf_counter() - began
         searchers = [index.searcher() for index in made]
 
@@ -129,33 +156,56 @@ def threads(paths: list[str]) -> dict[str, Any]:
             replies: Iterator[Any] = pool.map(lambda searcher: json.loads(searcher.execute(line)), searchers)
             return joins.encoded(joins.answer(json.loads(line)["search"], list(replies)))
 
-        return {"build": built, "resident": resident() - empty, **timed(ask)}
+        serve(ask, build=built, resident=resident() - empty)
 
 
-def dask(paths: list[str]) -> dict[str, Any]:
-    """A partition for each path, on four workers."""
+def dask(paths: list[str], workers: int) -> None:
+    """A partition for each path, on Dask workers of one thread."""
     from distributed import Client, LocalCluster
 
     from dilforec.cluster import Cluster
 
-    with LocalCluster(n_workers=WORKERS, threads_per_worker=1, dashboard_address=None, memory_limit=0) as local, Client(local) as client:
-        client.wait_for_workers(WORKERS, timeout=60)
+    with LocalCluster(n_workers=workers, threads_per_worker=1, dashboard_address=None, memory_limit=0) as local, Client(local) as client:
+        client.wait_for_workers(workers, timeout=60)
         empty = sum(client.run(resident).values())
         began = time.perf_counter()
         with Cluster(client, schema(), paths, progress=False) as cluster:
             built = time.perf_counter() - began
             held = sum(client.run(resident).values())
-            return {"build": built, "resident": held - empty, "empty": empty / WORKERS, **timed(cluster.execute)}
+            serve(cluster.execute, build=built, resident=held - empty, empty=empty / workers)
 
 
 WAYS = {"one": one, "threads": threads, "dask": dask}
 
 
-def run(way: str, paths: list[str]) -> dict[str, Any]:
-    """What a way tells, in a process of its own."""
-    done = subprocess.run([sys.executable, __file__, "--way", way, *paths], stdout=subprocess.PIPE, check=True, text=True)
-    told: dict[str, Any] = json.loads(done.stdout.splitlines()[-1])
-    return told
+class Way:
+    """A way that is ready in a process of its own. At the end of a `with`, it ends."""
+
+    def __init__(self, name: str, paths: list[str], workers: int = WORKERS) -> None:
+        self.process = subprocess.Popen(
+            [sys.executable, __file__, "--way", name, str(workers), *paths], stdin=subprocess.PIPE, stdout=subprocess.PIPE, text=True)
+        assert self.process.stdin and self.process.stdout
+        self.input, self.output = self.process.stdin, self.process.stdout
+        self.ready = self.read()
+
+    def read(self) -> dict[str, Any]:
+        line = self.output.readline()
+        if not line:
+            raise RuntimeError(f"a way ended with {self.process.wait()}")
+        found: dict[str, Any] = json.loads(line)
+        return found
+
+    def ask(self, asked: str) -> dict[str, Any]:
+        self.input.write(asked + "\n")
+        self.input.flush()
+        return self.read()
+
+    def __enter__(self) -> Way:
+        return self
+
+    def __exit__(self, *_: object) -> None:
+        self.input.close()
+        self.process.wait()
 
 
 # What is measured.
@@ -167,73 +217,120 @@ def write(path: str, count: int, seed: int) -> None:
             file.write(json.dumps(document._asdict(), separators=(",", ":")) + "\n")
 
 
-def written(folder: str, count: int, parts: int) -> list[str]:
+@contextlib.contextmanager
+def written(count: int, parts: int) -> Iterator[list[str]]:
     """Files of JSON lines, `count` documents in all."""
-    paths = [f"{folder}/{count}.{parts}.{part}.jsonl" for part in range(parts)]
-    with ProcessPoolExecutor(WORKERS) as pool:
-        list(pool.map(write, paths, itertools.repeat(count // parts), range(1, parts + 1)))
-    return paths
+    with tempfile.TemporaryDirectory() as folder:
+        paths = [f"{folder}/{part}.jsonl" for part in range(parts)]
+        with ProcessPoolExecutor(WORKERS) as pool:
+            list(pool.map(write, paths, itertools.repeat(count // parts), range(1, parts + 1)))
+        yield paths
 
 
-def quickest(way: str, paths: list[str]) -> dict[str, Any]:
-    """What the runs of a way tell: the least of each number, and the searches of the quickest run."""
-    runs = [run(way, paths) for _ in range(ROUNDS)]
-    least = {name: min(told[name] for told in runs) for name in runs[0].keys() & {"build", "resident", "empty"}}
-    told = min(runs, key=lambda told: float(told["mean"]))
-    return {**told, **least}
+def built(name: str, paths: list[str]) -> dict[str, Any]:
+    """The least of what some builds took, each of which ends before the next begins."""
+    runs = []
+    for _ in range(BUILDS - 1):
+        with Way(name, paths) as way:
+            runs.append(way.ready)
+    return {key: min(run[key] for run in runs) for key in runs[0]} if runs else {}
 
 
-def point(folder: str, count: int) -> dict[str, Any]:
+def in_turns(ways: dict[str, Way], asked: str) -> dict[str, dict[str, Any]]:
+    """The quickest round of searches of each way. They take turns, and must agree."""
+    rounds: dict[str, list[dict[str, Any]]] = {name: [] for name in ways}
+    for _, name in itertools.product(range(TURNS), ways):
+        rounds[name].append(ways[name].ask(asked))
+    if len({found["digest"] for each in rounds.values() for found in each}) != 1:
+        raise AssertionError(f"the ways {', '.join(ways)} differ")
+    return {name: min(each, key=lambda found: float(found["mean"])) for name, each in rounds.items()}
+
+
+def point(count: int) -> dict[str, Any]:
     """All three ways over `count` documents."""
-    paths = written(folder, count, WORKERS)
-    told: dict[str, Any] = {"documents": count, "load": os.getloadavg()[0], "json": sum(map(os.path.getsize, paths))}
-    told |= {way: quickest(way, paths) for way in WAYS}
-    for path in paths:
-        os.unlink(path)
-    if len({told[way]["digest"] for way in WAYS}) != 1:
-        raise AssertionError(f"the ways differ over {count} documents")
-    return told
+    with written(count, WORKERS) as paths:
+        found: dict[str, Any] = {"documents": count, "load": os.getloadavg()[0], "json": sum(map(os.path.getsize, paths))}
+        before = {name: built(name, paths) for name in WAYS}
+        with Way("one", paths) as index, Way("threads", paths) as of_threads, Way("dask", paths) as cluster:
+            ways = {"one": index, "threads": of_threads, "dask": cluster}
+            times = in_turns(ways, "mixed")
+        for name, way in ways.items():
+            found[name] = {**times[name], **{key: min(value, before[name].get(key, value)) for key, value in way.ready.items()}}
+    return found
+
+
+def many() -> dict[str, Any]:
+    """Many small partitions on four workers, beside one index of all their documents."""
+    with written(PARTITIONS * FEW, PARTITIONS) as paths, Way("one", paths) as index, Way("dask", paths) as cluster:
+        ways = {"one": index, "dask": cluster}
+        top, search = in_turns(ways, "long"), in_turns(ways, "mixed")
+        second = max(cluster.ask("mixed together")["second"] for _ in range(TURNS))
+        return {"top": {name: found["mean"] for name, found in top.items()}, "search": {name: found["mean"] for name, found in search.items()},
+                "second": second, "build": cluster.ready["build"]}
+
+
+def small(workers: int, partitions: int) -> dict[str, Any]:
+    """Partitions of few documents: what a search costs besides itself."""
+    with written(partitions * FEW, partitions) as paths, Way("dask", paths, workers) as cluster:
+        found = [cluster.ask("mixed") for _ in range(TURNS)]
+        return {"workers": workers, "partitions": partitions, "mean": min(each["mean"] for each in found), **cluster.ready}
 
 
 def read_alone(path: str) -> float:
     """Seconds of reading a file's lines as a partition does, without an index."""
-    from dilforec.cluster._sources import JsonLines
+    from dilforec.cluster._sources import JsonLines, whole_lines
 
     source, digest = JsonLines(path), hashlib.blake2b(digest_size=16)
     began = time.perf_counter()
-    lines = source.lines()
+    lines = whole_lines(source.lines())
     while block := list(itertools.islice(lines, 256)):
         digest.update(b"".join(block))
         b"".join(source.command(line, ()) + b"\n" for line in block)
     return time.perf_counter() - began
 
 
-def joining() -> dict[str, float]:
-    """Microseconds of joining a hit of a top list, and a group, from the bytes of the replies on."""
+class Join(NamedTuple):
+    """Microseconds of a hit or a group: to read it from a partition's reply, to send it, to join it with others', to print it."""
+    read: float
+    sent: float
+    joined: float
+    printed: float
+
+
+def joining() -> dict[str, Join]:
+    """What the joining of a hit of a top list, and of a group, takes."""
     from dilforec import joins
+    from dilforec.cluster import _partials, _requests
 
     parts, size = 8, 10_000
     hits: dict[str, Any] = {"count": size, "top": [{"doc": {"price": number}, "stamp": number, "value": number} for number in range(size)]}
     groups: dict[str, Any] = {"count": size, "groups": [[f"k{number:07}", 1] for number in range(size)]}
     took = {}
-    asked: dict[str, dict[str, Any]] = {"hit": {"top": {"k": size, "order": "rising"}}, "group": {"groups": "k"}}
-    for (name, search), reply in zip(asked.items(), (hits, groups)):
-        told = [joins.encoded(reply)] * parts
-        began = time.perf_counter()
-        joins.encoded(joins.answer(search, [json.loads(each) for each in told]))
-        took[name] = (time.perf_counter() - began) / (parts * size) * 1e6
+    for name, reply, k in ("hit", hits, parts * size), ("group", groups, None):
+        line = joins.encoded(reply)
+        times = [time.perf_counter()]
+        read = [_partials.partial(line, rank, b'"source"', False) for rank in range(parts)]
+        times.append(time.perf_counter())
+        sent = pickle.loads(_requests.Reply(read, ()).pickled()).results
+        times.append(time.perf_counter())
+        answer = _partials.joined(sent, k)
+        times.append(time.perf_counter())
+        _partials.encoded(answer)
+        times.append(time.perf_counter())
+        # Of equal groups there is one in the end.
+        counts = [parts * size] * 3 + [size if k is None else parts * size]
+        took[name] = Join(*((end - begin) / count * 1e6 for begin, end, count in zip(times, times[1:], counts)))
     return took
 
 
 def measure(counts: tuple[int, ...] = COUNTS) -> dict[str, Any]:
-    with tempfile.TemporaryDirectory() as folder:
-        few = {parts: quickest("dask", written(folder, FEW * parts, parts)) for parts in (FEW_PARTS, MORE_PARTS)}
-        (path,) = written(folder, 100_000, 1)
-        reading = min(read_alone(path) for _ in range(ROUNDS)) / 100_000 * 1e6
-        return {
-            "points": [point(folder, count) for count in counts], "few": few, "reading": reading, "joining": joining(),
-            "processors": os.cpu_count(), "words each": WORDS_EACH,
-        }
+    with written(100_000, 1) as (path,):
+        reading = min(read_alone(path) for _ in range(TURNS)) / 100_000 * 1e6
+    return {
+        "small": [small(*each) for each in (*FITTED, *JUDGED)], "many": many(), "points": [point(count) for count in counts],
+        "reading": reading, "joining": {name: list(took) for name, took in joining().items()},
+        "processors": os.cpu_count(), "words each": WORDS_EACH,
+    }
 
 
 # The model.
@@ -243,56 +340,107 @@ def groups_of(documents: float) -> float:
     return corpus.TAGS * (1 - math.exp(-documents / 10 / corpus.TAGS))
 
 
-def joined(constants: dict[str, float], documents: float, parts: int) -> float:
-    """Mean milliseconds of joining the answers of partitions. One search in four has groups, one a top ten."""
-    return parts * (groups_of(documents) * constants["joined group"] + 10 * constants["joined hit"]) / 4 / 1e3
-
-
 def searched(constants: dict[str, float], documents: float) -> float:
     """Mean milliseconds of a search in one partition of `documents` documents."""
-    return constants["million"] * math.pow(documents / 1e6, constants["power"])
+    return constants["alone"] + constants["million"] * documents / 1e6
+
+
+def asked(constants: dict[str, float], workers: int) -> float:
+    """Milliseconds until all workers are asked: those that one asks are asked one after the other."""
+    from dilforec.cluster._requests import FAN_OUT
+
+    return constants["worker"] * (workers if workers <= FAN_OUT else 1 + below(workers, FAN_OUT))
+
+
+def below(workers: int, fan_out: int) -> int:
+    """How many workers are asked one after the other, from the top of a tree of some workers to its last."""
+    others = workers - 1
+    if not others:
+        return 0
+    count = min(others, fan_out)
+    return count + below(math.ceil(others / count), fan_out)
+
+
+def lists(workers: int) -> int:
+    """How many lists are joined one after the other, from the last worker of a tree to the client."""
+    from dilforec.cluster._requests import FAN_OUT
+
+    return workers if workers <= FAN_OUT else 1 + below(workers, FAN_OUT)
+
+
+def groups_joined(constants: dict[str, float], groups: float, partitions: int, workers: int) -> float:
+    """Milliseconds of joining groups, of which each partition has as many."""
+    share = partitions / workers
+    own = share * groups * (constants["group read"] + (constants["group joined"] if share > 1 else 0))
+    others = lists(workers) * groups * (constants["group sent"] + constants["group joined"])
+    return (own + others + groups * constants["group printed"]) / 1e3
+
+
+def hits_joined(constants: dict[str, float], k: float, partitions: int, workers: int) -> float:
+    """Milliseconds of joining a top list of k hits."""
+    from dilforec import joins
+
+    share = joins.share(int(k), partitions)
+    own = partitions / workers * share * (constants["hit read"] + constants["hit joined"])
+    others = partitions * share * (constants["hit sent"] + constants["hit joined"])
+    return (own + others + k * constants["hit printed"]) / 1e3
+
+
+def joined(constants: dict[str, float], documents: float, partitions: int, workers: int) -> float:
+    """Mean milliseconds of joining. One search in four has groups, one a top ten."""
+    groups = groups_joined(constants, groups_of(documents), partitions, workers)
+    return (groups + hits_joined(constants, 10, partitions, workers)) / 4
+
+
+def of_cluster(constants: dict[str, float], documents: float, partitions: int, workers: int) -> float:
+    """Mean milliseconds of a search in a cluster with so many documents in each partition."""
+    share = partitions / workers
+    return (constants["round"] + asked(constants, workers) + share * (constants["partition"] + searched(constants, documents))
+            + joined(constants, documents, partitions, workers))
 
 
 def model(raw: dict[str, Any]) -> dict[str, float]:
     """The constants, in microseconds, bytes and milliseconds.
 
-    Searches and memory are taken from the fewest and the most documents, builds from the point after the fewest, whose times say more.
+    Searches and memory are taken from one process over the fewest and the most documents, builds from the point after the fewest, what threads add
+    from the fewest documents, and what Dask adds from the clusters of FITTED.
     """
     least, base, most = raw["points"][0], raw["points"][min(1, len(raw["points"]) - 1)], raw["points"][-1]
-    documents, power, resident = base["documents"], 1.0, least["one"]["resident"] / least["documents"]
-    if most is not least:
-        power = math.log(most["one"]["mean"] / least["one"]["mean"]) / math.log(most["documents"] / least["documents"])
-        resident = (most["one"]["resident"] - least["one"]["resident"]) / (most["documents"] - least["documents"])
-    held = max(least["one"]["resident"] - resident * least["documents"], 0)
-    few, many = (raw["few"][parts]["mean"] for parts in sorted(raw["few"], key=int))
-    start = min(told["build"] for told in raw["few"].values())
+    documents, more = base["documents"], max(most["documents"] - least["documents"], 1)
+    resident = (most["one"]["resident"] - least["one"]["resident"]) / more or least["one"]["resident"] / least["documents"]
+    million = max((most["one"]["mean"] - least["one"]["mean"]) / more * 1e6, 0)
+    start = min(found["build"] for found in raw["small"])
     constants = {
         "build": base["one"]["build"] / documents * 1e6, "beside": max(base["dask"]["build"] - start, 0) * WORKERS / documents * 1e6,
         "turns": base["threads"]["build"] / documents * 1e6, "reading": raw["reading"], "start": start,
-        "resident": resident, "of lines": most["one"]["resident"] / most["json"], "held": held, "empty": base["dask"]["empty"],
-        "million": least["one"]["mean"] * (1e6 / least["documents"]) ** power, "power": power,
-        **{f"joined {name}": took for name, took in raw["joining"].items()},
+        "resident": resident, "of lines": most["one"]["resident"] / most["json"],
+        "held": max(least["one"]["resident"] - resident * least["documents"], 0), "empty": base["dask"]["empty"],
+        "alone": max(least["one"]["mean"] - million * least["documents"] / 1e6, 0), "million": million,
+        **{f"{name} {part}": value for name, took in raw["joining"].items() for part, value in zip(Join._fields, took)},
+        "round": 0.0, "worker": 0.0, "partition": 0.0, "handing": 0.0,
     }
-    joining = joined(constants, FEW, MORE_PARTS) - joined(constants, FEW, FEW_PARTS)
-    constants["task"] = (many - few - joining) / (MORE_PARTS - FEW_PARTS)
     # What is left of a measured search once all else is taken away.
-    constants |= {"handing": 0.0, "asking": 0.0}
-    constants["handing"] = max(least["threads"]["mean"] - predicted("threads", constants, least["documents"], WORKERS)["mean"], 0)
-    constants["asking"] = max(few - predicted("dask", constants, FEW * FEW_PARTS, FEW_PARTS)["mean"], 0)
+    by_size = {(found["workers"], found["partitions"]): found["mean"] for found in raw["small"]}
+    few, base_of_four, many_of_four = (by_size[size] - of_cluster(constants, FEW, size[1], size[0]) for size in FITTED)
+    (_, parts), (workers, share), (_, full) = FITTED
+    constants["partition"] = max((many_of_four - base_of_four) / (full / workers - share / workers), 0)
+    constants["worker"] = max((base_of_four - few + (parts - share / workers) * constants["partition"]) / (workers - 1), 0)
+    constants["round"] = max(base_of_four - workers * constants["worker"] - share / workers * constants["partition"], 0)
+    of_threads = predicted("threads", constants, least["documents"])["mean"]
+    constants["handing"] = max(least["threads"]["mean"] - of_threads, 0)
     return constants
 
 
-def predicted(way: str, constants: dict[str, float], documents: float, workers: int) -> dict[str, float]:
+def predicted(way: str, constants: dict[str, float], documents: float, workers: int = WORKERS) -> dict[str, float]:
     """Seconds of a build, resident bytes of the documents, and the mean milliseconds of a search, with a partition for each worker."""
     share = documents if way == "one" else documents / workers
     search = searched(constants, share)
     built = constants["build" if way == "one" else "beside"] * share / 1e6
-    if way != "one":
-        search += joined(constants, share, workers)
     if way == "threads":
-        built, search = constants["turns"] * documents / 1e6, search + constants["handing"]
+        built = constants["turns"] * documents / 1e6
+        search += constants["handing"] + joined(constants, share, workers, 1)
     if way == "dask":
-        built, search = built + constants["start"], search + constants["asking"] + constants["task"] * workers
+        built, search = built + constants["start"], of_cluster(constants, share, workers, workers)
     held = constants["resident"] * documents + constants["held"] * (1 if way == "one" else workers)
     return {"build": built, "resident": held, "mean": search}
 
@@ -301,37 +449,84 @@ NAMES = {"one": "one process", "threads": f"{WORKERS} partitions, a thread each"
 COLUMNS = {"build": ("build, s", 1.0), "resident": ("resident, MB", 1e-6), "mean": ("search, mean ms", 1.0)}
 
 
+class Ratio(NamedTuple):
+    """What was measured divided by what the model says, and whether a constant of the model is from it."""
+    value: float
+    is_fitted: bool
+
+    def __str__(self) -> str:
+        return f"({self.value:.2f})" if self.is_fitted else f"{self.value:.2f}"
+
+
+def is_fitted(way: str, name: str, place: int, count: int) -> bool:
+    """Whether a constant of the model is from a number of a point, the `place`th of so many."""
+    if name == "build":
+        return place == min(1, count - 1)
+    if way == "one":
+        return place in (0, count - 1)
+    return way == "threads" and name == "mean" and place == 0
+
+
 def shown(raw: dict[str, Any]) -> str:
     """The tables of docs/MEASURED.md."""
+    if "small" not in raw:
+        return "These weren't measured since searches go to the workers themselves."
     constants = model(raw)
+    points, ratios = points_shown(raw, constants)
+    clusters, more = clusters_shown(raw, constants)
+    judged = [ratio.value for ratio in ratios + more if not ratio.is_fitted]
+    near = sum(abs(value - 1) < NEAR for value in judged)
     return "\n\n".join([
         f"The documents are those above, but with {raw['words each']} words each, so that ten million fit into a small machine. {SEARCHES} searches "
         "of four kinds in turn: a word, two words that both must match, a range of a tenth of the `i64`s with groups by the keyword, and a word with "
-        "a top ten. The quickest of two builds and of four times the searches counts. Beside each number is what the model says, and the measured "
-        "number divided by that. The model's constants are from the same points: those of searches and memory from one process over the fewest and "
-        f"the most documents, those of builds from the second number, Dask's from {FEW_PARTS} and {MORE_PARTS} partitions of {FEW:,} documents.",
-        points_shown(raw, constants), constants_shown(constants), machines_shown(constants),
+        f"a top ten. All ways are there at once and take turns; the quickest of {BUILDS} builds and of {TURNS} rounds of searches counts. Beside each "
+        "number is what the model says, and the measured number divided by that, in parentheses if a constant of the model is from it.",
+        points, clusters, many_shown(raw),
+        f"Of the {len(judged)} ratios that no constant is from, {near} are within a third; the furthest are {min(judged):.2f} and {max(judged):.2f}.",
+        constants_shown(constants), machines_shown(constants),
     ])
 
 
-def points_shown(raw: dict[str, Any], constants: dict[str, float]) -> str:
+def points_shown(raw: dict[str, Any], constants: dict[str, float]) -> tuple[str, list[Ratio]]:
     heads = [f"{head} | model | ratio" for head, _ in COLUMNS.values()]
     rows = ["| documents | | " + " | ".join(heads) + " | median, ms | 99 %, ms |", "|---|---|" + "---:|" * (3 * len(heads) + 2)]
     ratios = []
-    for told, way in itertools.product(raw["points"], WAYS):
-        said = predicted(way, constants, told["documents"], WORKERS)
+    for (place, found), way in itertools.product(enumerate(raw["points"]), WAYS):
+        said = predicted(way, constants, found["documents"])
         cells = []
         for name, (_, unit) in COLUMNS.items():
-            ratios.append(told[way][name] / said[name])
-            cells += [figure(told[way][name] * unit), figure(said[name] * unit), f"{ratios[-1]:.2f}"]
-        cells += [figure(told[way]["median"]), figure(told[way]["most"])]
-        rows.append(f"| {told['documents']:,} | {NAMES[way]} | " + " | ".join(cells) + " |")
-    good = sum(abs(ratio - 1) < NEAR for ratio in ratios)
-    return "\n".join(rows) + f"\n\nOf {len(ratios)} ratios, {good} are within a third; the furthest are {min(ratios):.2f} and {max(ratios):.2f}."
+            ratios.append(Ratio(found[way][name] / said[name], is_fitted(way, name, place, len(raw["points"]))))
+            cells += [figure(found[way][name] * unit), figure(said[name] * unit), str(ratios[-1])]
+        cells += [figure(found[way]["median"]), figure(found[way]["most"])]
+        rows.append(f"| {found['documents']:,} | {NAMES[way]} | " + " | ".join(cells) + " |")
+    last = raw["points"][-1]
+    times = last["dask"]["mean"] / last["threads"]["mean"]
+    return "\n".join(rows) + f"\n\nOver {last['documents']:,} documents a search takes {times:.2f} times as long on Dask as by threads.", ratios
+
+
+def clusters_shown(raw: dict[str, Any], constants: dict[str, float]) -> tuple[str, list[Ratio]]:
+    rows = [f"| partitions of {FEW:,} documents | Dask workers | search, mean ms | model | ratio |", "|---:|---:|---:|---:|---:|"]
+    ratios = []
+    for found in raw["small"]:
+        said = of_cluster(constants, FEW, found["partitions"], found["workers"])
+        ratios.append(Ratio(found["mean"] / said, (found["workers"], found["partitions"]) in FITTED))
+        rows.append(f"| {found['partitions']} | {found['workers']} | {figure(found['mean'])} | {figure(said)} | {ratios[-1]} |")
+    return "\n".join(rows), ratios
+
+
+def many_shown(raw: dict[str, Any]) -> str:
+    found = raw["many"]
+    rows = [
+        (f"milliseconds of a top list of {LONG_TOP:,}", found["top"]["dask"]), ("and in one index", found["top"]["one"]),
+        ("times as long", found["top"]["dask"] / found["top"]["one"]), ("milliseconds of a search alone", found["search"]["dask"]),
+        (f"searches a second, from {THREADS} threads", found["second"]),
+    ]
+    title = f"{PARTITIONS} partitions of {FEW:,} documents on {WORKERS} Dask workers"
+    return "\n".join([f"| {title} | |", "|---|---:|", *(f"| {words} | {figure(value)} |" for words, value in rows)])
 
 
 def constants_shown(constants: dict[str, float]) -> str:
-    told = [
+    found = [
         ("microseconds to build a document, in one process", constants["build"]),
         (f"in each of {WORKERS} beside each other", constants["beside"]),
         (f"by {WORKERS} threads of one process", constants["turns"]),
@@ -340,35 +535,35 @@ def constants_shown(constants: dict[str, float]) -> str:
         ("and per byte of JSON", constants["of lines"]),
         ("resident megabytes per partition beside these", constants["held"] / 1e6),
         ("resident megabytes of a worker without documents", constants["empty"] / 1e6),
-        ("milliseconds of a search in one partition of a million documents", constants["million"]),
-        ("and the power with which it grows", constants["power"]),
+        ("milliseconds of a search in one partition", constants["alone"]),
+        ("and per million of its documents", constants["million"]),
         ("milliseconds to hand a search to threads", constants["handing"]),
         ("seconds to make a cluster", constants["start"]),
-        ("milliseconds of a search on Dask", constants["asking"]),
-        ("and per partition", constants["task"]),
-        ("microseconds per hit of a top list that is joined", constants["joined hit"]),
-        ("and per group", constants["joined group"]),
+        ("milliseconds of a round on Dask", constants["round"]),
+        ("per worker that one asks", constants["worker"]),
+        ("and per partition of a worker", constants["partition"]),
+        *((f"microseconds per {name} that is {part}", constants[f"{name} {part}"]) for name in ("hit", "group") for part in Join._fields),
     ]
-    return "\n".join(["| constant of the model | |", "|---|---:|", *(f"| {words} | {figure(value)} |" for words, value in told)])
+    return "\n".join(["| constant of the model | |", "|---|---:|", *(f"| {words} | {figure(value)} |" for words, value in found)])
 
 
 def machines_shown(constants: dict[str, float], machines: int = 100, documents: float = 1e10) -> str:
     """What the model says of many machines of this kind, with a partition for each worker."""
     workers = machines * WORKERS
     said = predicted("dask", constants, documents, workers)
-    told = [
+    alone = searched(constants, documents / workers)
+    found = [
         ("documents of a partition", documents / workers),
         ("gigabytes of a machine", (said["resident"] / machines + constants["empty"] * WORKERS) / 1e9),
         ("minutes to build", said["build"] / 60), ("milliseconds of a search alone", said["mean"]),
-        ("of these in the partitions, side by side", searched(constants, documents / workers)),
-        ("and of the scheduler's tasks", constants["task"] * workers),
-        ("searches a second, beside each other, as the scheduler takes tasks", 1e3 / (constants["task"] * workers)),
-        ("seconds of joining a top list of 10,000", workers * 1e4 * constants["joined hit"] / 1e6),
-        ("seconds of joining a million groups from each partition", workers * 1e6 * constants["joined group"] / 1e6),
+        ("of these in the partitions, side by side", alone), ("and to ask all workers", asked(constants, workers)),
+        ("searches a second, many at a time, as the partitions take them", 1e3 / (alone + constants["partition"])),
+        (f"seconds of joining a top list of {LONG_TOP:,}", hits_joined(constants, LONG_TOP, workers, workers) / 1e3),
+        ("seconds of joining a million groups from each partition", groups_joined(constants, 1e6, workers, workers) / 1e3),
         ("minutes until a lost machine's partitions are there again, on as many idle workers", constants["beside"] * documents / workers / 1e6 / 60),
     ]
     title = f"By the model, {machines} machines of {WORKERS} workers with {documents:,.0f} documents, a partition for each worker"
-    return "\n".join([f"| {title} | |", "|---|---:|", *(f"| {words} | {figure(value)} |" for words, value in told)])
+    return "\n".join([f"| {title} | |", "|---|---:|", *(f"| {words} | {figure(value)} |" for words, value in found)])
 
 
 def figure(value: float) -> str:
@@ -378,7 +573,7 @@ def figure(value: float) -> str:
 
 def main() -> None:
     if sys.argv[1:2] == ["--way"]:
-        print(json.dumps(WAYS[sys.argv[2]](sys.argv[3:])))
+        WAYS[sys.argv[2]](sys.argv[4:], int(sys.argv[3]))
     else:
         raw = measure(tuple(map(int, sys.argv[1:])) or COUNTS)
         print(shown(json.loads(json.dumps(raw))))

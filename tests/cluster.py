@@ -5,13 +5,14 @@
 
 Link the shared object first: bindings/python/link.py. Dask's `distributed` may be that of another Python than the one
 that runs this: $DILFOREC_PYTHON, or the system's, for which Debian has python3-distributed. If none has it, it is
-installed from pip's index, if that can be reached; else what needs it is skipped, and counted as that. The last line is
-'N passed, M failed'.
+installed by apt-get, if this runs as root on a machine that has it, or from pip's index, if that can be reached, unless
+DILFOREC_INSTALL is 0; else what needs it is skipped, and counted as that. The last line is 'N passed, M failed'.
 """
 import contextlib
 import os
 import pathlib
 import re
+import shlex
 import shutil
 import signal
 import subprocess
@@ -75,6 +76,14 @@ def with_distributed():
     for python in (os.environ.get("DILFOREC_PYTHON"), sys.executable, "/usr/bin/python3"):
         if python and imports_distributed(python):
             return python, []
+    if os.environ.get("DILFOREC_INSTALL") == "0":
+        return None
+    if not os.geteuid() and shutil.which("apt-get"):
+        print("cluster: installing python3-distributed", flush=True)
+        run("apt-get", "install", "-y", "--no-install-recommends", "python3-distributed", seconds=120,
+            env={**os.environ, "DEBIAN_FRONTEND": "noninteractive"})
+        if imports_distributed("/usr/bin/python3"):
+            return "/usr/bin/python3", []
     folder = OUT / "dask"
     if not folder.is_dir():
         pip = [sys.executable, "-m", "pip", "install", "--timeout", "5", "--retries", "0"]
@@ -84,7 +93,7 @@ def with_distributed():
 
 def unittests(name, python, *paths):
     """Counts the tests of a module of bindings/python/tests; what they print goes on."""
-    done = run(python, "-m", "unittest", name, env=environment(PACKAGE, PACKAGE / "tests", *paths))
+    done = run(python, "-m", "unittest", name, env=environment(PACKAGE, PACKAGE / "tests", *paths), seconds=480)
     tests = int((re.search(r"Ran (\d+) test", done.said) or [0, 0])[1])
     bad = len(re.findall(r"^(?:FAIL|ERROR): ", done.said, re.MULTILINE))
     if done.status != 0 or not tests:
@@ -95,16 +104,20 @@ def unittests(name, python, *paths):
 
 # The example of docs/SCALE.md.
 
+PAGE = ROOT / "docs/SCALE.md"
 LEVELS, MESSAGES = ("info", "warning", "error"), ("timeout of db", "started")
+
+
+def block_with(words):
+    """The block of code of the page that has these words."""
+    blocks = re.findall(r"(?:^(?:    .*)?\n)+", PAGE.read_text(), re.MULTILINE)
+    (block,) = (block for block in blocks if words in block)
+    return re.sub("^    ", "", block, flags=re.MULTILINE).strip() + "\n"
 
 
 def example(folder):
     """Writes the page's program beside a folder of log files, and returns what it should print."""
-    page = (ROOT / "docs/SCALE.md").read_text()
-    blocks = re.findall(r"(?:^(?:    .*)?\n)+", page, re.MULTILINE)
-    (block,) = (block for block in blocks if "from dilforec.cluster import Cluster" in block)
-    program = re.sub("^    ", "", block, flags=re.MULTILINE).strip() + "\n"
-    (folder / "logs.py").write_text(program)
+    (folder / "logs.py").write_text(block_with("from dilforec.cluster import Cluster"))
     (folder / "logs").mkdir()
     lines = []
     for day in range(5):
@@ -127,10 +140,11 @@ def runs_as_told(name, told, python, folder, env, *words):
 
 
 @contextlib.contextmanager
-def commands(python, folder, env):
+def commands(python, folder, env, *options):
     """A scheduler and four workers, as the page starts them. Its address."""
     file = folder / "scheduler.json"
-    both = ["--scheduler-file", file, "--no-dashboard"]
+    file.unlink(missing_ok=True)
+    both = ["--scheduler-file", file, "--no-dashboard", *options]
     started = [["scheduler", "--port", "0", "--host", "127.0.0.1"], ["worker", "--nworkers", "4", "--nthreads", "1"]]
     running = [subprocess.Popen([python, "-m", f"distributed.cli.dask_{kind}", *options, *both], cwd=folder, env=env,
                                 stdout=subprocess.DEVNULL, stderr=subprocess.DEVNULL, start_new_session=True)
@@ -160,6 +174,34 @@ def the_example(python, paths):
             runs_as_told("the example with dask-scheduler and dask-worker", told, python, folder, env, address)
 
 
+def with_tls(python, paths):
+    """The example over TLS, with the page's certificates and options; a client without a certificate is kept out."""
+    env = environment(PACKAGE, *paths)
+    with tempfile.TemporaryDirectory() as name:
+        folder = pathlib.Path(name)
+        expected = example(folder)
+        for line in block_with("openssl req -x509").splitlines():
+            done = run(*shlex.split(line), cwd=folder)
+            if done.status != 0:
+                return count("the certificates", 0, 1, done.said)
+        scheduler, worker = (shlex.split(line) for line in block_with("--protocol tls").splitlines())
+        options = scheduler[scheduler.index("--tls-ca-file"):]
+        same = options == worker[worker.index("--tls-ca-file"):]
+        count("the options of a scheduler and a worker", int(same), int(not same))
+        security = block_with("import Security").replace("from distributed import Client\n", "").partition("client = ")[0]
+        program = (folder / "logs.py").read_text().replace("*sys.argv[1:] or [LocalCluster(threads_per_worker=1)]",
+                                                           "sys.argv[1], security=security")
+        (folder / "logs.py").write_text(security + program)
+        with commands(python, folder, env, "--protocol", "tls", *options) as address:
+            good = address.startswith("tls://")
+            count("an address of TLS", int(good), int(not good), address)
+            runs_as_told("the example over TLS", expected, python, folder, env, address)
+            for stranger in address, address.replace("tls:", "tcp:"):
+                program = f"from distributed import Client; Client({stranger!r}, timeout=3)"
+                refused = run(python, "-c", program, cwd=folder, env=env, seconds=60).status not in (0, None)
+                count(f"a client without a certificate, by {stranger[:3]}", int(refused), int(not refused))
+
+
 def from_the_wheel(python, paths):
     """The example with the package as a wheel installs it, with its extra, in a plain environment."""
     with tempfile.TemporaryDirectory() as name:
@@ -186,12 +228,16 @@ def main():
     if not SHARED.is_file():
         count("the shared object", 0, 1, f"{SHARED} isn't there: bindings/python/link.py makes it")
     elif found is None:
-        for name in ("test_cluster", "the example of docs/SCALE.md", "the example from the wheel"):
+        for name in ("test_cluster", "the example of docs/SCALE.md", "the example over TLS", "the example from the wheel"):
             skip(name, "since no Python here has distributed")
     else:
         python, paths = found
         unittests("test_cluster", python, *paths)
         the_example(python, paths)
+        if shutil.which("openssl"):
+            with_tls(python, paths)
+        else:
+            skip("the example over TLS", "since there is no openssl")
         from_the_wheel(python, paths)
     print(f"cluster: took {time.monotonic() - began:.0f} s")
     if skipped:

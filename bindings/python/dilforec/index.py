@@ -43,6 +43,30 @@ def to_line(command: Any) -> bytes:
     return ENCODE(command).encode("utf-8", "surrogatepass")
 
 
+class SearchLines:
+    """The lines of a search: one for each field that it counts groups by, but one if there are none.
+
+    The first asks for the top list. `names` says as JSON which fields its documents have.
+    """
+
+    __slots__ = ("query", "top", "fields", "names", "by", "is_list", "lines")
+
+    def __init__(self, query: str, groups: Union[str, list[str], tuple[str, ...], None], top: Optional[Top],
+                 fields: Optional[Sequence[str]]) -> None:
+        _expect(groups, (str, list, tuple, type(None)), "groups are by the name of a field, or a list of names")
+        _expect(query, str, "a query is a str")
+        _expect(top, (Top, type(None)), "a top list is a dilforec.Top")
+        self.query, self.top, self.fields = query, top, list(fields or [])
+        self.names = None if fields is None else _names(fields)
+        self.by = [groups] if isinstance(groups, str) else list(groups or [])
+        self.is_list = groups is not None and not isinstance(groups, str)
+        search: dict[str, Any] = {"query": query}
+        asked: list[dict[str, Any]] = [{**search, "groups": field} for field in self.by] or [search]
+        if top is not None:
+            asked[0]["top"] = as_json(top)
+        self.lines = [to_line({"search": each}) for each in asked]
+
+
 class Searching:
     """What an index and its searchers have in common. One thread is in each at a time; others wait."""
 
@@ -99,36 +123,36 @@ class Searching:
 
         TypeError if the query isn't a str; Refused if the index refuses it, as Syntax or UnknownField.
         """
-        _expect(groups, (str, list, tuple, type(None)), "groups are by the name of a field, or a list of names")
-        by = [groups] if isinstance(groups, str) else list(groups or [])
-        replies = [json.loads(reply.decode()) for reply in self._replies(query, by, top, fields)]
-        counted = [{value: count for value, count in reply.get("groups", [])} for reply in replies]
-        hits = tuple(Hit(hit["value"], hit["stamp"], hit["doc"], hit.get("source")) for hit in replies[0].get("top", []))
-        is_list = groups is not None and not isinstance(groups, str)
-        return Answer(replies[0]["count"], dict(zip(by, counted)) if is_list else counted[0], hits)
+        asked = SearchLines(query, groups, top, fields)
+        return self._answered(asked, self._replies_to(asked))
 
     def _replies(self, query: str, by: Sequence[str], top: Optional[Top], fields: Optional[Sequence[str]]) -> list[bytes]:
         """The replies to a search with the groups of some fields, one for each of them, but one if there are none.
 
         They are of one commit, and the first has the top list.
         """
-        _expect(query, str, "a query is a str")
-        _expect(top, (Top, type(None)), "a top list is a dilforec.Top")
-        names = None if fields is None else _names(fields)
-        search: dict[str, Any] = {"query": query}
-        asked: list[dict[str, Any]] = [{**search, "groups": field} for field in by] or [search]
-        if top is not None:
-            asked[0]["top"] = as_json(top)
-        lines = [to_line({"search": each}) for each in asked]
-        if len(lines) == 1 and names is None:
-            told = [self._channel.ask(lines[0])]
-        else:
-            told = self._channel.ask_each(lines, names)
-        for reply in told:
+        asked = SearchLines(query, list(by), top, fields)
+        return self._checked(asked, self._replies_to(asked))
+
+    def _replies_to(self, asked: SearchLines) -> list[bytes]:
+        if len(asked.lines) == 1 and asked.names is None:
+            return [self._channel.ask(asked.lines[0])]
+        return self._channel.ask_each(asked.lines, asked.names)
+
+    def _checked(self, asked: SearchLines, replies: list[bytes]) -> list[bytes]:
+        """The replies to a search, if none is a refusal."""
+        for reply in replies:
             if reply.startswith(b'{"error"'):
                 why = json.loads(reply.decode())
-                raise self._refused_search(why["error"], why["line"], query, by, top, list(fields or []))
-        return told
+                raise self._refused_search(why["error"], why["line"], asked.query, asked.by, asked.top, asked.fields)
+        return replies
+
+    def _answered(self, asked: SearchLines, replies: list[bytes]) -> Answer[Any]:
+        """The answer that the replies to a search are, or the exception of a refusal."""
+        read = [json.loads(reply.decode()) for reply in self._checked(asked, replies)]
+        counted = [{value: count for value, count in reply.get("groups", [])} for reply in read]
+        hits = tuple(Hit(hit["value"], hit["stamp"], hit["doc"], hit.get("source")) for hit in read[0].get("top", []))
+        return Answer(read[0]["count"], dict(zip(asked.by, counted)) if asked.is_list else counted[0], hits)
 
     def _refused_search(self, name: str, line: int, query: str, groups: Sequence[str], top: Optional[Top],
                         fields: Sequence[str]) -> Refused:

@@ -9,10 +9,15 @@ the values of the top list. Its documents are the same too if no two have one va
 those of an earlier part come first, and within a part those of smaller stamps.
 
 This is what an index does with its segments. The module needs nothing of the library.
+
+A long top list over many parts needs few hits of each: ask each part for `share(k, parts)` hits, join what they give by
+`top`, and ask those that `parts_to_ask_again` names once more, for k.
 """
 from __future__ import annotations
 
+import collections
 import json
+import math
 from collections.abc import Iterable, Mapping, Sequence
 from typing import Any, Optional
 
@@ -46,6 +51,29 @@ def top(lists: Iterable[Hits], k: int, order: str) -> list[tuple[int, dict[str, 
     # Sorting is stable, so parts and stamps keep their order.
     hits.sort(key=lambda found: sign * int(found[1]["value"]))
     return hits[:k]
+
+
+def share(k: int, parts: int) -> int:
+    """How many hits to ask each part for at first, if the first k of all of them are wanted.
+
+    Of documents that are dealt out at random, a part has k / parts of the first k, give or take a few times the square
+    root of that. If it has more of them, it is asked again.
+    """
+    each = k / parts
+    return min(k, math.ceil(each + 4 * math.sqrt(each)) + 10)
+
+
+def parts_to_ask_again(first: Iterable[int], asked: int) -> list[int]:
+    """The parts whose lists have to be asked for again, for k hits, rising.
+
+    Each part gave its first `asked` hits, or all it has. `first` has the part of each of the first k hits of these
+    lists. A part whose last hit isn't among the first k has no other that is, so it gave enough.
+
+        >>> parts_to_ask_again([0, 1, 1, 2], asked=2)
+        [1]
+    """
+    given = collections.Counter(first)
+    return sorted(part for part, count in given.items() if count >= asked)
 
 
 def answer(

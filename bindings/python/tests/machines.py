@@ -23,10 +23,14 @@ class Machines:
         self.scheduler = self._started("scheduler", "--port", "0", "--host", "127.0.0.1")
         self.workers = []
         self.client = None
-        _wait(self.file.exists)
-        self.four()
-        self.client = Client(scheduler_file=str(self.file))
-        self.four()
+        try:
+            _wait(self.file.exists)
+            self.four()
+            self.client = Client(scheduler_file=str(self.file))
+            self.four()
+        except BaseException:
+            self.close()
+            raise
 
     def _started(self, kind, *options):
         module = f"distributed.cli.dask_{kind}"
@@ -36,11 +40,22 @@ class Machines:
 
     def four(self):
         """Starts workers in place of those that died, and waits until they are known."""
+        deadline = time.monotonic() + 180
+        while not self._are_four():
+            if time.monotonic() > deadline:
+                alive = sum(worker.poll() is None for worker in self.workers)
+                raise TimeoutError(f"{alive} workers run, and the scheduler knows {len(self._known())}")
+            time.sleep(0.05)
+
+    def _are_four(self):
+        """Whether there are four workers, which the scheduler knows. Those that lack are started."""
         self.workers = [worker for worker in self.workers if worker.poll() is None]
         while len(self.workers) < WORKERS:
             self.workers.append(self._started("worker", "--no-nanny", "--nthreads", "1", "--memory-limit", "0"))
-        if self.client:
-            _wait(lambda: len(self.client.scheduler_info()["workers"]) == WORKERS)
+        return not self.client or len(self._known()) == WORKERS
+
+    def _known(self):
+        return self.client.scheduler_info()["workers"]
 
     def with_partitions(self, states):
         """The workers that hold ("has_what"), or are making ("processing"), partitions."""
@@ -66,15 +81,16 @@ class Machines:
         return 0
 
     def close(self):
-        self.client.close()
+        if self.client:
+            self.client.close()
         for process in (*self.workers, self.scheduler):
             process.kill()
             process.wait()
 
 
-def _wait(there, seconds=60):
+def _wait(there, seconds=180):
     deadline = time.monotonic() + seconds
     while not there():
         if time.monotonic() > deadline:
-            raise TimeoutError("the cluster didn't begin")
+            raise TimeoutError("the scheduler didn't begin")
         time.sleep(0.05)

@@ -1,11 +1,16 @@
 """Partitions on four Dask workers beside one index over the same lines; workers are killed, and sources change.
 
+Replies are also compared with what dilforec.joins makes of each partition's own.
+
 It needs `distributed`. tests/cluster.py runs it, and prints what it counted.
 """
+import asyncio
 import contextlib
 import functools
+import gzip
 import io
 import json
+import lzma
 import os
 import pathlib
 import pickle
@@ -17,12 +22,19 @@ import threading
 import time
 import unittest
 from concurrent.futures import ThreadPoolExecutor
+from unittest import mock
 
+from distributed import Client
 from distributed.scheduler import KilledWorker
+from distributed.worker_state_machine import FreeKeysEvent
 
 import dilforec
 import machines
-from dilforec.cluster import Cluster, Documents, JsonLines, Refusal, Script, SourceChanged, SourceRefused
+from dilforec import joins
+from dilforec.cluster import (
+    Cluster, Documents, JsonLines, Refusal, Script, Search, SourceChanged, SourceRefused, SourceUnreadable, _gathering,
+    _requests, _responder, _rounds, _sources,
+)
 
 ROOT = pathlib.Path(__file__).resolve().parents[3]
 sys.path[:0] = [str(ROOT / "tests")]
@@ -33,9 +45,11 @@ SCHEMA = (
     dilforec.text("title", default=True), dilforec.keyword("tag", default=True), dilforec.u64("price"),
     dilforec.i64("temp"),
 )
-CUTTINGS = int(os.environ.get("DILFOREC_CUTTINGS", 200))
-DOCUMENTS = int(os.environ.get("DILFOREC_DOCUMENTS", 1_000_000))
+CUTTINGS = int(os.environ.get("DILFOREC_CUTTINGS", 120))
+DOCUMENTS = int(os.environ.get("DILFOREC_DOCUMENTS", 400_000))
 WORDS = [f"w{number}" for number in range(300)]
+# Texts that might be taken for a part of a reply.
+AWKWARD = ['a},"stamp":1,"value":2}', '{"doc":{', ',"top":[', '"\\', "é\u2028\U0001f600", "\x00\x1f\x7f\t", "plain", "}]}"]
 
 
 def setUpModule():
@@ -78,6 +92,19 @@ def killing(count, states):
             over.set()
     MACHINES.four()
     assert killed.result() == count, "it was over before"
+
+
+def listed(documents):
+    """A function that gives these documents."""
+    return functools.partial(list, documents)
+
+
+def index_of(documents):
+    """An index of its own, as a partition of these documents is."""
+    index = dilforec.Index(*SCHEMA)
+    index.add_many(documents)
+    index.commit()
+    return index
 
 
 def made(first, last):
@@ -128,9 +155,36 @@ class Exact(unittest.TestCase):
                 documents = [[hit["doc"] for hit in reply["top"]][:-1] for reply in (mine, theirs)]
                 self.assertEqual(documents[0], documents[1])
 
+    def compare_bytes(self, names, parts, many, asked):
+        """Replies are the bytes that joins makes of each partition's own."""
+        with contextlib.ExitStack() as stack:
+            searchers = [stack.enter_context(index_of(part)).searcher() for part in parts]
+            for search in asked:
+                own = [searcher.execute(line({"search": search})) for searcher in searchers]
+                expected = own[0]
+                if own[0].startswith(b'{"count"'):
+                    marks = [{"source": name} for name in names]
+                    expected = joins.encoded(joins.answer(search, list(map(json.loads, own)), marks))
+                self.assertEqual(many.execute(line({"search": search})), expected)
+
+    def test_bytes(self):
+        """Long top lists, of which partitions are asked for a few hits first: dealt out, by rising values, with ties."""
+        for seed, values in enumerate((10**6, 40, 1)):
+            chance = random.Random(seed)
+            every = [{"title": chance.choice(AWKWARD), "tag": chance.choice(AWKWARD), "temp": chance.randrange(values)}
+                     for _ in range(2_000)]
+            for documents in every, sorted(every, key=lambda document: document["temp"]):
+                parts = [documents[first:first + 250] for first in range(0, 2_000, 250)]
+                names = [f'{place} "é"' for place in range(8)]
+                with cluster(Documents(*each) for each in zip(names, map(listed, parts))) as many:
+                    asked = [{"query": "*", "top": {"by": "temp", "k": k, "order": order}, "groups": "tag"}
+                             for k in (1, 100, 700, 10_000) for order in ("rising", "falling")]
+                    self.compare_bytes(names, parts, many, asked)
+
     def test_random_cuttings(self):
-        """The documents of random scripts, cut anyhow into files and functions."""
+        """The documents of random scripts, cut anyhow into files and functions; every other time, workers ask workers."""
         compared = 0
+        fan_out = mock.patch.object(_requests, "FAN_OUT", 1)
         for seed in range(CUTTINGS):
             chance = random.Random(seed)
             commands = [random_scripts.document(chance) for _ in range(chance.randrange(60))]
@@ -138,11 +192,14 @@ class Exact(unittest.TestCase):
             for document in commands:
                 chance.choice(parts).append(document)
             sources = [self.source(f"{seed}.{place}", part, chance.randrange(3)) for place, part in enumerate(parts)]
-            with dilforec.Index(*SCHEMA) as one, cluster(sources) as many:
+            between = fan_out if seed % 2 else contextlib.nullcontext()
+            with dilforec.Index(*SCHEMA) as one, cluster(sources) as many, between:
                 for document in commands:
                     one.add(document)
                 one.commit()
-                self.compare(one, many, searches(seed))
+                asked = searches(seed)
+                self.compare(one, many, asked)
+                self.compare_bytes([each.name for each in sources], parts, many, asked)
                 self.assertEqual(sum(count.documents for count in many.counts().values()), len(commands))
             compared += 1
         print(f"cluster: {compared} random cuttings compared")
@@ -154,7 +211,7 @@ class Exact(unittest.TestCase):
             return JsonLines(written(name, map(line, documents)))
         return Script(written(name, [line({"add": document}) for document in documents]))
 
-    def test_a_million(self):
+    def test_many_documents(self):
         """Many documents over 8 partitions; workers are killed while they are searched, and then two at once."""
         step = DOCUMENTS // 8
         asked = [
@@ -187,6 +244,22 @@ class Exact(unittest.TestCase):
                 with killing(count, "processing"), cluster(source(first, first + step) for first in firsts) as many:
                     self.compare(one, many, [{"query": "w1", "groups": "tag"}, {"query": "*"}])
 
+    def test_killed_meanwhile(self):
+        """Workers that die before a search, while it waits for them, and after it."""
+        with cluster(source(first, first + 100) for first in range(0, 800, 100)) as many:
+            expected = many.search("*", groups="tag")
+            for count in 1, 3:
+                MACHINES.kill(MACHINES.with_partitions("has_what")[:count])
+                MACHINES.four()
+                self.assertEqual(many.search("*", groups="tag"), expected)
+                with slow_answers(1.5), ThreadPoolExecutor(1) as thread:
+                    answer = thread.submit(many.search, "*", groups="tag")
+                    time.sleep(0.5)
+                    MACHINES.kill(MACHINES.with_partitions("has_what")[:count])
+                    MACHINES.four()
+                    self.assertEqual(answer.result(), expected)
+                self.assertEqual(many.search("*", groups="tag"), expected)
+
     def test_deadly(self):
         """A source that ends every worker that reads it: Dask gives up, and says so."""
         CLIENT.run_on_scheduler(_allow, 1)
@@ -194,6 +267,22 @@ class Exact(unittest.TestCase):
             self.assertRaises(KilledWorker, cluster, [source(0, 10), Documents("deadly", _die)])
         finally:
             CLIENT.run_on_scheduler(_allow, 10)
+
+
+@contextlib.contextmanager
+def slow_answers(seconds):
+    """The workers of now take their time for each search."""
+    CLIENT.run(_slow_down, seconds)
+    try:
+        yield
+    finally:
+        CLIENT.run(_slow_down, 0)
+
+
+def _slow_down(seconds):
+    before = getattr(_responder, "search_at_once", _responder.search)
+    _responder.search_at_once = before
+    _responder.search = lambda *given: (time.sleep(seconds), before(*given))[1]
 
 
 def _allow(failures, dask_scheduler):
@@ -259,6 +348,32 @@ class Sources(unittest.TestCase):
             with many.searcher() as searcher:
                 self.assertEqual((many.stats(), searcher.stats()), ((2, 8, 8), (2, 8, 8)))
 
+    def test_compressed(self):
+        """Files that gzip or xz made; one that is cut off is no source."""
+        lines = b"".join(line(document) + b"\n" for document in made(0, 50))
+        for suffix, compress in (".gz", gzip.compress), (".xz", lzma.compress):
+            path = FOLDER / f"day.jsonl{suffix}"
+            path.write_bytes(compress(lines))
+            with cluster([path, Documents("more", list)]) as many:
+                self.assertEqual((many.search("*").count, many.refused()), (50, []))
+                path.write_bytes(compress(lines)[:-20])
+                self.assertRaises(EOFError, many.add_source, path)
+
+    def test_long_lines(self):
+        """A line that is too long is refused, however long; a blank one is passed over, as a shorter one is."""
+        long = _sources.PIECE
+        path = FOLDER / "long.jsonl"
+        path.write_bytes(b"{}\n" + b"x" * (3 * long + 5) + b"\n{}\n" + b" " * (2 * long) + b"\n{}\n[" + b"x" * long)
+        names = [(2, "LineTooLong"), (6, "LineTooLong")]
+        with cluster([path]) as many:
+            self.assertEqual(many.refused(), [Refusal(str(path), number, name) for number, name in names])
+            self.assertEqual(many.search("*").count, 3)
+        pieces = iter([b"x" * long] * 5 + [b"x\n", b"y\n"])
+        (of_long, other) = _sources.whole_lines(pieces)
+        self.assertEqual((type(of_long), len(of_long), other), (_sources.LongLine, 16, b"y\n"))
+        longest = b"x" * dilforec.index.LONGEST_LINE + b"\r\n"
+        self.assertEqual([*_sources.whole_lines(io.BytesIO(longest))], [longest])
+
     def test_errors(self):
         """Each refusal of a search is the exception that an index raises."""
         with cluster([Documents("a", list)]) as many:
@@ -276,8 +391,10 @@ class Sources(unittest.TestCase):
         self.assertRaises(dilforec.Closed, many.search, "*")
         self.assertRaises(dilforec.Closed, many.stats)
         self.assertRaises(ValueError, cluster, [Documents("a", list), Documents("a", list)])
+        self.assertRaises(ValueError, cluster, [b"/tmp/\xff".decode("utf-8", "surrogateescape")])
         with cluster([]) as none:
             self.assertRaises(ValueError, none.search, "*")
+            self.assertRaises(ValueError, none.stats)
         with self.assertRaises(dilforec.BadName):
             Cluster(CLIENT, [dilforec.text("AND")], [Documents("a", list)], progress=False)
 
@@ -292,16 +409,16 @@ class Sources(unittest.TestCase):
     def test_added_and_dropped(self):
         """A new source, and one that goes, touch no other partition."""
         with cluster([source(0, 10), source(10, 20)]) as many:
-            kept = {name: part.future.key for name, part in many._channel.parts.items()}
+            keys = {name: part.future.key for name, part in many._channel.parts.items()}
             many.add_source(source(20, 25))
             self.assertEqual((many.search("*").count, list(many.counts())), (25, ["0", "10", "20"]))
             many.drop_source("10")
             self.assertEqual((many.search("*").count, list(many.counts())), (15, ["0", "20"]))
-            self.assertEqual(many._channel.parts["0"].future.key, kept["0"])
+            self.assertEqual(many._channel.parts["0"].future.key, keys["0"])
             deadline = time.monotonic() + 10
-            while kept["10"] in CLIENT.who_has() and time.monotonic() < deadline:
+            while keys["10"] in CLIENT.who_has() and time.monotonic() < deadline:
                 time.sleep(0.05)
-            self.assertNotIn(kept["10"], CLIENT.who_has())
+            self.assertNotIn(keys["10"], CLIENT.who_has())
 
 
 class Lost(unittest.TestCase):
@@ -319,11 +436,12 @@ class Lost(unittest.TestCase):
         with cluster([path, source(0, 10)]) as many:
             self.kill_all()
             self.assertEqual(many.search("*").count, 12)
-            for change in (lambda: written("day.jsonl", [b'{"title":"a"}', b'{"title":"c"}']), lambda: os.unlink(path)):
+            changed = functools.partial(written, "day.jsonl", [b'{"title":"a"}', b'{"title":"c"}'])
+            for change, refusal in (changed, SourceChanged), (functools.partial(os.unlink, path), SourceUnreadable):
                 change()
                 self.kill_all()
                 for _ in range(2):
-                    with self.assertRaises(SourceChanged) as raised:
+                    with self.assertRaises(refusal) as raised:
                         many.search("*")
                     self.assertEqual(raised.exception.source, path)
                 written("day.jsonl", [b'{"title":"new"}'])
@@ -331,7 +449,7 @@ class Lost(unittest.TestCase):
                 self.assertEqual((many.search("*").count, list(many.counts())), (11, [path, "0"]))
             os.unlink(path)
             self.kill_all()
-            self.assertRaises(SourceChanged, many.search, "*")
+            self.assertRaises(SourceUnreadable, many.search, "*")
             many.drop_source(path)
             self.assertEqual(many.search("*").count, 10)
 
@@ -354,6 +472,243 @@ class Lost(unittest.TestCase):
             self.assertTrue(all(length < 2_000 for length in lengths.values()), lengths)
             for _ in range(8):
                 self.assertEqual(many.search("*", groups="tag").count, 20_000)
+
+
+    def test_source_alone(self):
+        """A partition whose source alone is left is made on the worker that has it, also if that fails at first."""
+        with cluster([counted("alone", fail_at=(2,))]) as many:
+            (part,) = many._channel.parts.values()
+            made_by = MACHINES.with_partitions("has_what")
+            CLIENT.replicate([part.future], n=2)
+            MACHINES.kill(made_by)
+            MACHINES.four()
+            self.assertEqual((many.search("*").count, builds("alone")), (10, 3))
+            self.assertEqual((many.search("*").count, builds("alone")), (10, 3))
+
+    def test_forgotten(self):
+        """A worker that gives a partition up, or that loses it without knowing."""
+        with cluster([source(0, 10), source(10, 20)]) as many:
+            for forget in _give_up, _lose:
+                key = many._channel.parts["10"].future.key
+                CLIENT.run(forget, key)
+                self.assertEqual((many.search("*").count, many.search("price:15").count), (20, 1))
+                self.assertEqual([*CLIENT.run(_has, key).values()].count(True), 1)
+
+    def test_unreadable(self):
+        """A source that can't be read is tried again, then said to be that, and found as soon as it can be read."""
+        with cluster([counted("once", fail_at=(2,)), source(10, 20)]) as many:
+            self.kill_all()
+            self.assertEqual((many.search("*").count, builds("once")), (20, 3))
+        with cluster([counted("long", fail_at=range(2, 100)), source(10, 20)]) as many:
+            self.kill_all()
+            for _ in range(2):
+                with self.assertRaises(SourceUnreadable) as raised:
+                    many.search("*")
+                self.assertIn("long couldn't be read: [Errno 5] the disk", str(raised.exception))
+                self.assertIsInstance(raised.exception.__cause__, OSError)
+            (FOLDER / "long.builds").write_text("x" * 100)
+            self.assertEqual(many.search("*").count, 20)
+
+    def test_cancelled(self):
+        """What cancels the partitions, as a restart of the cluster does, takes them away for good."""
+        with cluster([source(0, 10), source(10, 20)]) as many:
+            CLIENT.cancel(many._channel.parts["10"].future)
+            self.assertRaises(dilforec.Closed, many.search, "*")
+            many.add_source(source(10, 20))
+            self.assertEqual(many.search("*").count, 20)
+
+    def test_timeout(self):
+        """A search that isn't answered in time raises; later ones are answered."""
+        with cluster([counted("slow", slow_at=2)]) as many:
+            self.kill_all()
+            for call in (functools.partial(many.search, "*", timeout=0.3), many.searcher(timeout=0.3).stats,
+                         functools.partial(many.search_many, ["*", "x"], timeout=0.3)):
+                self.assertRaises(TimeoutError, call)
+            self.assertEqual(many.search("*", timeout=300).count, 10)
+            self.assertRaises(ValueError, many.search, "*", timeout=0)
+
+
+class Paths(unittest.TestCase):
+    """The ways that searches take."""
+
+    def setUp(self):
+        MACHINES.four()
+
+    def same(self, many):
+        """That searches give the same on another way, in the block of a `with`."""
+        asked = [line({"search": search}) for seed in range(3) for search in searches(seed)]
+        before = many._channel.ask_each(asked, None)
+        return contextlib.closing(_Same(lambda: self.assertEqual(many._channel.ask_each(asked, None), before)))
+
+    def test_tree(self):
+        """Workers that ask others, also if one of them dies and its own have to be asked again."""
+        with cluster(source(first, first + 50) for first in range(0, 600, 50)) as many, self.same(many):
+            patch = mock.patch.object(_requests, "FAN_OUT", 1)
+            patch.start()
+            self.addCleanup(patch.stop)
+            for _ in range(4):
+                self.assertEqual(many.search("*", groups="price").count, 600)
+            with killing(1, "has_what"):
+                for _ in range(20):
+                    self.assertEqual(many.search("*").count, 600)
+
+    def test_trees(self):
+        """Each worker is in a tree once, and none asks more than 16 others."""
+        for count in (1, 16, 17, 18, 100, 400):
+            wanted = {f"{place}": [_requests.Wanted(place, f"key {place}", None)] for place in range(count)}
+            nodes = _requests.trees(wanted, count // 2)
+            self.assertEqual(len(nodes), count if count <= 16 else 1)
+            held = [each for node in nodes for each in node.holders()]
+            self.assertEqual(sorted(held), sorted((each, address) for address, (each,) in wanted.items()))
+            while nodes:
+                self.assertTrue(all(len(node.below) <= 16 for node in nodes))
+                nodes = [each for node in nodes for each in node.below]
+
+    def test_threads(self):
+        """Workers of several threads, with more partitions than threads and with fewer, in one process with the client."""
+        with Client(processes=False, n_workers=2, threads_per_worker=3, dashboard_address=None, set_as_default=False) as client:
+            for step in 10, 200:
+                sources = [source(first, first + step) for first in range(0, 200, step)]
+                asked = [line({"search": search}) for seed in range(5) for search in searches(seed)]
+                with Cluster(client, SCHEMA, sources, progress=False) as many, cluster(sources) as others:
+                    self.assertEqual(many._channel.ask_each(asked, None), others._channel.ask_each(asked, None))
+
+    def test_through_the_scheduler(self):
+        """Workers that the client can't reach by itself."""
+        async def fails(*_):
+            raise OSError("no way")
+
+        with cluster([source(0, 10), source(10, 20), source(20, 30)]) as many, self.same(many):
+            patch = mock.patch.object(_gathering.Gathering, "_send_directly", fails)
+            patch.start()
+            self.addCleanup(patch.stop)
+
+    def test_shared_rounds(self):
+        """Searches that wait while a round is under way go together in the next."""
+        with cluster([source(0, 10), source(10, 20)]) as many, ThreadPoolExecutor(64) as threads:
+            rounds, gather = [], _gathering.Gathering.results
+
+            async def gathered(self, task, searches=()):
+                rounds.append(len(searches))
+                while len(rounds) == 1 and rounds[0] + len(many._channel._rounds._waiting) < 64:
+                    await asyncio.sleep(0.01)
+                return await gather(self, task, searches)
+
+            with mock.patch.object(_gathering.Gathering, "results", gathered), mock.patch.object(_rounds, "ROUNDS", 1):
+                counts = list(threads.map(lambda number: many.search(f"price:{number % 20}").count, range(64)))
+            self.assertEqual((counts, sum(rounds)), ([1] * 64, 64))
+            self.assertEqual(len(rounds), 2)
+
+    def test_search_many(self):
+        """The same answers as from searches by themselves, in their order; a refusal is raised."""
+        first = dilforec.Top("price", 30, "falling")
+        asked = [("*", {}), ("w1", {"groups": "tag"}), ("*", {"groups": ["tag", "temp"], "top": first}),
+                 ("*", {"top": first, "fields": ["price"]}), ("w2", {"groups": []})]
+        with cluster(source(first, first + 100) for first in range(0, 800, 100)) as many:
+            alone = [many.search(query, **given) for query, given in asked]
+            self.assertEqual(many.search_many([Search(query, **given) for query, given in asked]), alone)
+            self.assertEqual(many.search_many(["*", "w1"]), [many.search("*"), many.search("w1")])
+            self.assertEqual(many.search_many([]), [])
+            self.assertEqual([answer.count for answer in many.search_many(["*"] * 1_000)], [800] * 1_000)
+            self.assertRaises(dilforec.Syntax, many.search_many, ["*", "rust OR", "w1"])
+
+    def test_stealing(self):
+        """One worker is busy, the others are idle: it answers meanwhile, and no partition is made a second time."""
+        with cluster(counted(f"stolen.{number}") for number in range(8)) as many:
+            (busy, *_) = MACHINES.with_partitions("has_what")
+            path = FOLDER / "idle"
+            blocking = CLIENT.map(_wait_for, [str(path)] * 3, range(3), workers=[busy])
+            for _ in range(30):
+                self.assertEqual(many.search("*", groups="tag").count, 80)
+            many.add_source(counted("stolen.8"))
+            time.sleep(1)
+            self.assertEqual(many.search("*").count, 90)
+            self.assertFalse(any(future.done() for future in blocking), "it answered before it was idle")
+            path.touch()
+            CLIENT.gather(blocking)
+            self.assertEqual([builds(f"stolen.{number}") for number in range(9)], [1] * 9)
+
+    def test_beside_others(self):
+        """A fork, the client's own event loop, a second cluster, a client that is closed."""
+        with cluster([source(0, 10)]) as many, cluster([source(0, 20)]) as other:
+            self.assertEqual((many.search("*").count, other.search("*").count), (10, 20))
+            child = os.fork()
+            if not child:
+                os._exit(0 if _refusal_of(many) is RuntimeError else 1)
+            self.assertEqual(os.waitpid(child, 0)[1], 0)
+
+            async def from_the_loop():
+                return _refusal_of(many)
+
+            loop = CLIENT.loop.asyncio_loop
+            self.assertIs(asyncio.run_coroutine_threadsafe(from_the_loop(), loop).result(), RuntimeError)
+        with Client(scheduler_file=str(MACHINES.file), set_as_default=False) as client:
+            many = Cluster(client, SCHEMA, [source(0, 10)], progress=False)
+            self.assertEqual(many.search("*").count, 10)
+        self.assertIs(_refusal_of(many), RuntimeError)
+
+    def test_closed_meanwhile(self):
+        """A cluster that is closed while a source is added stays closed."""
+        many = cluster([source(0, 10)])
+        with ThreadPoolExecutor(1) as thread:
+            adding = thread.submit(many.add_source, counted("late", slow_at=1))
+            time.sleep(0.3)
+            many.close()
+            self.assertIsInstance(adding.exception(), dilforec.Closed)
+        self.assertRaises(dilforec.Closed, many.search, "*")
+        self.assertRaises(dilforec.Closed, many.add_source, source(0, 10))
+
+
+class _Same:
+    """What is checked at the end of a block."""
+
+    def __init__(self, close):
+        self.close = close
+
+
+def _refusal_of(many):
+    try:
+        many.search("*")
+    except Exception as error:
+        return type(error)
+
+
+def counted(name, fail_at=(), slow_at=None):
+    """Ten documents, from a function that writes down how often it was called, and may fail or take its time."""
+    return Documents(name, functools.partial(_counted, str(FOLDER / f"{name}.builds"), fail_at, slow_at))
+
+
+def _counted(path, fail_at, slow_at):
+    with open(path, "a") as file:
+        file.write("x")
+    calls = os.path.getsize(path)
+    if calls in fail_at:
+        raise OSError(5, "the disk")
+    if calls == slow_at:
+        time.sleep(2)
+    return [{"title": "x", "tag": "t", "price": number} for number in range(10)]
+
+
+def builds(name):
+    return os.path.getsize(FOLDER / f"{name}.builds")
+
+
+def _give_up(key, dask_worker):
+    if key in dask_worker.data:
+        dask_worker.handle_stimulus(FreeKeysEvent(keys=[key], stimulus_id="test"))
+
+
+def _lose(key, dask_worker):
+    dask_worker.data.pop(key, None)
+
+
+def _has(key, dask_worker):
+    return key in dask_worker.data
+
+
+def _wait_for(path, number):
+    while not os.path.exists(path):
+        time.sleep(0.01)
 
 
 def _size_known(key, dask_scheduler):

@@ -20,6 +20,15 @@ def documents(chance, count):
     ]
 
 
+def parts_of(chance):
+    """The documents of some parts: dealt out at random or in the order of their values, with few values or many."""
+    values, step = chance.choice([3, 50, 10**6]), chance.choice([0, 1, 100])
+    return [
+        [(stamp, 0, part * step + chance.randrange(values)) for stamp in range(1, chance.randrange(2, 200))]
+        for part in range(chance.randint(1, 12))
+    ]
+
+
 def reply(found, k, order):
     """The reply of an index that has these documents."""
     sign = -1 if order == "falling" else 1
@@ -56,6 +65,27 @@ class Joins(unittest.TestCase):
             order_of = [(sign * hit["value"], hit["part"], hit["stamp"]) for hit in joined["top"]]
             self.assertEqual(order_of, sorted(order_of))
             self.assertEqual(replies, [reply(part, k, order) for part in parts], "what is joined stays as it is")
+
+    def test_less_first(self):
+        """Parts that give a share of their hits first, and some of them k hits then, make the top list of all hits."""
+        again, alone = 0, 0
+        for seed in range(1_000):
+            chance = random.Random(seed)
+            k, order = chance.randint(1, 300), chance.choice(["rising", "falling"])
+            lists = [reply(found, k, order)["top"] for found in parts_of(chance)]
+            asked = joins.share(k, len(lists))
+            first = joins.top([part[:asked] for part in lists], k, order)
+            parts = joins.parts_to_ask_again((part for part, _ in first), asked)
+            second = [hits[:k if part in parts else asked] for part, hits in enumerate(lists)]
+            self.assertEqual(joins.top(second, k, order), joins.top(lists, k, order))
+            again, alone = again + bool(parts), alone + (not parts and asked < k)
+        self.assertGreater(min(again, alone), 100, "both ways are tried")
+
+    def test_share(self):
+        """A part is asked for k hits at most, and for all of them if it is alone."""
+        self.assertEqual([joins.share(k, 1) for k in (1, 7, 10_000)], [1, 7, 10_000])
+        self.assertEqual([joins.share(10_000, parts) for parts in (4, 400)], [2_710, 55])
+        self.assertEqual(joins.share(10, 400), 10)
 
     def test_only_what_was_asked(self):
         replies = [{"count": 1}, {"count": 2}]

@@ -9,12 +9,18 @@
         answer = logs.search("timeout", groups=["level"], top=dilforec.Top("time", 10, "falling"))
 
 It needs Dask: `pip install dilforec[cluster]`. Dask says where partitions are made, and makes those of a lost worker
-again on another from their sources; docs/SCALE.md has the whole of it.
+again on another from their sources. Searches go to the workers themselves; docs/SCALE.md has the whole of it.
+
+From the top down: `_cluster` is what callers see; `_searches` makes one reply of the answers to a line; `_rounds` sends
+the searches of many threads together; `_gathering` sees to it that each partition answers once, by the addresses of
+`_places`; `_requests` is what goes over the network; `_responder` answers on a worker; `_partials` joins; `_partitions`
+makes the index of a source, and `_sources` reads it.
 """
-from dilforec.cluster._cluster import Cluster, Counts
-from dilforec.cluster._partitions import Refusal, SourceChanged, SourceRefused
+from dilforec.cluster._cluster import Cluster, Counts, Search
+from dilforec.cluster._partitions import Refusal, SourceChanged, SourceRefused, SourceUnreadable
 from dilforec.cluster._sources import Documents, JsonLines, Script, Source
 
 __all__ = [
-    "Cluster", "Counts", "Documents", "JsonLines", "Refusal", "Script", "Source", "SourceChanged", "SourceRefused",
+    "Cluster", "Counts", "Documents", "JsonLines", "Refusal", "Script", "Search", "Source", "SourceChanged",
+    "SourceRefused", "SourceUnreadable",
 ]

@@ -4,21 +4,30 @@
 from __future__ import annotations
 
 import importlib
+import itertools
 import os
 import sys
 import threading
+import time
 import uuid
 from collections.abc import Iterable, Sequence
-from typing import Any, NamedTuple, Union
+from dataclasses import dataclass
+from typing import Any, NamedTuple, Optional, Union, overload
 
 import distributed
 
-from dilforec.cluster._partitions import Refusal, make, tell
-from dilforec.cluster._searches import Joined, Part
+from dilforec.cluster._partitions import Refusal, make
+from dilforec.cluster._places import Part, Places
+from dilforec.cluster._responder import ResponderPlugin
+from dilforec.cluster._rounds import Rounds
+from dilforec.cluster._searches import Joined
 from dilforec.cluster._sources import JsonLines, Source
-from dilforec.index import Searching
+from dilforec.index import Searcher, Searching, SearchLines
 from dilforec.library import Closed
-from dilforec.values import Field
+from dilforec.values import Answer, Field, Groups, Top
+
+# Seconds between the tries to have all workers answer searches.
+PAUSES = (0.1, 0.5, 2.0)
 
 
 class Counts(NamedTuple):
@@ -26,6 +35,19 @@ class Counts(NamedTuple):
 
     documents: int
     refused: int
+
+
+@dataclass(frozen=True)
+class Search:
+    """One of the searches of `Cluster.search_many`, with what `Cluster.search` takes."""
+
+    query: str
+    groups: Union[str, list[str], tuple[str, ...], None] = None
+    top: Optional[Top] = None
+    fields: Optional[Sequence[str]] = None
+
+    def lines(self) -> SearchLines:
+        return SearchLines(self.query, self.groups, self.top, self.fields)
 
 
 class Cluster(Searching):
@@ -42,10 +64,13 @@ class Cluster(Searching):
     `search`, `hits` and `execute` are those of an index. A hit's stamp is of its `source`: of hits with equal values
     those of the source that was added first come first, and then those of the smaller stamp.
 
-    A partition that is lost with its worker is made again from its source by the next search, which waits for it. If
-    the source has other lines by then, or can't be read, searches raise SourceChanged until it is added again or
-    dropped. No search leaves a partition out: it answers over all of them, or raises, also what Dask raises when the
-    cluster can't go on.
+    Searches go to the workers themselves, those of several threads together, and are joined on the way. With a
+    `timeout`, in seconds, a search raises TimeoutError if it isn't answered in time; the cluster stays as it is.
+
+    A partition that is lost with its worker is made again from its source; searches wait for it. If the source has
+    other lines by then, they raise SourceChanged until it is added again or dropped. If an OSError keeps it from being
+    read, that is tried again, and then SourceUnreadable is raised; the next search tries again. No search leaves a
+    partition out: it answers over all of them, or raises, also what Dask raises when the cluster can't go on.
 
     It may be used from several threads. `close`, or the end of a `with`, drops the partitions; the client stays open.
     """
@@ -56,16 +81,23 @@ class Cluster(Searching):
         self, client: distributed.Client, schema: Sequence[Field],
         sources: Iterable[Union[str, os.PathLike[str], Source]], *, strict: bool = False, progress: bool = True,
     ) -> None:
+        if client.asynchronous:
+            raise ValueError("the client is asynchronous, and searches wait: make one that isn't")
         self._client, self._schema = client, tuple(schema)
         self._strict, self._progress = strict, progress
+        self._places = Places(client)
+        # It is held by what puts another channel in the place of this one, or closes it.
         self._lock = threading.Lock()
-        self._channel = Joined(client, self._made([_source(source) for source in sources]))
+        _register(client)
+        self._channel = self._joined(self._made([_source(source) for source in sources]))
 
     def add_source(self, source: Union[str, os.PathLike[str], Source]) -> None:
         """Makes a partition of one more source. A source of the same name is replaced by it.
 
-        Searches find its documents once this returns; the other partitions stay as they are.
+        Searches find its documents once this returns; the other partitions stay as they are. Closed if the cluster is
+        closed, also meanwhile.
         """
+        self._check_open()
         made = self._made([_source(source)])
         with self._lock:
             self._take({**self._channel.parts, **made})
@@ -73,24 +105,70 @@ class Cluster(Searching):
     def drop_source(self, name: Union[str, os.PathLike[str]]) -> None:
         """Drops the partition of a source; the others stay as they are. KeyError if there is none of this name."""
         with self._lock:
-            parts = dict(self._channel.parts)
+            parts = self._channel.parts
             del parts[os.fspath(name)]
             self._take(parts)
 
-    def _take(self, parts: dict[str, Part]) -> None:
-        """Has searches go over these partitions from now on."""
+    def close(self) -> None:
+        with self._lock:
+            self._channel.close()
+
+    def _check_open(self) -> None:
         if not self._channel.is_open:
             raise Closed("closed")
-        self._channel = Joined(self._client, parts)
+
+    def _take(self, parts: dict[str, Part]) -> None:
+        """Has searches go over these partitions from now on."""
+        self._check_open()
+        before, self._channel = self._channel.parts, self._joined(parts)
+        here = {part.future.key for part in parts.values()}
+        self._places.forget(part.future.key for part in before.values() if part.future.key not in here)
+
+    def _joined(self, parts: dict[str, Part]) -> Joined:
+        return Joined(Rounds(self._client, self._places, list(parts.values())))
 
     def counts(self) -> dict[str, Counts]:
         """Documents and refused lines of each partition, by the name of its source, in the order of the sources."""
-        parts = self._channel.parts
-        return {name: Counts(part.told.documents, part.told.refused) for name, part in parts.items()}
+        summaries = {name: part.summary for name, part in self._channel.parts.items()}
+        return {name: Counts(each.documents, each.refused) for name, each in summaries.items() if each}
 
     def refused(self) -> list[Refusal]:
         """The lines that were refused, the first 1,000 of each source; `counts` has their number."""
-        return [refusal for part in self._channel.parts.values() for refusal in part.told.refusals]
+        summaries = [part.summary for part in self._channel.parts.values()]
+        return [refusal for each in summaries if each for refusal in each.refusals]
+
+    @overload
+    def search(self, query: str, *, groups: Optional[str] = None, top: Optional[Top] = None,
+               fields: Optional[Sequence[str]] = None, timeout: Optional[float] = None) -> Answer[Groups]: ...
+
+    @overload
+    def search(
+        self, query: str, *, groups: Union[list[str], tuple[str, ...]], top: Optional[Top] = None,
+        fields: Optional[Sequence[str]] = None, timeout: Optional[float] = None,
+    ) -> Answer[dict[str, Groups]]: ...
+
+    def search(self, query: str, *, groups: Union[str, list[str], tuple[str, ...], None] = None,
+               top: Optional[Top] = None, fields: Optional[Sequence[str]] = None,
+               timeout: Optional[float] = None) -> Answer[Any]:
+        """As an index's `search`. TimeoutError if it isn't answered within `timeout` seconds."""
+        return self.search_many([Search(query, groups, top, fields)], timeout=timeout)[0]
+
+    def search_many(
+        self, searches: Iterable[Union[str, Search]], *, timeout: Optional[float] = None,
+    ) -> list[Answer[Any]]:
+        """The answers to several searches, which go to the workers together. A str is a query without anything else.
+
+        If one is refused, that is raised, and the others' answers are lost. TimeoutError if not all are answered within
+        `timeout` seconds.
+        """
+        asked = [(Search(each) if isinstance(each, str) else each).lines() for each in searches]
+        lines = [(line, each.names if place == 0 else None) for each in asked for place, line in enumerate(each.lines)]
+        replies = iter(self._channel.within(_checked(timeout)).ask_all(lines))
+        return [self._answered(each, list(itertools.islice(replies, len(each.lines)))) for each in asked]
+
+    def searcher(self, *, timeout: Optional[float] = None) -> Searcher:
+        """A searcher of the partitions as they are now. Its searches raise TimeoutError after `timeout` seconds."""
+        return Searcher(self._channel.within(_checked(timeout)), self._schema)
 
     def _made(self, sources: Sequence[Source]) -> dict[str, Part]:
         """New partitions, by the names of their sources."""
@@ -104,8 +182,34 @@ class Cluster(Searching):
         ]
         if self._progress and futures:
             _show_progress(futures)
-        told = self._client.gather(self._client.map(tell, futures, pure=False))
-        return dict(zip(names, map(Part, futures, told)))
+        distributed.wait(futures)
+        for future in futures:
+            if future.status == "error":
+                future.result()
+        parts = list(map(Part, names, futures))
+        summaries = Rounds(self._client, self._places, parts).summaries()
+        return {part.source: part._replace(summary=summary) for part, summary in zip(parts, summaries)}
+
+
+def _checked(timeout: Optional[float]) -> Optional[float]:
+    """A timeout, if it is one."""
+    if timeout is not None and not timeout > 0:
+        raise ValueError(f"a timeout is a number of seconds above 0, or None, not {timeout!r}")
+    return timeout
+
+
+def _register(client: distributed.Client) -> None:
+    """Has the workers answer searches, those that are there and those that come."""
+    # Since version 2023.9.2, Dask has one function for all kinds of plugins.
+    register = getattr(client, "register_plugin", None) or client.register_worker_plugin
+    for pause in PAUSES:
+        try:
+            register(ResponderPlugin(), name=ResponderPlugin.name)
+            return
+        except OSError:
+            # A worker died, and the scheduler didn't know.
+            time.sleep(pause)
+    register(ResponderPlugin(), name=ResponderPlugin.name)
 
 
 def _show_progress(futures: list[Any]) -> None:
@@ -118,4 +222,10 @@ def _show_progress(futures: list[Any]) -> None:
 
 
 def _source(source: Union[str, os.PathLike[str], Source]) -> Source:
-    return source if isinstance(source, Source) else JsonLines(source)
+    """A source, of whose name hits can be printed."""
+    source = source if isinstance(source, Source) else JsonLines(source)
+    try:
+        source.name.encode()
+    except UnicodeEncodeError:
+        raise ValueError(f"the name of the source {source.name!r} isn't Unicode") from None
+    return source

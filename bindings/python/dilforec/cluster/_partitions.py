@@ -7,23 +7,20 @@ import hashlib
 import itertools
 import json
 import threading
-from collections.abc import Sequence
 from dataclasses import dataclass
 from typing import Any, NamedTuple, Optional
 
 from dask.sizeof import sizeof
 
-from dilforec.cluster._sources import Source
-from dilforec.index import Index
+from dilforec.cluster._sources import LongLine, Source, whole_lines
+from dilforec.index import LONGEST_LINE, Index
 from dilforec.library import MEMORY, fault
-from dilforec.values import Field, Stats
+from dilforec.values import Field
 
 # Documents of a commit: as many as one segment takes. A source's file of script lines has its own commits.
 COMMIT = 65_536
 # Lines that are handed to the index at once.
 BLOCK = 256
-# A longer line is refused. (It is a limit of docs/SCRIPT.md; what is handed over in blocks has to fit.)
-LONGEST_LINE = 4_194_304
 # Refused lines that a partition lists; it counts all of them.
 LISTED = 1_000
 # About how many bytes are resident for each byte of lines that the index took; bench/scale.py measures it.
@@ -63,8 +60,23 @@ class SourceChanged(Exception):
         return f"{self.source} has changed since it was added: add it again or drop it"
 
 
-class Told(NamedTuple):
-    """What a partition tells of itself. The digest is of the lines that it was made of."""
+class SourceUnreadable(Exception):
+    """A lost partition can't be made again now: an OSError, which is the cause, keeps its source from being read.
+
+    It was tried several times. The next search tries again.
+    """
+
+    def __init__(self, source: str) -> None:
+        super().__init__(source)
+        self.source = source
+
+    def __str__(self) -> str:
+        why = f": {self.__cause__}" if self.__cause__ else ""
+        return f"{self.source} couldn't be read{why}"
+
+
+class Summary(NamedTuple):
+    """How many documents a partition has, what it refused, and the digest of the lines that it was made of."""
 
     digest: bytes
     documents: int
@@ -73,45 +85,49 @@ class Told(NamedTuple):
 
 
 @dataclass(frozen=True)
-class Held:
-    """What a partition holds once it is made. `size` is about how many bytes are resident."""
+class Built:
+    """What a partition has once it is made. `size` is about how many bytes are resident."""
 
     index: Index
-    told: Told
+    summary: Summary
     size: int
 
 
 class Partition:
-    """The index of a source. It never leaves its process: pickled, it is its source, which is read again at first use.
+    """The index of a source. It never leaves its process: pickled, it is its source, to be read again if it is asked.
 
     Dask unpickles in the thread that talks to the scheduler, so nothing is read there.
     """
 
     def __init__(self, schema: tuple[Field, ...], source: Source, size: int = 0) -> None:
         self.schema, self.source, self._size = schema, source, size
-        self._held: Optional[Held] = None
+        self._built: Optional[Built] = None
         self._lock = threading.Lock()
 
     def __reduce__(self) -> tuple[Any, ...]:
         return Partition, (self.schema, self.source, self.size())
 
-    def held(self, strict: bool = False) -> Held:
+    def built(self, strict: bool = False) -> Built:
         """The index, made now if it isn't there. Threads that need it wait for the first."""
         with self._lock:
-            if self._held is None:
-                self._held = _Making(self.schema, self.source, strict).held()
-            return self._held
+            if self._built is None:
+                self._built = _Building(self.schema, self.source, strict).built()
+            return self._built
+
+    def built_before(self) -> Optional[Built]:
+        """The index, if it is there."""
+        return self._built
 
     def size(self) -> int:
         """About how many bytes are resident, or will be."""
-        return self._held.size if self._held else self._size
+        return self._built.size if self._built else self._size
 
 
 sizeof.register(Partition, Partition.size)
 
 
-class _Making:
-    """A partition that is being made: lines go to the index a block at a time, and refusals are kept."""
+class _Building:
+    """A partition that is being made: lines go to the index a block at a time, and refusals are listed."""
 
     def __init__(self, schema: tuple[Field, ...], source: Source, strict: bool) -> None:
         self.schema, self.source, self.strict = schema, source, strict
@@ -122,39 +138,40 @@ class _Making:
         # Lines that the index has counted: the schema, those of the source, commits.
         self.counted = 1
 
-    def held(self) -> Held:
-        lines = self.source.lines()
+    def built(self) -> Built:
+        lines = whole_lines(self.source.lines())
         while block := list(itertools.islice(lines, BLOCK)):
             self._take(block)
             if self.lines % COMMIT == 0 and not self.source.commits:
                 self._commit()
         self._commit()
         documents = self.index.search("*").count
-        told = Told(self.digest.digest(), documents, self.refused, self.refusals)
-        return Held(self.index, told, HELD * self.size)
+        summary = Summary(self.digest.digest(), documents, self.refused, self.refusals)
+        return Built(self.index, summary, HELD * self.size)
 
     def _take(self, block: list[bytes]) -> None:
         self.digest.update(b"".join(block))
         commands = [self.source.command(line, self.schema) for line in block]
-        refused = [(place, "LineTooLong") for place, command in enumerate(commands, 1) if len(command) > LONGEST_LINE]
-        for place, _ in refused:
-            commands[place - 1] = b""
-        refused += self._done(commands)
-        for place, name in sorted(refused):
-            self._refuse(self.lines + place, name)
+        long = [place for place, line in enumerate(block)
+                if len(commands[place]) > LONGEST_LINE or isinstance(line, LongLine)]
+        for place in long:
+            commands[place] = b""
+        refused = [(place + 1, "LineTooLong") for place in long] + self._done(commands)
+        for number, name in sorted(refused):
+            self._refuse(self.lines + number, name)
         self.lines += len(block)
         self.size += sum(map(len, commands))
 
     def _done(self, commands: list[bytes]) -> list[tuple[int, str]]:
         """Has the index do lines, none of which is a search; the places, from 1, and names of what it refused."""
-        told: list[bytes] = []
-        code, done = self.index._channel.ask_block(commands, lambda replies: told.append(bytes(replies)))
-        if code or not told:
+        taken: list[bytes] = []
+        code, done = self.index._channel.ask_block(commands, lambda replies: taken.append(bytes(replies)))
+        if code or not taken:
             raise fault(code or MEMORY)
         before, self.counted = self.counted, self.counted + done
-        if b'{"error"' not in told[0]:
+        if b'{"error"' not in taken[0]:
             return []
-        refusals = [json.loads(reply) for reply in told[0].splitlines() if reply.startswith(b'{"error"')]
+        refusals = [json.loads(reply) for reply in taken[0].splitlines() if reply.startswith(b'{"error"')]
         return [(refusal["line"] - before, refusal["error"]) for refusal in refusals]
 
     def _refuse(self, number: int, name: str) -> None:
@@ -173,33 +190,5 @@ class _Making:
 def make(schema: tuple[Field, ...], source: Source, strict: bool) -> Partition:
     """The task that makes a partition."""
     partition = Partition(schema, source)
-    partition.held(strict)
+    partition.built(strict)
     return partition
-
-
-def tell(partition: Partition) -> Told:
-    """The task that asks a partition about itself."""
-    return partition.held().told
-
-
-def ask(partition: Partition, lines: Sequence[bytes], names: Optional[bytes]) -> tuple[bytes, list[bytes]]:
-    """The task that searches a partition: the digest of its lines, and a reply to each search."""
-    held = _made(partition)
-    with held.index.searcher() as searcher:
-        return held.told.digest, searcher._channel.ask_each(lines, names)
-
-
-def measure(partition: Partition) -> tuple[bytes, Stats]:
-    """The task that tells how large a partition is, beside the digest of its lines."""
-    held = _made(partition)
-    return held.told.digest, held.index.stats()
-
-
-def _made(partition: Partition) -> Held:
-    """The index of a partition that was made before, maybe on another worker."""
-    try:
-        return partition.held()
-    except MemoryError:
-        raise
-    except Exception as error:
-        raise SourceChanged(partition.source.name) from error

@@ -1,43 +1,72 @@
-"""Searches over all partitions: each is a task beside each partition, and the replies are joined here."""
+"""Searches over all partitions."""
 # Dask has no types.
 # mypy: allow-untyped-calls
 from __future__ import annotations
 
 import json
-from collections.abc import Callable, Mapping, Sequence
-from typing import Any, NamedTuple, Optional
+import time
+from collections.abc import Sequence
+from typing import Any, Optional
 
-import distributed
+from distributed.protocol.pickle import loads
 
 from dilforec import joins
-from dilforec.cluster._partitions import SourceChanged, Told, ask, measure
-from dilforec.library import Closed
+from dilforec.cluster._partials import Partial, encoded, joined, replaced
+from dilforec.cluster._places import Part
+from dilforec.cluster._requests import Asked
+from dilforec.cluster._rounds import Rounds
+from dilforec.index import LONGEST_LINE
+from dilforec.library import LINE_TOO_LONG, Closed, fault
 from dilforec.values import Stats
 
-
-class Part(NamedTuple):
-    """A partition on the cluster: its future, and what it told of itself when it was added."""
-
-    future: Any
-    told: Told
+# As docs/SCRIPT.md has it.
+LONGEST_TOP = 10_000
+# A longer line is sent as it is, so that it doesn't pass a limit by being written anew.
+LONGEST_WRITTEN = 65_536
 
 
 class Joined:
-    """Lines of searches in and joined replies out, over some partitions by the names of their sources.
+    """Lines of searches in and joined replies out, over the partitions of some rounds.
 
-    It takes the place of a channel to a searcher. Nothing changes in it, so threads need no lock.
+    It takes the place of a channel to a searcher. Nothing changes in it but that it is closed, so threads need no lock.
     """
 
-    def __init__(self, client: distributed.Client, parts: Mapping[str, Part]) -> None:
-        self.client, self.parts = client, parts
-        self.is_open = True
+    def __init__(self, rounds: Rounds, timeout: Optional[float] = None) -> None:
+        self._rounds: Optional[Rounds] = rounds
+        self._timeout = timeout
+
+    @property
+    def is_open(self) -> bool:
+        return self._rounds is not None
+
+    @property
+    def parts(self) -> dict[str, Part]:
+        """The partitions, by the names of their sources."""
+        rounds = self._rounds
+        return {part.source: part for part in rounds.parts} if rounds else {}
+
+    def _open(self) -> Rounds:
+        rounds = self._rounds
+        if rounds is None:
+            raise Closed("closed")
+        return rounds
+
+    def _open_with_parts(self) -> Rounds:
+        rounds = self._open()
+        if not rounds.parts:
+            raise ValueError("the cluster has no source")
+        return rounds
 
     def searcher(self) -> Joined:
-        return Joined(self.client, self.parts)
+        return self.within(self._timeout)
+
+    def within(self, timeout: Optional[float]) -> Joined:
+        """The same partitions, whose answers are waited for that long."""
+        return Joined(self._open(), timeout)
 
     def close(self) -> None:
         """Gives the partitions back, unless another one has them."""
-        self.is_open, self.parts = False, {}
+        self._rounds = None
 
     def ask(self, line: bytes) -> bytes:
         """The joined reply to a search's line, or to another line the refusal of a searcher; none to a blank one."""
@@ -45,46 +74,88 @@ class Joined:
 
     def ask_each(self, lines: Sequence[bytes], names: Optional[bytes]) -> list[bytes]:
         """The joined replies to some searches; `names`, a JSON list, says which fields the first one's hits have."""
-        told = self._told(ask, lines=lines, names=names)
-        marks = [{"source": name} for name in told]
-        replies = list(told.values())
-        return [_joined(line, [each[place] for each in replies], marks) for place, line in enumerate(lines)]
+        return self.ask_all([(line, names if place == 0 else None) for place, line in enumerate(lines)])
+
+    def ask_all(self, lines: Sequence[tuple[bytes, Optional[bytes]]]) -> list[bytes]:
+        """The joined replies to some searches, each with the names of the fields that its hits have."""
+        rounds, deadline = self._open_with_parts(), None if self._timeout is None else time.monotonic() + self._timeout
+        searches = [_Search(line, names, len(rounds.parts)) for line, names in lines]
+        answers = _asked(rounds, [(search, search.first()) for search in searches], deadline)
+        ranks = [search.to_ask_again(answer) for search, answer in zip(searches, answers)]
+        again = [place for place, each in enumerate(ranks) if each]
+        if again:
+            more = _asked(rounds, [(searches[place], searches[place].again(ranks[place])) for place in again], deadline)
+            for place, each in zip(again, more):
+                answers[place] = searches[place].replaced(answers[place], ranks[place], each)
+        return [encoded(answer) for answer in answers]
 
     def stats(self) -> Stats:
         """How large the partitions are together."""
-        return Stats(*map(sum, zip(*self._told(measure).values())))
-
-    def _told(self, task: Callable[..., tuple[bytes, Any]], **given: Any) -> dict[str, Any]:
-        """What a task tells of each partition, by its source. All of it is of the lines that the sources had at first."""
-        if not self.is_open:
-            raise Closed("closed")
-        parts = dict(self.parts)
-        if not parts:
-            raise ValueError("the cluster has no source")
-        # A search goes before partitions that wait to be made.
-        futures = [part.future for part in parts.values()]
-        asked = self.client.map(task, futures, **given, pure=False, priority=1)
-        try:
-            told = self.client.gather(asked)
-        except Exception:
-            for source, future in zip(parts, futures):
-                _raise_change(source, future)
-            raise
-        for (source, part), (digest, _) in zip(parts.items(), told):
-            if digest != part.told.digest:
-                raise SourceChanged(source)
-        return {source: each for source, (_, each) in zip(parts, told)}
+        return self._open_with_parts().stats(self._timeout)
 
 
-def _raise_change(source: str, future: Any) -> None:
-    """Raises SourceChanged if a partition, which was made once, can't be made again by fault of its source."""
-    cause = future.exception() if future.status == "error" else None
-    if cause is not None and not isinstance(cause, (MemoryError, distributed.scheduler.KilledWorker)):
-        raise SourceChanged(source) from cause
+def _asked(rounds: Rounds, asked: Sequence[tuple[_Search, Asked]], deadline: Optional[float]) -> list[Partial]:
+    """The answers to some searches."""
+    timeout = None if deadline is None else deadline - time.monotonic()
+    partials = rounds.search([each for _, each in asked], timeout)
+    return [search.joined(each) for (search, _), each in zip(asked, partials)]
 
 
-def _joined(line: bytes, told: Sequence[bytes], marks: Sequence[dict[str, str]]) -> bytes:
-    """One reply to a search. Partitions have one schema, so all of them refuse it or none does."""
-    if not told[0].startswith(b'{"count"'):
-        return told[0]
-    return joins.encoded(joins.answer(json.loads(line)["search"], [json.loads(reply) for reply in told], marks))
+class _Search:
+    """A search that asks each partition for few hits at first, if it has a long top list."""
+
+    def __init__(self, line: bytes, names: Optional[bytes], parts: int) -> None:
+        if len(line) > LONGEST_LINE and line.strip(b" \t\r"):
+            raise fault(LINE_TOO_LONG)
+        self._line, self._names = line, names
+        self._search = _search_of(line)
+        top = self._search.get("top")
+        self._k, self._is_falling = _first_of(top) if isinstance(top, dict) else (None, False)
+        self._share = self._k
+        if self._k is not None and len(line) <= LONGEST_WRITTEN:
+            self._share = joins.share(self._k, parts)
+
+    def first(self) -> Asked:
+        """What all partitions are asked."""
+        line = self._line if self._share == self._k else self._with_top(self._share, self._search)
+        return Asked(line, self._names, self._k, self._is_falling)
+
+    def again(self, ranks: Sequence[int]) -> Asked:
+        """What some partitions are asked: for all hits that may be wanted, and nothing else."""
+        search = {name: value for name, value in self._search.items() if name != "groups"}
+        return Asked(self._with_top(self._k, search), self._names, self._k, self._is_falling, ranks)
+
+    def _with_top(self, k: Optional[int], search: dict[str, Any]) -> bytes:
+        return json.dumps({"search": {**search, "top": {**search["top"], "k": k}}}).encode()
+
+    def joined(self, partials: Sequence[Partial]) -> Partial:
+        """One answer. If a partition's search failed, its exception is raised."""
+        answer = joined(partials, self._k)
+        if answer.fault is not None:
+            raise loads(answer.fault)
+        return answer
+
+    def to_ask_again(self, answer: Partial) -> list[int]:
+        """The partitions that may have more of the first k hits."""
+        if answer.hits is None or self._share is None or self._share == self._k:
+            return []
+        return joins.parts_to_ask_again((hit[1] for hit in answer.hits), self._share)
+
+    def replaced(self, answer: Partial, ranks: Sequence[int], again: Partial) -> Partial:
+        return replaced(answer, ranks, again, self._k)
+
+
+def _first_of(top: dict[str, Any]) -> tuple[Optional[int], bool]:
+    """How many hits a top list has, if it may have that many, and whether their values fall."""
+    k = top.get("k")
+    return k if type(k) is int and 0 < k <= LONGEST_TOP else None, top.get("order") == "falling"
+
+
+def _search_of(line: bytes) -> dict[str, Any]:
+    """The value of a line's search; nothing if it has none, and the partitions refuse it."""
+    try:
+        command = json.loads(line.decode())
+    except (RecursionError, ValueError):
+        return {}
+    search = command.get("search") if isinstance(command, dict) else None
+    return search if isinstance(search, dict) else {}

@@ -2,15 +2,27 @@
 from __future__ import annotations
 
 import abc
+import functools
+import gzip
+import hashlib
 import json
+import lzma
 import os
 from collections.abc import Callable, Iterable, Iterator, Mapping
 from dataclasses import dataclass
-from typing import Any, Union
+from typing import Any, BinaryIO, Union, cast
 
+from dilforec.index import LONGEST_LINE
 from dilforec.values import Field, Value, as_json
 
+# A line of a file comes in pieces of this length, which is too long for a line, its CR and its LF.
+PIECE = LONGEST_LINE + 3
+
 _encode = json.JSONEncoder(ensure_ascii=False, check_circular=False, separators=(",", ":")).encode
+
+
+class LongLine(bytes):
+    """The digest of a line that is too long, in its place."""
 
 
 class Source(abc.ABC):
@@ -23,7 +35,10 @@ class Source(abc.ABC):
 
     @abc.abstractmethod
     def lines(self) -> Iterator[bytes]:
-        """Its lines as they are, each but the last with its LF."""
+        """Its lines as they are, each but the last with its LF.
+
+        A line of more than 4,194,304 bytes may come in pieces, the first of them at least three bytes longer than that.
+        """
 
     @abc.abstractmethod
     def command(self, line: bytes, schema: tuple[Field, ...]) -> bytes:
@@ -36,15 +51,15 @@ class Source(abc.ABC):
 
 
 class _File(Source):
-    """A file that all workers can read, by the path that it has on each of them."""
+    """A file that all workers can read, by the path that it has on each of them; .gz and .xz are decompressed."""
 
     def __init__(self, path: Union[str, os.PathLike[str]]) -> None:
         self.name = os.fspath(path)
         self.path = os.path.abspath(self.name)
 
     def lines(self) -> Iterator[bytes]:
-        with open(self.path, "rb") as file:
-            yield from file
+        with _opened(self.path) as file:
+            yield from iter(functools.partial(file.readline, PIECE), b"")
 
     def __repr__(self) -> str:
         return f"{type(self).__name__}({self.name!r})"
@@ -87,6 +102,35 @@ class Documents(Source):
 
     def command(self, line: bytes, schema: tuple[Field, ...]) -> bytes:
         return add_line(line[:-1])
+
+
+def _opened(path: str) -> BinaryIO:
+    """A file of lines, by its suffix."""
+    if path.endswith(".gz"):
+        return cast(BinaryIO, gzip.open(path))
+    if path.endswith(".xz"):
+        return cast(BinaryIO, lzma.open(path))
+    return open(path, "rb")
+
+
+def whole_lines(pieces: Iterable[bytes]) -> Iterator[bytes]:
+    """The lines that come in pieces, with a LongLine in place of one that is too long."""
+    pieces = iter(pieces)
+    for piece in pieces:
+        if len(piece) < PIECE or piece.endswith(b"\n"):
+            yield piece
+        else:
+            yield _long_line(piece, pieces)
+
+
+def _long_line(piece: bytes, pieces: Iterator[bytes]) -> bytes:
+    """What takes the place of a long line, of which this is the first piece: a blank line, if it is blank."""
+    digest, is_blank = hashlib.blake2b(digest_size=16), True
+    while piece:
+        digest.update(piece)
+        is_blank = is_blank and not piece.strip(b" \t\r\n")
+        piece = b"" if piece.endswith(b"\n") else next(pieces, b"")
+    return b"\n" if is_blank else LongLine(digest.digest())
 
 
 def add_line(document: bytes) -> bytes:

@@ -1,0 +1,182 @@
+"""What all partitions reply to a request, whichever workers are lost meanwhile."""
+# Dask has no types.
+# mypy: allow-untyped-calls
+from __future__ import annotations
+
+import asyncio
+import collections
+import pickle
+from collections.abc import Sequence
+from typing import Any, NoReturn, Optional
+
+import distributed
+from distributed.protocol.pickle import loads
+from distributed.scheduler import KilledWorker
+
+from dilforec.cluster._partitions import SourceChanged, SourceUnreadable
+from dilforec.cluster._places import Part, Places
+from dilforec.cluster._requests import (
+    CHANGED, FAILED, LOST, OPERATION, UNMADE, Asked, Missing, Node, Reply, Request, Wanted, trees,
+)
+
+# A worker that hasn't answered for so many seconds is looked up again: it may be lost.
+PATIENCE = 1.0
+# What is asked again waits for so many seconds, at first and at most.
+FIRST_PAUSE, LONGEST_PAUSE = 0.02, 0.5
+# How often a source that can't be read is tried, and the seconds between.
+TRIES, BETWEEN_TRIES = 3, 0.3
+# Bytes of a reply that is read in a thread, since others wait for the event loop.
+LONG = 65_536
+
+
+class Gathering:
+    """One request to all of some partitions. It runs in the client's event loop.
+
+    Each worker is asked once for all its partitions. Those that didn't reply are looked up again, and asked again. A
+    lost partition is Dask's to make again; those that wait for it wait for its future.
+    """
+
+    def __init__(self, client: distributed.Client, places: Places, parts: Sequence[Part], turn: int) -> None:
+        self._client, self._places, self._turn = client, places, turn
+        self._parts = parts
+        self._left = dict(enumerate(parts))
+        # The workers that have the source of a partition alone.
+        self._unmade: dict[int, set[str]] = collections.defaultdict(set)
+        self._tries: collections.Counter[int] = collections.Counter()
+        self._results: list[Sequence[Any]] = []
+
+    async def results(self, task: str, searches: Sequence[Asked] = ()) -> list[Sequence[Any]]:
+        """What workers replied. Each partition is in one of these results, if searches go to it.
+
+        SourceChanged or SourceUnreadable if a partition can't be made again, or the exception of making it that is no
+        fault of its source.
+        """
+        pause = FIRST_PAUSE
+        if searches and all(search.only is not None for search in searches):
+            ranks = {rank for search in searches for rank in search.only or ()}
+            self._left = {rank: self._parts[rank] for rank in sorted(ranks)}
+        while self._left:
+            before = len(self._left)
+            nodes = self._nodes(await self._wanted())
+            for node, reply in zip(nodes, await self._replies(nodes, task, searches)):
+                await self._take(node, reply)
+            if len(self._left) == before:
+                await asyncio.sleep(pause)
+                pause = min(2 * pause, LONGEST_PAUSE)
+        return self._results
+
+    async def _wanted(self) -> dict[str, list[Wanted]]:
+        """What to ask of each worker now. If no worker has any of the partitions, this waits until they are made."""
+        holders = await self._places.find(self._left.values())
+        wanted: dict[str, list[Wanted]] = collections.defaultdict(list)
+        for rank, part in self._left.items():
+            addresses = holders[part.future.key]
+            if addresses:
+                makers = [address for address in addresses if address not in self._unmade[rank]]
+                digest = part.summary.digest if part.summary else None
+                address, make = (makers[0], False) if makers else (addresses[0], True)
+                wanted[address].append(Wanted(rank, part.future.key, digest, make))
+        if not wanted:
+            await asyncio.gather(*(self._await_made(rank, part) for rank, part in self._left.items()))
+        return wanted
+
+    def _nodes(self, wanted: dict[str, list[Wanted]]) -> list[Node]:
+        """The workers to ask. Those that are asked through the scheduler have a tree of their own."""
+        self._turn += 1
+        far = {address: each for address, each in wanted.items() if self._places.is_far(address)}
+        near = {address: each for address, each in wanted.items() if address not in far}
+        return trees(near, self._turn) + trees(far, self._turn)
+
+    async def _await_made(self, rank: int, part: Part) -> None:
+        error = await part.future.exception()
+        if error is None:
+            return
+        if isinstance(error, OSError):
+            await self._try_again(rank, error)
+            await self._places.retry(part.future)
+        else:
+            self._fail(part, error)
+
+    async def _try_again(self, rank: int, error: OSError) -> None:
+        """Waits before a source is read again, unless it was tried often enough."""
+        self._tries[rank] += 1
+        if self._tries[rank] >= TRIES:
+            raise SourceUnreadable(self._parts[rank].source) from error
+        await asyncio.sleep(BETWEEN_TRIES * self._tries[rank])
+
+    def _fail(self, part: Part, error: BaseException) -> NoReturn:
+        if part.summary is None or isinstance(error, (MemoryError, KilledWorker)):
+            raise error
+        raise SourceChanged(part.source) from error
+
+    async def _replies(self, nodes: Sequence[Node], task: str, searches: Sequence[Asked]) -> list[Optional[Reply]]:
+        """What each worker, with those below it, replies; None if it is lost."""
+        sent = [asyncio.ensure_future(self._send(node, Request(task, node, searches))) for node in nodes]
+        try:
+            while sent and (await asyncio.wait(sent, timeout=PATIENCE))[1]:
+                for node, reply in zip(nodes, sent):
+                    if not reply.done() and not await self._is_there(node):
+                        reply.cancel()
+        finally:
+            for reply in sent:
+                reply.cancel()
+        return [None if reply.cancelled() else reply.result() for reply in sent]
+
+    async def _send(self, node: Node, request: Request) -> Optional[Reply]:
+        sent = {"op": OPERATION, "request": request.pickled()}
+        try:
+            if self._places.is_far(node.address):
+                reply = await self._client.scheduler.proxy(msg=sent, worker=node.address)
+            else:
+                reply = await self._send_directly(node.address, sent)
+        except OSError:
+            return None
+        if reply is None:
+            raise RuntimeError(f"{node.address} can't answer searches: has it another version of dilforec?")
+        if len(reply) < LONG:
+            return _read(reply)
+        return await asyncio.get_running_loop().run_in_executor(None, _read, reply)
+
+    async def _send_directly(self, address: str, sent: dict[str, Any]) -> Any:
+        return await getattr(self._client.rpc(address), OPERATION)(request=sent["request"])
+
+    async def _is_there(self, node: Node) -> bool:
+        """Whether the scheduler still has the partitions that a worker, with those below it, is asked for."""
+        holders = [(wanted.key, address) for wanted, address in node.holders()]
+        return await self._places.are_right(holders, [self._parts[wanted.rank] for wanted, _ in node.holders()])
+
+    async def _take(self, node: Node, reply: Optional[Reply]) -> None:
+        """Takes a worker's reply in, and what it lacks back."""
+        if reply is None:
+            self._places.failed(node.address)
+            self._places.forget(wanted.key for wanted, _ in node.holders())
+            return
+        self._places.reached(node.address)
+        self._results.append(reply.results)
+        missing = {each.rank: each for each in reply.missing}
+        for wanted, address in node.holders():
+            if wanted.rank in missing:
+                await self._take_missing(missing[wanted.rank], wanted, address)
+            else:
+                del self._left[wanted.rank]
+
+    async def _take_missing(self, missing: Missing, wanted: Wanted, address: str) -> None:
+        part = self._parts[missing.rank]
+        if missing.why == CHANGED:
+            raise SourceChanged(part.source)
+        if missing.why == UNMADE:
+            self._unmade[missing.rank].add(address)
+        elif missing.why == FAILED:
+            error = loads(missing.error)
+            if not isinstance(error, OSError):
+                self._fail(part, error)
+            await self._try_again(missing.rank, error)
+        else:
+            if missing.why == LOST:
+                self._places.failed(address)
+            self._places.forget([wanted.key])
+
+
+def _read(reply: bytes) -> Reply:
+    read: Reply = pickle.loads(reply)
+    return read

@@ -1,0 +1,114 @@
+"""The answer to a search over some of the partitions, which can be joined with those over others.
+
+It holds what `dilforec.joins` makes of the partitions' replies, but each hit as the text that it is printed as, so that
+nobody reads a document twice.
+"""
+from __future__ import annotations
+
+import collections
+import itertools
+import json
+from collections.abc import Sequence
+from typing import Any, NamedTuple, Optional, Union
+
+from dilforec import joins
+
+# What is between the members of a reply, and around the hits of its top list. A document has no object within, and a
+# quote within a text is escaped, so nothing else in a reply looks like these.
+_TOP, _FIRST, _NEXT, _LAST = b',"top":[', b'{"doc":{', b'},{"doc":{', b'}]}\n'
+_STAMP, _VALUE = b'},"stamp":', b',"value"'
+
+# A hit of a top list: its value, negated if values fall; the place of its partition among all; its stamp; its text
+# without what is around it. Sorted, hits are in the order of the list. Plain tuples are pickled in a fraction of the time
+# of named ones.
+Hit = tuple[int, int, int, bytes]
+
+
+class Partial(NamedTuple):
+    """The answer to a search over some partitions; without arguments, over none of them.
+
+    `documents` are counted. `groups` has the values, in rising order, and their counts. `other` is a reply that is no
+    answer, as a refusal. `fault` is an exception, pickled.
+    """
+
+    documents: int = 0
+    groups: Optional[tuple[Sequence[Union[int, str]], Sequence[int]]] = None
+    hits: Optional[Sequence[Hit]] = None
+    other: Optional[bytes] = None
+    fault: Optional[bytes] = None
+
+
+def partial(reply: bytes, rank: int, source: bytes, is_falling: bool) -> Partial:
+    """What a partition replied to a search. `source` is the name of its source, as JSON."""
+    if not reply.startswith(b'{"count":'):
+        return Partial(other=reply)
+    top = reply.find(_TOP)
+    answer = json.loads(reply if top < 0 else reply[:top] + b"}")
+    groups = None
+    if "groups" in answer:
+        groups = ([value for value, _ in answer["groups"]], [count for _, count in answer["groups"]])
+    hits = None if top < 0 else _hits(reply, top + len(_TOP), rank, b',"source":' + source, is_falling)
+    return Partial(answer["count"], groups, hits)
+
+
+def _hits(reply: bytes, begin: int, rank: int, mark: bytes, is_falling: bool) -> list[Hit]:
+    """The hits of a reply's top list, which begins there. The mark is put after each document."""
+    hits: list[Hit] = []
+    sign = -1 if is_falling else 1
+    if reply.startswith(_FIRST, begin):
+        texts = reply[begin + len(_FIRST):-len(_LAST)].replace(_STAMP, b"}" + mark + _STAMP[1:]).split(_NEXT)
+        for text in texts:
+            _, stamp, value = text.rsplit(b":", 2)
+            hits.append((sign * int(value), rank, int(stamp[:-len(_VALUE)]), text))
+    return hits
+
+
+def joined(partials: Sequence[Partial], k: Optional[int]) -> Partial:
+    """One answer of several, none of which has a partition of another. A top list has the first k hits."""
+    for name in "fault", "other":
+        for each in partials:
+            if getattr(each, name) is not None:
+                return Partial(**{name: getattr(each, name)})
+    if len(partials) == 1 and k is None:
+        return partials[0]
+    lists = [each.hits for each in partials if each.hits is not None]
+    hits = sorted(itertools.chain.from_iterable(lists))[:k] if lists else None
+    groups = [each.groups for each in partials if each.groups is not None]
+    return Partial(sum(each.documents for each in partials), _joined_groups(groups) if groups else None, hits)
+
+
+def _joined_groups(
+    lists: Sequence[tuple[Sequence[Union[int, str]], Sequence[int]]],
+) -> tuple[Sequence[Any], Sequence[int]]:
+    """The groups of all, value by value, as `joins.groups` has them."""
+    if len(lists) == 1:
+        return lists[0]
+    counts: dict[Any, int] = collections.defaultdict(int)
+    for values, of_values in lists:
+        for value, count in zip(values, of_values):
+            counts[value] += count
+    values = sorted(counts)
+    return values, [counts[value] for value in values]
+
+
+def replaced(first: Partial, ranks: Sequence[int], again: Partial, k: Optional[int]) -> Partial:
+    """An answer whose hits of some partitions are those of another one."""
+    if again.fault is not None or again.other is not None:
+        return again
+    out = frozenset(ranks)
+    left = [hit for hit in first.hits or () if hit[1] not in out]
+    return first._replace(hits=sorted([*left, *(again.hits or ())])[:k])
+
+
+def encoded(answer: Partial) -> bytes:
+    """The reply, as `joins.encoded` writes it."""
+    if answer.other is not None:
+        return answer.other
+    head: joins.Reply = {"count": answer.documents}
+    if answer.groups is not None:
+        head["groups"] = list(zip(*answer.groups))
+    if answer.hits is None:
+        return joins.encoded(head)
+    if not answer.hits:
+        return joins.encoded({**head, "top": []})
+    return b"".join([joins.encoded(head)[:-2], _TOP, _FIRST, _NEXT.join([hit[3] for hit in answer.hits]), _LAST])

@@ -1,0 +1,109 @@
+"""What the client and the workers send each other, pickled: Dask takes bytes as they are."""
+from __future__ import annotations
+
+import io
+import pickle
+from collections.abc import Iterator, Mapping, Sequence
+from typing import Any, NamedTuple, Optional
+
+# The name of the handler that each worker has.
+OPERATION = "dilforec_answer"
+# How many workers one asks: up to that many the client asks itself, more than that are asked by a tree of workers.
+FAN_OUT = 16
+
+# Why a reply lacks a partition. The worker hasn't it; has its source alone; made it of other lines; failed to make it;
+# or a worker that was to be asked for it didn't answer.
+ABSENT, UNMADE, CHANGED, FAILED, LOST = "absent", "unmade", "changed", "failed", "lost"
+
+
+class Wanted(NamedTuple):
+    """A partition that is asked. `rank` is its place among all, `digest` that of the lines that it has to be made of.
+
+    With `make`, the worker makes it if it has its source alone.
+    """
+
+    rank: int
+    key: str
+    digest: Optional[bytes]
+    make: bool = False
+
+
+class Asked(NamedTuple):
+    """A search: its line, which fields its hits have, the first how many hits are wanted, and in which order.
+
+    `only` has the ranks of the partitions that it goes to; without it, it goes to all.
+    """
+
+    line: bytes
+    names: Optional[bytes] = None
+    k: Optional[int] = None
+    is_falling: bool = False
+    only: Optional[Sequence[int]] = None
+
+
+class Missing(NamedTuple):
+    """A partition that a reply lacks: one of the reasons above, and the pickled exception of FAILED."""
+
+    rank: int
+    why: str
+    error: Optional[bytes] = None
+
+
+class Reply(NamedTuple):
+    """What a worker replies: the results of the partitions that it asked, and the partitions that are missing."""
+
+    results: Sequence[Any]
+    missing: Sequence[Missing]
+
+    def pickled(self) -> bytes:
+        # Nothing in it is there twice, and without looking for that it takes a quarter of the time.
+        file = io.BytesIO()
+        pickler = pickle.Pickler(file, protocol=5)
+        pickler.fast = True
+        pickler.dump(self)
+        return file.getvalue()
+
+
+class Node(NamedTuple):
+    """A worker with the partitions that it is asked for, and the workers that it asks in turn."""
+
+    address: str
+    wanted: Sequence[Wanted]
+    below: Sequence[Node] = ()
+
+    def holders(self) -> Iterator[tuple[Wanted, str]]:
+        """All partitions of this worker and those below, each with the address of its worker."""
+        for each in self.wanted:
+            yield each, self.address
+        for node in self.below:
+            yield from node.holders()
+
+
+class Request(NamedTuple):
+    """What a worker is asked: `search`, `measure` or `tell`, of which partitions, and for which searches."""
+
+    task: str
+    node: Node
+    searches: Sequence[Asked]
+
+    def pickled(self) -> bytes:
+        return pickle.dumps(self, protocol=5)
+
+
+def trees(wanted: Mapping[str, Sequence[Wanted]], turn: int) -> list[Node]:
+    """The workers that the client asks, by what each is asked for: all of them, or one that asks the others.
+
+    `turn` counts the requests, so that the workers take turns at the top.
+    """
+    nodes = [Node(address, each) for address, each in wanted.items()]
+    if len(nodes) <= FAN_OUT:
+        return nodes
+    first = turn % len(nodes)
+    return [_tree(nodes[first:] + nodes[:first])]
+
+
+def _tree(nodes: Sequence[Node]) -> Node:
+    """The first of some workers, with up to FAN_OUT of the others right below it, and the rest below these."""
+    first, others = nodes[0], nodes[1:]
+    count = min(len(others), FAN_OUT)
+    return first._replace(below=[_tree(others[place::count]) for place in range(count)])

@@ -1,0 +1,199 @@
+"""What answers searches on a worker: a handler of its own, so that a search asks the scheduler for nothing."""
+# Dask has no types.
+# mypy: allow-untyped-calls
+from __future__ import annotations
+
+import asyncio
+import json
+import math
+import pickle
+from collections.abc import Sequence
+from concurrent.futures import ThreadPoolExecutor
+from typing import Any, Callable, NamedTuple, TypeVar
+
+from distributed import WorkerPlugin
+from distributed.protocol.pickle import dumps
+from distributed.worker_state_machine import FreeKeysEvent
+
+from dilforec.cluster._partials import Partial, joined, partial
+from dilforec.cluster._partitions import Built, Partition
+from dilforec.cluster._requests import (
+    ABSENT, CHANGED, FAILED, LOST, OPERATION, UNMADE, Asked, Missing, Reply, Request, Wanted,
+)
+
+T = TypeVar("T")
+
+# Requests that are under way at once have up to so many threads for each of the worker's own.
+REQUESTS = 4
+
+
+class Found(NamedTuple):
+    """A partition that is on this worker, and the name of its source as JSON."""
+
+    rank: int
+    built: Built
+    source: bytes
+
+
+class ResponderPlugin(WorkerPlugin):  # type: ignore[misc]
+    """Gives each worker a Responder, once: a plugin that takes the place of another leaves it as it is."""
+
+    name = "dilforec"
+
+    def setup(self, worker: Any) -> None:
+        if OPERATION not in worker.handlers:
+            worker.handlers[OPERATION] = Responder(worker).answer
+
+
+class Responder:
+    """Answers for the partitions of a worker, and asks other workers for theirs."""
+
+    def __init__(self, worker: Any) -> None:
+        self._worker = worker
+        self._threads = worker.state.nthreads
+        # Idle threads end with the pools, which go with the worker.
+        self._searching = ThreadPoolExecutor(REQUESTS * self._threads, "dilforec-search")
+        self._making = ThreadPoolExecutor(self._threads, "dilforec-make")
+
+    async def answer(self, comm: Any, request: bytes) -> bytes:
+        """The handler: a Reply to a Request, both pickled."""
+        task, node, searches = pickle.loads(request)
+        others = [asyncio.ensure_future(self._others(Request(task, each, searches))) for each in node.below]
+        found, missing = await self._found(node.wanted)
+        chunks, slices = self._cut(found, searches)
+        if len(chunks) == len(slices) == 1 and not others:
+            return await self._in_thread(_pickled_reply, task, found, searches, missing)
+        replies = list(await asyncio.gather(*(self._own(task, chunk, slices) for chunk in chunks), *others))
+        return await self._in_thread(_joined_replies, task, searches, [*replies, Reply([], missing)])
+
+    def _cut(
+        self, found: Sequence[Found], searches: Sequence[Asked],
+    ) -> tuple[list[Sequence[Found]], list[Sequence[Asked]]]:
+        """Partitions and searches, cut so that each thread has some of both."""
+        count = min(self._threads, len(found)) or 1
+        size = math.ceil(len(searches) * count / self._threads) or 1
+        chunks = [found[place::count] for place in range(count)]
+        return chunks, [searches[first:first + size] for first in range(0, len(searches), size)] or [searches]
+
+    async def _own(self, task: str, found: Sequence[Found], slices: Sequence[Sequence[Asked]]) -> Reply:
+        """What partitions on this worker reply."""
+        parts = await asyncio.gather(*(self._in_thread(results, task, found, searches) for searches in slices))
+        return Reply([answer for part in parts for answer in part], ())
+
+    async def _others(self, request: Request) -> Reply:
+        """What another worker, with those below it, replies."""
+        try:
+            reply = await getattr(self._worker.rpc(request.node.address), OPERATION)(request=request.pickled())
+        except OSError:
+            reply = None
+        if reply is None:
+            # It is gone, or has no handler.
+            return Reply([], [Missing(wanted.rank, LOST) for wanted, _ in request.node.holders()])
+        return await self._in_thread(_unpickled, reply)
+
+    async def _found(self, wanted: Sequence[Wanted]) -> tuple[list[Found], list[Missing]]:
+        """The partitions that are here, made now if that is asked for, and why the others aren't."""
+        looked_up = [self._looked_up(each) for each in wanted]
+        unmade = {place: each for place, each in enumerate(looked_up) if isinstance(each, Partition)}
+        made = await asyncio.gather(*(self._made(wanted[place], each) for place, each in unmade.items()))
+        every = [*looked_up, *made]
+        found = [each for each in every if isinstance(each, Found)]
+        return found, [each for each in every if isinstance(each, Missing)]
+
+    def _looked_up(self, wanted: Wanted) -> Found | Missing | Partition:
+        """A partition that is here, or why it isn't, or one that has to be made."""
+        partition = self._worker.data.get(wanted.key)
+        if partition is None:
+            self._forget(wanted.key)
+            return Missing(wanted.rank, ABSENT)
+        built = partition.built_before()
+        if built is not None:
+            return _found(wanted, partition, built)
+        return partition if wanted.make else Missing(wanted.rank, UNMADE)
+
+    async def _made(self, wanted: Wanted, partition: Partition) -> Found | Missing:
+        try:
+            built = await asyncio.get_running_loop().run_in_executor(self._making, partition.built)
+        except Exception as error:
+            return Missing(wanted.rank, FAILED, pickled(error))
+        return _found(wanted, partition, built)
+
+    def _forget(self, key: str) -> None:
+        """Tells Dask, if it believes that a partition is here, that it isn't. It is made again then."""
+        task = self._worker.state.tasks.get(key)
+        if task is not None and task.state == "memory":
+            self._worker.handle_stimulus(FreeKeysEvent(keys=[key], stimulus_id="dilforec-partition-absent"))
+
+    async def _in_thread(self, function: Callable[..., T], *given: Any) -> T:
+        return await asyncio.get_running_loop().run_in_executor(self._searching, function, *given)
+
+
+def results(task: str, found: Sequence[Found], searches: Sequence[Asked]) -> list[Any]:
+    """What partitions reply: the joined answers to the searches, or what each says of itself."""
+    if task == "search":
+        return search(found, searches)
+    return [(each.rank, TASKS[task](each.built)) for each in found]
+
+
+def search(found: Sequence[Found], searches: Sequence[Asked]) -> list[Partial]:
+    """The answers of some partitions to some searches, joined."""
+    only = [None if each.only is None else frozenset(each.only) for each in searches]
+    answers: list[list[Partial]] = [[] for _ in searches]
+    for rank, built, source in found:
+        with built.index.searcher() as searcher:
+            for asked, ranks, answer in zip(searches, only, answers):
+                if ranks is None or rank in ranks:
+                    answer.append(_answered(searcher, asked, rank, source))
+    return [joined(each, asked.k) for each, asked in zip(answers, searches)]
+
+
+def _answered(searcher: Any, asked: Asked, rank: int, source: bytes) -> Partial:
+    try:
+        (reply,) = searcher._channel.ask_each([asked.line], asked.names)
+        return partial(reply, rank, source, asked.is_falling)
+    except Exception as error:
+        return Partial(fault=pickled(error))
+
+
+def _pickled_reply(
+    task: str, found: Sequence[Found], searches: Sequence[Asked], missing: Sequence[Missing],
+) -> bytes:
+    return Reply(results(task, found, searches), missing).pickled()
+
+
+def _joined_replies(task: str, searches: Sequence[Asked], replies: Sequence[Reply]) -> bytes:
+    """One reply of several, pickled. Those that lack all of their partitions have no results."""
+    lists = [reply.results for reply in replies if reply.results]
+    answers = [each for some in lists for each in some]
+    if task == "search":
+        answers = [joined(each, asked.k) for each, asked in zip(zip(*lists), searches)]
+    return Reply(answers, [each for reply in replies for each in reply.missing]).pickled()
+
+
+def _unpickled(reply: bytes) -> Reply:
+    read: Reply = pickle.loads(reply)
+    return read
+
+
+def pickled(error: BaseException) -> bytes:
+    """An exception for another process; if it can't be pickled, one that says the same."""
+    try:
+        data: bytes = dumps(error)
+        pickle.loads(data)
+    except Exception:
+        data = pickle.dumps(RuntimeError(f"{type(error).__name__}: {error}"))
+    return data
+
+
+def _found(wanted: Wanted, partition: Partition, built: Built) -> Found | Missing:
+    """A partition, if it was made of the lines that it has to be made of."""
+    if wanted.digest not in (None, built.summary.digest):
+        return Missing(wanted.rank, CHANGED)
+    return Found(wanted.rank, built, json.dumps(partition.source.name, ensure_ascii=False).encode())
+
+
+# What is asked of a partition besides searches.
+TASKS: dict[str, Callable[[Built], Any]] = {
+    "measure": lambda built: built.index.stats(),
+    "tell": lambda built: built.summary,
+}
