@@ -21,31 +21,19 @@ import tempfile
 import time
 from typing import NamedTuple, Optional
 
+from counts import Counts
+
 ROOT = pathlib.Path(__file__).resolve().parents[1]
 PACKAGE = ROOT / "bindings/python"
 SHARED = PACKAGE / "dilforec/libdilforec.so"
 OUT = ROOT / "bindings/out"
 
-passed = failed = skipped = 0
+counts = Counts("cluster")
 
 
 class Done(NamedTuple):
     status: Optional[int]
     said: str
-
-
-def count(name, good, bad, words=""):
-    global passed, failed
-    passed, failed = passed + good, failed + bad
-    print(f"cluster: {name}: {f'{bad} FAILED' if bad else good}", flush=True)
-    if bad:
-        print(words, flush=True)
-
-
-def skip(name, why):
-    global skipped
-    skipped += 1
-    print(f"cluster: {name}: skipped, {why}", flush=True)
 
 
 def environment(*paths):
@@ -79,7 +67,7 @@ def with_distributed():
     if os.environ.get("DILFOREC_INSTALL") == "0":
         return None
     if not os.geteuid() and shutil.which("apt-get"):
-        print("cluster: installing python3-distributed", flush=True)
+        counts.say("installing python3-distributed")
         run("apt-get", "install", "-y", "--no-install-recommends", "python3-distributed", seconds=120,
             env={**os.environ, "DEBIAN_FRONTEND": "noninteractive"})
         if imports_distributed("/usr/bin/python3"):
@@ -99,7 +87,7 @@ def unittests(name, python, *paths):
     if done.status != 0 or not tests:
         bad = max(bad, 1)
     print("".join(line + "\n" for line in done.said.splitlines() if line.startswith("cluster: ")), end="")
-    count(name, max(tests - bad, 0), bad, done.said)
+    counts.add(name, max(tests - bad, 0), bad, done.said)
 
 
 # The example of docs/SCALE.md.
@@ -136,7 +124,7 @@ def runs_as_told(name, told, python, folder, env, *words):
     done = run(python, "logs.py", *words, cwd=folder, env=env)
     # Dask may have words of its own around it.
     good = done.status == 0 and told in done.said
-    count(name, int(good), int(not good), done.said + "\nand not\n" + told)
+    counts.check(name, good, done.said + "\nand not\n" + told)
 
 
 @contextlib.contextmanager
@@ -183,23 +171,23 @@ def with_tls(python, paths):
         for line in block_with("openssl req -x509").splitlines():
             done = run(*shlex.split(line), cwd=folder)
             if done.status != 0:
-                return count("the certificates", 0, 1, done.said)
+                return counts.check("the certificates", False, done.said)
         scheduler, worker = (shlex.split(line) for line in block_with("--protocol tls").splitlines())
         options = scheduler[scheduler.index("--tls-ca-file"):]
         same = options == worker[worker.index("--tls-ca-file"):]
-        count("the options of a scheduler and a worker", int(same), int(not same))
+        counts.check("the options of a scheduler and a worker", same)
         security = block_with("import Security").replace("from distributed import Client\n", "").partition("client = ")[0]
         program = (folder / "logs.py").read_text().replace("*sys.argv[1:] or [LocalCluster(threads_per_worker=1)]",
                                                            "sys.argv[1], security=security")
         (folder / "logs.py").write_text(security + program)
         with commands(python, folder, env, "--protocol", "tls", *options) as address:
             good = address.startswith("tls://")
-            count("an address of TLS", int(good), int(not good), address)
+            counts.check("an address of TLS", good, address)
             runs_as_told("the example over TLS", expected, python, folder, env, address)
             for stranger in address, address.replace("tls:", "tcp:"):
                 program = f"from distributed import Client; Client({stranger!r}, timeout=3)"
                 refused = run(python, "-c", program, cwd=folder, env=env, seconds=60).status not in (0, None)
-                count(f"a client without a certificate, by {stranger[:3]}", int(refused), int(not refused))
+                counts.check(f"a client without a certificate, by {stranger[:3]}", refused)
 
 
 def from_the_wheel(python, paths):
@@ -211,13 +199,13 @@ def from_the_wheel(python, paths):
         done = run(*pip, "wheel", "--quiet", "--no-index", "--no-deps", "--no-build-isolation", "-w", folder, PACKAGE)
         wheels = list(folder.glob("dilforec-*.whl"))
         if done.status != 0 or len(wheels) != 1:
-            return count("the wheel", 0, 1, done.said)
+            return counts.check("the wheel", False, done.said)
         run(python, "-m", "venv", "--without-pip", "--system-site-packages", folder / "plain")
         plain = folder / "plain/bin/python"
         env = environment(*paths)
         done = run(*pip, "--python", plain, "install", "--quiet", "--no-index", f"{wheels[0]}[cluster]", env=env)
         if done.status != 0:
-            return count("the wheel, installed", 0, 1, done.said)
+            return counts.check("the wheel, installed", False, done.said)
         runs_as_told("the example from the wheel", told, plain, folder, env)
 
 
@@ -226,10 +214,10 @@ def main():
     unittests("test_joins", sys.executable)
     found = with_distributed()
     if not SHARED.is_file():
-        count("the shared object", 0, 1, f"{SHARED} isn't there: bindings/python/link.py makes it")
+        counts.check("the shared object", False, f"{SHARED} isn't there: bindings/python/link.py makes it")
     elif found is None:
         for name in ("test_cluster", "the example of docs/SCALE.md", "the example over TLS", "the example from the wheel"):
-            skip(name, "since no Python here has distributed")
+            counts.skip(name, "no Python here has distributed")
     else:
         python, paths = found
         unittests("test_cluster", python, *paths)
@@ -237,13 +225,10 @@ def main():
         if shutil.which("openssl"):
             with_tls(python, paths)
         else:
-            skip("the example over TLS", "since there is no openssl")
+            counts.skip("the example over TLS", "there is no openssl")
         from_the_wheel(python, paths)
-    print(f"cluster: took {time.monotonic() - began:.0f} s")
-    if skipped:
-        print(f"{skipped} skipped")
-    print(f"{passed} passed, {failed} failed")
-    return 1 if failed else 0
+    counts.say(f"took {time.monotonic() - began:.0f} s")
+    return counts.end()
 
 
 if __name__ == "__main__":

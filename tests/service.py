@@ -19,6 +19,9 @@ import subprocess
 import sys
 import tempfile
 
+from counts import Counts
+
+counts = Counts("service")
 HERE = pathlib.Path(__file__).resolve().parent
 PACKAGE = HERE.parent / "bindings/python"
 TESTS = PACKAGE / "tests"
@@ -35,14 +38,14 @@ def install(*packages: str) -> None:
     """Installs packages of Debian, if that may be done here."""
     if os.environ.get("DILFOREC_INSTALL") == "0" or os.geteuid() or not shutil.which("apt-get"):
         return
-    print(f"service: installing {', '.join(packages)}", flush=True)
+    counts.say(f"installing {', '.join(packages)}")
     try:
         subprocess.run(
             ["apt-get", "-o", "DPkg::Lock::Timeout=100", "install", "-y", "--no-install-recommends", *packages],
             capture_output=True, timeout=240, env={**os.environ, "DEBIAN_FRONTEND": "noninteractive"},
         )
     except subprocess.TimeoutExpired:
-        print(f"service: installing {', '.join(packages)} took too long", flush=True)
+        counts.say(f"installing {', '.join(packages)} took too long")
 
 
 def serves(python: str, folder: str) -> bool:
@@ -88,7 +91,6 @@ def run(test: pathlib.Path, paths: list[str]) -> tuple[str, int, int, int, str]:
 
 
 def main() -> int:
-    passed = failed = left_out = 0
     if not any(map(shutil.which, BROWSERS)):
         install("chromium")
     if not shutil.which("gunicorn"):
@@ -102,15 +104,12 @@ def main() -> int:
         # The largest first, so that none of them goes on alone at the end.
         tests = sorted(TESTS.glob("test_service_*.py"), key=lambda test: test.stat().st_size, reverse=True)
         for name, good, bad, skipped, said in pool.map(lambda test: run(test, paths), tests):
-            passed, failed, left_out = passed + good, failed + bad, left_out + skipped
-            rounds = "".join(f" ({line})" for line in re.findall(r"^\d+ rounds: .*", said, re.MULTILINE))
-            print(f"service: {name}: {good} passed, {bad} failed, {skipped} skipped{rounds}", flush=True)
-            if bad:
-                print(said, flush=True)
-    if left_out:
-        print(f"{left_out} skipped")
-    print(f"{passed} passed, {failed} failed")
-    return 1 if failed else 0
+            counts.add(name, good, bad, said)
+            for line in re.findall(r"^\d+ rounds: .*", said, re.MULTILINE):
+                counts.say(line)
+            if skipped:
+                counts.skip(name, "the machine lacks what they need", skipped)
+    return counts.end()
 
 
 if __name__ == "__main__":
