@@ -6,9 +6,8 @@ use Rattle.fts_model.specs.Operations.{op_fits}
 use Rattle.fts_engine.specs.Indexes.{indexes}
 use Rattle.fts_engine.specs.SubmitTwo.{submit_two}
 use Rattle.fts_snapshots.specs.declared.commit_point.CommitPoint.{CommitPoint}
-use Rattle.fts_snapshots.specs.CountedSnapshots.{index_at}
 use Rattle.fts_engine_local.specs.declared.begun_merge.MergeSlot.{MergeSlot}
-use Rattle.fts_engine_local.specs.LocalIndexes.{IsLocalEngine, LocalValue}
+use Rattle.fts_engine_local.specs.LocalIndexes.{IsLocalEngine, LocalValue, index_at}
 use Rattle.fts_engine_local.proofs.LocalLemmas.{local_submitted_two, submitted_two}
 use Rattle.fts_engine_local.proofs.local_engine.LocalEngineSubmitTwo.submit_two.Goals as goal
 
