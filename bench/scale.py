@@ -309,9 +309,13 @@ def joining() -> dict[str, Join]:
     for name, reply, k in ("hit", hits, parts * size), ("group", groups, None):
         line = joins.encoded(reply)
         times = [time.perf_counter()]
-        read = [_partials.partial(line, rank, b'"source"', False) for rank in range(parts)]
+        answers = []
+        for rank in range(parts):
+            joining = _partials.Joining(k, False)
+            joining.add(line, rank, b'"source"')
+            answers.append(joining.answer())
         times.append(time.perf_counter())
-        sent = pickle.loads(_requests.Reply(read, ()).pickled()).results
+        sent = pickle.loads(_requests.Reply(answers, ()).pickled()).results
         times.append(time.perf_counter())
         answer = _partials.joined(sent, k)
         times.append(time.perf_counter())

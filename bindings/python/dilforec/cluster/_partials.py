@@ -16,11 +16,11 @@ from dilforec import joins
 # What is between the members of a reply, and around the hits of its top list. A document has no object within, and a
 # quote within a text is escaped, so nothing else in a reply looks like these.
 _TOP, _FIRST, _NEXT, _LAST = b',"top":[', b'{"doc":{', b'},{"doc":{', b'}]}\n'
-_STAMP, _VALUE = b'},"stamp":', b',"value"'
+_COUNT, _STAMP, _VALUE = b'{"count":', b'},"stamp":', b',"value"'
 
 # A hit of a top list: its value, negated if values fall; the place of its partition among all; its stamp; its text
-# without what is around it. Sorted, hits are in the order of the list. Plain tuples are pickled in a fraction of the time
-# of named ones.
+# without what is around it. Sorted, hits are in the order of the list. Plain tuples are pickled in a fraction of the
+# time of named ones.
 Hit = tuple[int, int, int, bytes]
 
 
@@ -38,17 +38,56 @@ class Partial(NamedTuple):
     fault: Optional[bytes] = None
 
 
-def partial(reply: bytes, rank: int, source: bytes, is_falling: bool) -> Partial:
-    """What a partition replied to a search. `source` is the name of its source, as JSON."""
-    if not reply.startswith(b'{"count":'):
-        return Partial(other=reply)
-    top = reply.find(_TOP)
-    answer = json.loads(reply if top < 0 else reply[:top] + b"}")
-    groups = None
-    if "groups" in answer:
-        groups = ([value for value, _ in answer["groups"]], [count for _, count in answer["groups"]])
-    hits = None if top < 0 else _hits(reply, top + len(_TOP), rank, b',"source":' + source, is_falling)
-    return Partial(answer["count"], groups, hits)
+class Joining:
+    """An answer to which the replies of partitions are added, one after the other.
+
+    `fault` is the pickled exception of one that didn't reply.
+    """
+
+    def __init__(self, k: Optional[int], is_falling: bool) -> None:
+        self.fault: Optional[bytes] = None
+        self._k, self._is_falling = k, is_falling
+        self._documents = 0
+        self._counts: Optional[dict[Any, int]] = None
+        self._hits: Optional[list[Hit]] = None
+        self._other: Optional[bytes] = None
+
+    def add(self, reply: bytes, rank: int, source: bytes) -> None:
+        """Adds a partition's reply. `source` is the name of its source, as JSON."""
+        if not reply.startswith(_COUNT):
+            self._other = reply
+            return
+        if b"," not in reply:
+            self._documents += int(reply[len(_COUNT):-2])
+            return
+        top = reply.find(_TOP)
+        answer = json.loads((reply if top < 0 else reply[:top] + b"}").decode())
+        self._documents += answer["count"]
+        if "groups" in answer:
+            self._add_groups(answer["groups"])
+        if top >= 0:
+            hits = _hits(reply, top + len(_TOP), rank, b',"source":' + source, self._is_falling)
+            if self._hits is None:
+                self._hits = []
+            self._hits += hits
+
+    def _add_groups(self, groups: list[list[Any]]) -> None:
+        if self._counts is None:
+            self._counts = collections.defaultdict(int)
+        counts = self._counts
+        for value, count in groups:
+            counts[value] += count
+
+    def answer(self) -> Partial:
+        """The answer over all that was added."""
+        groups = None if self._counts is None else _groups(self._counts)
+        hits = None if self._hits is None else sorted(self._hits)[:self._k]
+        return Partial(self._documents, groups, hits, self._other, self.fault)
+
+
+def _groups(counts: dict[Any, int]) -> tuple[Sequence[Any], Sequence[int]]:
+    values = sorted(counts)
+    return values, [counts[value] for value in values]
 
 
 def _hits(reply: bytes, begin: int, rank: int, mark: bytes, is_falling: bool) -> list[Hit]:
@@ -69,7 +108,7 @@ def joined(partials: Sequence[Partial], k: Optional[int]) -> Partial:
         for each in partials:
             if getattr(each, name) is not None:
                 return Partial(**{name: getattr(each, name)})
-    if len(partials) == 1 and k is None:
+    if len(partials) == 1:
         return partials[0]
     lists = [each.hits for each in partials if each.hits is not None]
     hits = sorted(itertools.chain.from_iterable(lists))[:k] if lists else None
@@ -87,8 +126,7 @@ def _joined_groups(
     for values, of_values in lists:
         for value, count in zip(values, of_values):
             counts[value] += count
-    values = sorted(counts)
-    return values, [counts[value] for value in values]
+    return _groups(counts)
 
 
 def replaced(first: Partial, ranks: Sequence[int], again: Partial, k: Optional[int]) -> Partial:

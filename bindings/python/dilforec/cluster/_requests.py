@@ -38,7 +38,7 @@ class Asked(NamedTuple):
     names: Optional[bytes] = None
     k: Optional[int] = None
     is_falling: bool = False
-    only: Optional[Sequence[int]] = None
+    only: Optional[frozenset[int]] = None
 
 
 class Missing(NamedTuple):

@@ -15,7 +15,7 @@ from distributed import WorkerPlugin
 from distributed.protocol.pickle import dumps
 from distributed.worker_state_machine import FreeKeysEvent
 
-from dilforec.cluster._partials import Partial, joined, partial
+from dilforec.cluster._partials import Joining, Partial, joined
 from dilforec.cluster._partitions import Built, Partition
 from dilforec.cluster._requests import (
     ABSENT, CHANGED, FAILED, LOST, OPERATION, UNMADE, Asked, Missing, Reply, Request, Wanted,
@@ -137,22 +137,30 @@ def results(task: str, found: Sequence[Found], searches: Sequence[Asked]) -> lis
 
 def search(found: Sequence[Found], searches: Sequence[Asked]) -> list[Partial]:
     """The answers of some partitions to some searches, joined."""
-    only = [None if each.only is None else frozenset(each.only) for each in searches]
-    answers: list[list[Partial]] = [[] for _ in searches]
-    for rank, built, source in found:
-        with built.index.searcher() as searcher:
-            for asked, ranks, answer in zip(searches, only, answers):
-                if ranks is None or rank in ranks:
-                    answer.append(_answered(searcher, asked, rank, source))
-    return [joined(each, asked.k) for each, asked in zip(answers, searches)]
+    joinings = [Joining(asked.k, asked.is_falling) for asked in searches]
+    for each in found:
+        with each.built.index.searcher() as searcher:
+            for asked, joining in zip(searches, joinings):
+                if asked.only is None or each.rank in asked.only:
+                    _add_reply(joining, searcher, asked, each)
+    return [joining.answer() for joining in joinings]
 
 
-def _answered(searcher: Any, asked: Asked, rank: int, source: bytes) -> Partial:
+def _add_reply(joining: Joining, searcher: Any, asked: Asked, found: Found) -> None:
     try:
-        (reply,) = searcher._channel.ask_each([asked.line], asked.names)
-        return partial(reply, rank, source, asked.is_falling)
+        joining.add(_reply(searcher, asked), found.rank, found.source)
     except Exception as error:
-        return Partial(fault=pickled(error))
+        joining.fault = pickled(error)
+
+
+def _reply(searcher: Any, asked: Asked) -> bytes:
+    """A partition's own reply."""
+    reply: bytes
+    if asked.names is None:
+        reply = searcher._channel.ask(asked.line)
+    else:
+        (reply,) = searcher._channel.ask_each([asked.line], asked.names)
+    return reply
 
 
 def _pickled_reply(

@@ -123,7 +123,7 @@ class _Search:
     def again(self, ranks: Sequence[int]) -> Asked:
         """What some partitions are asked: for all hits that may be wanted, and nothing else."""
         search = {name: value for name, value in self._search.items() if name != "groups"}
-        return Asked(self._with_top(self._k, search), self._names, self._k, self._is_falling, ranks)
+        return Asked(self._with_top(self._k, search), self._names, self._k, self._is_falling, frozenset(ranks))
 
     def _with_top(self, k: Optional[int], search: dict[str, Any]) -> bytes:
         return json.dumps({"search": {**search, "top": {**search["top"], "k": k}}}).encode()
