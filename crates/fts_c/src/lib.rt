@@ -196,7 +196,7 @@ pub extern "C" fn dilforec_open(slot: &mut Slot, alloc: Global) -> i32
 
 /// Does what a call asks for with what is open in a place.
 fn answer(slot: &mut Slot, alloc: Global, call: Call<'_>) -> i32
-    ensures { IfOpen slot.old.state slot.new.state result (λ old new. Answers call old new result) }
+    ensures { IfOpen slot.old.state slot.new.state result (λ old new. Answers call.entry old new result) }
 {
     match take(slot, alloc) {
         Some(handle) => {

@@ -32,7 +32,7 @@ pub struct State {
     pub merge: Option<BegunMerge>,
 }
 
-/// The two ways to answer a line.
+/// What a call asks of a session, or of a merge.
 #[derive(Clone, Copy)]
 pub(crate) enum Call<'a> {
     /// Executes a line.
@@ -272,7 +272,7 @@ impl State {
 
     /// Does what a call asks for, and returns its code.
     pub(crate) fn answer(&mut self, call: Call<'_>, alloc: Global) -> i32
-        ensures { Answers call self.old self.new result }
+        ensures { Answers call.entry self.old self.new result }
     {
         match call {
             Call::Execute(line) => self.execute(alloc, line),
