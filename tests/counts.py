@@ -28,9 +28,9 @@ class Counts:
             self.say(f"{name}: {good if good > 1 else 'ok'}")
         return not bad
 
-    def check(self, name: str, good: bool, words: object = "") -> bool:
-        """Counts one check, and returns whether it passed."""
-        return self.add(name, int(good), int(not good), words)
+    def check(self, name: str, good: object, words: object = "") -> bool:
+        """Counts one check, which passed if this is true, and returns whether it did."""
+        return self.add(name, int(bool(good)), int(not good), words)
 
     def skip(self, name: str, why: str, number: int = 1) -> None:
         """Counts what the machine can't try."""
