@@ -1,5 +1,5 @@
 -- Each commit follows the one before.
-use Rattle.dilforec.proofs.FollowLemmas.{follows_itself, follows_further}
+use Rattle.dilforec.specs.Successors.{follows_itself, follows_further}
 use Rattle.tests_merges.proofs.background.log.Goals as goal
 
 pub loop-line-init : goal.loop-line-init
