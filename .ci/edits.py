@@ -5,9 +5,13 @@
     rt ci | tee SAID; python3 .ci/edits.py --said SAID
 
 An edit of .ci/edits/CRATE/ is applied to a copy of its crate. The prover then checks one function, with what that
-calls, over the libraries below. The edit is refused if this function isn't proved and the first error is the goal of
+calls, over the libraries below. The edit is refused if this function isn't proved and its first error is the goal of
 its row, which is false under the edit. Before that a control proves the functions that the crate's rows name, without
 an edit; the edits are tried over what the control leaves. Crates go side by side, as many as the kit's lanes hold.
+
+A check costs more to begin than to end. So edits that each change the body of their row's own function alone are tried
+some at a time, in one copy: no function is checked against the body of another. An edit that isn't refused there as its
+row says is tried again by itself, and this try counts.
 
 `rt ci` tries the edits of must-fail/ itself, in crates that it proves in less than a minute. With --said, what it
 printed of them is compared with their rows, and the others are tried over the libraries that it has just built.
@@ -40,12 +44,19 @@ TABLE = HERE / "edits.txt"
 # What `rt ci` prints of an edit that is refused.
 SAID = re.compile(r"must-fail (\w+/[\w.-]+)\.edit: refused, as it must be(?:: (?:note: )?)?(.*)")
 
+# The line that opens a function's body, and the words that begin an item.
+OPENING = re.compile(r"^ *\{$", re.M)
+ITEM = re.compile(r"\b(?:fn|struct|enum|impl|trait|use|mod|const|static)\b")
+
 # A line of a check about a place, and one about a name that a proof file cites and the edit took away.
 PLACED = re.compile(r"(?:note: )?\S+:\d+:\d+:")
 LOST_NAME = re.compile(r"(?:note: )?(?:\./)?proofs/.*(?:has no field|is not in scope|has no `|was not admitted)")
 
 # The most memory that a check of one function was seen to take, in bytes.
 MEMORY = 2_400_000_000
+
+# The most edits that are tried by one check.
+TOGETHER = 6
 
 # Crates whose rows weren't all compared with what the prover says since functions were renamed. Their edits are tried like
 # all others, but one that isn't refused as its row says is printed and counted as skipped.
@@ -119,11 +130,46 @@ def without_contract(text: str) -> list[str]:
     return [name for name in names if name not in known]
 
 
+def is_inside(edit: Edit, folder: str) -> bool:
+    """Whether an edit changes the body of its row's function and nothing else of the crate in this folder."""
+    path = ""
+    for line in edit.path.read_text(encoding="utf-8").splitlines():
+        key, _, text = line.partition(": ")
+        if key == "file":
+            path = text.strip()
+        elif key == "old":
+            before, found, _ = pathlib.Path(folder, path).read_text(encoding="utf-8").partition(text)
+            name, _, head = before.rpartition("fn ")[2].partition("(")
+            if not found or name.split("<")[0] != edit.function.split("::")[-1] or not OPENING.search(head):
+                return False
+        elif key == "new" and ITEM.search(text):
+            return False
+    return True
+
+
+def together(edits: list[Edit], folder: str) -> list[list[Edit]]:
+    """The edits in groups that are each tried by one check: different functions, whose bodies alone are changed."""
+    groups: list[list[Edit]] = []
+    shared: list[list[Edit]] = []
+    for edit in edits:
+        if not edit.function or not is_inside(edit, folder):
+            groups.append([edit])
+            continue
+        name = edit.function.split("::")[-1]
+        for group in shared:
+            if len(group) < TOGETHER and all(name != other.function.split("::")[-1] for other in group):
+                group.append(edit)
+                break
+        else:
+            shared.append([edit])
+    return groups + shared
+
+
 def judge(edit: Edit, status: int, lines: list[str], is_unread: Callable[[str], bool]) -> None:
     """Raises NotRefused unless a check of an edit's function says what the edit's row says."""
     if status == 0:
         raise NotRefused(f"isn't refused: {edit.function} is proved with it")
-    if status != 1 or not lines[-1].startswith("only="):
+    if status != 1 or not any(line.startswith("only=") for line in lines[-1:]):
         raise NotRefused(f"is bad, since it doesn't reach the prover (status {status})", *lines[:6])
     unread = [line for line in lines if is_unread(line)]
     if unread:
@@ -173,40 +219,80 @@ class Trials:
             say(f"{self.crate.name}: its functions are proved without an edit")
         return status == 0
 
-    def attempt(self, edit: Edit, is_sound: bool) -> bool:
-        """Whether an edit is refused as its row says."""
-        folder = self.proved.with_name(edit.name.replace("/", "."))
+    def attempt(self, edits: list[Edit], is_sound: bool) -> list[bool]:
+        """Whether each of these edits is refused as its row says."""
         try:
-            if not is_sound:
-                raise NotRefused("isn't tried, since its crate's functions aren't proved without it")
-            self.rt.linked(self.proved, folder)
-            self.refuse(edit, folder)
-            say(f"{edit.name} is refused by {edit.function}: {edit.goal}")
-            return True
-        except NotRefused as error:
-            say(f"{edit.name} {error.args[0]}", *error.args[1:])
-            return False
-        except OSError as error:
-            say(f"{edit.name} isn't tried: {error}")
-            return False
+            refused = self.refused_together(edits) if is_sound and len(edits) > 1 else set()
+            return [edit.name in refused or self.attempt_alone(edit, is_sound) for edit in edits]
         finally:
-            shutil.rmtree(folder, ignore_errors=True)
-            self.untried.remove(edit.name)
+            self.untried -= {edit.name for edit in edits}
             if not self.untried:
                 shutil.rmtree(self.proved, ignore_errors=True)
 
-    def refuse(self, edit: Edit, folder: pathlib.Path) -> None:
+    def attempt_alone(self, edit: Edit, is_sound: bool) -> bool:
+        """Whether an edit is refused as its row says, and says so."""
+        try:
+            if not is_sound:
+                raise NotRefused("isn't tried, since its crate's functions aren't proved without it")
+            self.refuse(edit)
+            self.say_refused(edit)
+            return True
+        except NotRefused as error:
+            say(f"{edit.name} {error.args[0]}", *error.args[1:])
+        except OSError as error:
+            say(f"{edit.name} isn't tried: {error}")
+        return False
+
+    def refused_together(self, edits: list[Edit]) -> set[str]:
+        """The names of those of these edits that one check of a copy with all of them refuses as their rows say."""
+        refused: set[str] = set()
+        texts, why = self.rt.edited("\n".join(edit.path.read_text(encoding="utf-8") for edit in edits), self.crate.folder)
+        if why:
+            return refused
+        status, lines = self.check_edited(texts, [edit.function for edit in edits])
+        say(f"{len(edits)} of {self.crate.name} are tried together")
+        for edit in edits:
+            name = edit.function.split("::")[-1]
+            mine = [line for line in lines if not PLACED.match(line) or self.is_about(name, line)]
+            try:
+                self.judge(edit, texts, status, mine)
+            except NotRefused:
+                continue
+            self.say_refused(edit)
+            refused.add(edit.name)
+        return refused
+
+    def refuse(self, edit: Edit) -> None:
         """Raises NotRefused unless the function of an edit's row refuses the edit, by the goal of the row."""
         texts, why = self.rt.read_edit(str(edit.path), self.crate.folder)
         if why:
             raise NotRefused(f"is bad: {why}")
+        if not edit.function:
+            raise NotRefused("isn't tried, since it has no row")
+        status, lines = self.check_edited(texts, [edit.function])
+        self.judge(edit, texts, status, lines)
+
+    def check_edited(self, texts: dict[str, str], functions: list[str]) -> tuple[int, list[str]]:
+        """What `check` says of these functions over a copy of what the control left."""
+        with tempfile.TemporaryDirectory(prefix=f"{self.crate.name}-", dir=self.proved.parent) as room:
+            folder = pathlib.Path(room, "proved")
+            self.rt.linked(self.proved, folder)
+            return self.check(texts, functions, folder, 1)
+
+    def judge(self, edit: Edit, texts: dict[str, str], status: int, lines: list[str]) -> None:
+        """Raises NotRefused unless these lines of a check say what the edit's row says."""
         brought = without_contract(edit.path.read_text(encoding="utf-8"))
         if brought:
             raise NotRefused(f"is bad, since it brings functions without ensures: {', '.join(brought)}")
-        if not edit.function:
-            raise NotRefused("isn't tried, since it has no row")
-        status, lines = self.check(texts, [edit.function], folder, 1)
         judge(edit, status, lines, lambda line: bool(self.rt.unread(line, texts)))
+
+    def is_about(self, name: str, line: str) -> bool:
+        """Whether a line of a check about a place is about this function."""
+        return refused_by(self.crate.name, line.removeprefix("note: "))[0] == name
+
+    def say_refused(self, edit: Edit) -> None:
+        """Says that an edit is refused as its row says."""
+        say(f"{edit.name} is refused by {edit.function}: {edit.goal}")
 
 
 def say(*lines: str) -> None:
@@ -245,13 +331,13 @@ def try_here(edits: list[Edit], just_proved: bool) -> list[tuple[str, bool]]:
             trials = Trials(crate, [edit for edit in edits if edit.crate == crate.name], room)
             # The kit names tasks so: what a crate's edits begin with, and its edits, which wait for that.
             first = crate.name, "seed"
-            tasks[first] = [], crate.count(rb"\n"), MEMORY, lambda _, jobs, it=trials: it.control(jobs)
-            for edit in trials.edits:
-                call = lambda given, _, it=trials, edit=edit, first=first: it.attempt(edit, given[first])
-                tasks[crate.name, "edits", edit.name] = [first], 1, MEMORY, call
+            tasks[first] = [], crate.count(rb"\n"), MEMORY, lambda _, jobs, it=trials: [it.control(jobs)]
+            for group in together(trials.edits, crate.folder):
+                call = lambda given, _, it=trials, group=group, first=first: it.attempt(group, given[first][0])
+                tasks[crate.name, "edits", group[0].name] = [first], len(group), MEMORY, call
         given = rt.in_lanes(tasks)
     del held
-    return [(task[0], good) for task, good in given.items()]
+    return [(task[0], good) for task, results in given.items() for good in results]
 
 
 def compare_all(edits: list[Edit], file: str) -> list[bool]:

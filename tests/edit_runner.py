@@ -3,10 +3,11 @@
 
     python3 tests/edit_runner.py
 
-One edit is refused as its row says. Each other one must count as failed, for its own reason: it changes nothing, it
-can't be parsed, it brings a function without a contract, another goal or another function refuses it, or it has no row.
-Then the crate itself is made wrong, so that its control fails. All this takes about a minute of a processor. The last
-line is 'N passed, M failed'.
+Three edits are refused as their rows say: two that are tried together, and one that is first tried beside an edit that
+can't be parsed. Each other one must count as failed, for its own reason: it changes nothing, it can't be parsed, it
+brings a function without a contract, another goal or another function refuses it, or it has no row. Then the crate
+itself is made wrong, so that its control fails. All this takes about a minute of a processor. The last line is
+'N passed, M failed'.
 """
 import pathlib
 import shutil
@@ -42,7 +43,9 @@ NEXT, SECOND = "    n + 1", "    next(next(n))"
 
 # Of each edit the line that it changes, what stands there then, its row, and how what the runner says of it begins.
 EDITS = {
+    "adds-one": (SECOND, "    next(n)", "second: returns-clause-least", "is refused by second: returns-clause-least"),
     "gives-the-number": (NEXT, "    n", "next: returns", "is refused by next: returns"),
+    "gives-zero": (SECOND, "    0", "second: returns-clause-least", "is refused by second: returns-clause-least"),
     "changes-nothing": (NEXT, "    1 + n", "next: returns", "isn't refused"),
     "cannot-be-parsed": (NEXT, "    n +", "next: returns", "is bad"),
     "stands-nowhere": ("    n + 2", "    n", "next: returns", "is bad"),
@@ -51,7 +54,7 @@ EDITS = {
     "by-another-function": (NEXT, "    n + 2", "second: returns-clause-most", "is refused by "),
     "without-row": (NEXT, "    n", None, "isn't tried"),
 }
-GOOD = "gives-the-number"
+GOOD = {"adds-one", "gives-the-number", "gives-zero"}
 
 
 def repository(top: pathlib.Path, source: str) -> None:
@@ -95,13 +98,15 @@ def main() -> int:
         check(name, text, f"edits: small/{name} {wanted}")
     check("a row alone", text, "edits: small/gone has a row")
     check("the control", text, "edits: small: its functions are proved")
-    # The control and the good edit; all others, and the row.
-    check("the last line", text, f"\n2 passed, {len(EDITS)} failed\n")
+    check("a group", text, "edits: 2 of small are tried together")
+    # The control and the good edits; all others, and the row.
+    check("the last line", text, f"\n{1 + len(GOOD)} passed, {len(EDITS) - len(GOOD) + 1} failed\n")
     check("the status", str(status), "1")
 
     text, status = said(SOURCE.replace(NEXT, "    n"))
     check("a wrong crate", text, "edits: small: without an edit its functions aren't proved")
-    check("an edit of it", text, f"edits: small/{GOOD} isn't tried")
+    for name in sorted(GOOD):
+        check("an edit of it", text, f"edits: small/{name} isn't tried")
     print(f"{sum(results)} passed, {len(results) - sum(results)} failed")
     return 0 if all(results) else 1
 
