@@ -103,7 +103,8 @@ def versions(place):
         "dilforec": found(r'^__version__ = "(.*)"$', (ROOT / "bindings/python/dilforec/__init__.py").read_text()),
         "Cargo.toml": found(r'^version = "(.*)"$', (ROOT / "bindings/rust/Cargo.toml").read_text()),
         "CHANGELOG.md": found(r"^## (\S+) \(\d{4}-\d\d-\d\d\)$", (place.pages / "CHANGELOG.md").read_text()),
-        "fts(1)": found(r'^\.TH FTS 1 "\d{4}-\d\d-\d\d" "Dilforec (\S+)"', place.manual("fts.1")),
+        **{page: found(rf'^\.TH {page.split(".")[0].upper()} \d "\d{{4}}-\d\d-\d\d" "Dilforec (\S+)"', place.manual(page))
+           for page in ("fts.1", "dilforec.1", "dilforec.3")},
     }
     check("one version", set(told.values()) == {VERSION}, told)
 
