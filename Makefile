@@ -40,7 +40,7 @@ SOURCES := crates.txt HANDLES $(shell find crates -name out -prune -o \( -name '
 
 # Documents and examples keep the folders that they have here, so that their links lead somewhere.
 PAGES := README.md CHANGELOG.md $(wildcard docs/*.md docs/*.svg docs/*.png)
-EXAMPLES := $(wildcard examples/*.jsonl examples/*/*.py examples/service/* bindings/c/example.c bindings/python/examples/*.py)
+EXAMPLES := $(wildcard examples/*.jsonl examples/*/*.py examples/packages/available examples/service/* bindings/c/example.c bindings/python/examples/*.py)
 DOCS = $(PAGES) $(EXAMPLES)
 
 FILL = sed -e 's|@VERSION@|$(VERSION)|g' -e 's|@DATE@|$(DATE)|g' -e 's|@PREFIX@|$(PREFIX)|g' \
