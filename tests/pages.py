@@ -13,7 +13,8 @@ unless bindings/build.sh has linked them. It takes some seconds, and proves and 
   stand-ins for what reaches other machines; except the lines that `ELSEWHERE` lists, with the reason. Blocks of Python
   compile. Commands of a script are commands. Queries of QUERIES.md are what that page says.
 - The tutorial: its blocks run one after the other, the service too, and print what the page says that they print.
-- Definitions: docs/DEFINITIONS.md is what tests/definitions.py writes.
+- Definitions: docs/DEFINITIONS.md is what tests/definitions.py writes. PROOFS.md counts what must be read as tests/reading.py does, and a kit
+  that it doesn't name is printed, and counted as skipped. CONTRIBUTING.md has the table of tests/try_crate.py.
 - Numbers: what was measured is in docs/MEASURED.md, its appendix MEASURED-ALL.md and the table of README.md, which is MEASURED's. Elsewhere no
   page has a number before ns, µs, ms or their words, nor one of these tables with a fraction and three digits or more. A part that was measured
   over 50 commits ago is printed, and counted as skipped.
@@ -42,7 +43,9 @@ import urllib.request
 from typing import Callable, Iterator, NamedTuple
 
 import definitions
+import reading
 import service
+import try_crate
 from counts import Counts
 
 ROOT = pathlib.Path(__file__).resolve().parents[1]
@@ -358,6 +361,19 @@ def unlisted() -> None:
 OTHERS = re.compile(r"let |use dilforec::|dilforec_\w+ |C:$|\[dependencies\]|find_package")
 
 
+def counted() -> None:
+    """What PROOFS.md counts is what tests/reading.py counts, and its kit the one that is there."""
+    proofs = (DOCS / "PROOFS.md").read_text("utf-8").replace("\n", " ")
+    sums = reading.summed().told.partition(";")[0]
+    check("docs/PROOFS.md: what must be read", sums in proofs, f"isn't {sums}")
+    if shutil.which("rt"):
+        kit = subprocess.run(["rt", "version"], capture_output=True, text=True).stdout.strip()
+        if kit not in proofs:
+            skip("docs/PROOFS.md: the kit", f"it wasn't tried with {kit}")
+    contributing = (ROOT / "CONTRIBUTING.md").read_text("utf-8")
+    check("CONTRIBUTING.md: the table of crates", try_crate.table() in contributing, "isn't that of tests/try_crate.py --table")
+
+
 def quoted() -> None:
     """README's lines of Rattle are those of a program that the gate proves."""
     source = textwrap.dedent((ROOT / "crates/example_index/src/main.rt").read_text("utf-8")).replace("\n    ", "\n")
@@ -589,6 +605,7 @@ def main() -> int:
     words_of_code()
     unlisted()
     quoted()
+    counted()
     same_definitions()
     numbers()
     ages()
