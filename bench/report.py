@@ -201,7 +201,7 @@ def section(part: Part) -> str:
 
 def introduction() -> str:
     commits = {str(kept(part)["commit"]) for part in PARTS if kept(part)}
-    one = f"All were measured at commit {commits.pop()}." if len(commits) == 1 else "They weren't all measured at one commit."
+    one = f"All were measured at commit {commits.pop()}." if len(commits) == 1 else "Not all was measured at one commit."
     return f"""# What was measured
 
 For those who choose an index or plan a machine: how fast Dilforec is and how much memory it takes, beside SQLite's FTS5 and Lucene. `python3
@@ -216,7 +216,7 @@ Lower is better, except in the first row and the last two. Unless a part says ot
 {summary.meanings(kept_by_name)}
 
 A µs is a millionth of a second of processor time of one thread. A search of one of these kinds that takes 10 µs can be made 100,000 times a
-second by one thread. A load is how many processes ran or waited to run in the minute before; from 1 on, times are longer than on a quiet machine,
+second by one thread. A load is how many processes ran or waited to run in the minute before. From 1 on, times are longer than on a quiet machine,
 and a ratio of two columns says more than either.
 
 ## The documents

@@ -51,7 +51,7 @@ ROWS = (
     Row("build: documents a second", "builds", documents_a_second,
         "How fast an index is made anew, as at each start: one thread adds and commits 100,000 documents of 30 words."),
     Row("memory: MB for 100,000 documents", "builds", of_builds("resident"),
-        "What must fit into memory. Dilforec holds the documents too; FTS5 ran on a file, and of Lucene it is the Java machine's."),
+        "What must fit into memory. All three are in memory here; of Lucene it is what its Java machine has."),
     Row("count of a word, µs", "floor", of_floor("term"), "How many documents have a frequent word, as a box for searches asks."),
     Row("two words, both (AND), µs", "floor", of_floor("`+a +b`"), "The usual query of two or more words."),
     Row("a phrase, µs", "floor", of_floor("phrase"),
