@@ -120,14 +120,11 @@ DIFFERENT = """Some kinds of search have more than one number in the appendix, s
 
 def opening(raw: dict[str, Any]) -> str:
     """What was asked of which programs, and that they agree."""
-    names = [f"{name} {version}".strip() for name, version in raw["programs"].items()]
-    missing = raw["left_out"]
-    were = "was" if len(missing) == 1 else "were"
-    left_out = f"{len(missing) or 'none'} {were} left out{': ' if missing else '.'}{' '.join(missing)}"
+    names = [f"{name} {version}" for name, version in raw["programs"].items() if version]
+    missing = f" Left out: {', '.join(raw['left_out'])}." if raw["left_out"] else ""
     return (
         f"{raw['documents']:,} documents, {raw['searches']} searches of each kind; {raw['dead']:,} documents are deleted for the second half. "
-        f"{len(names)} programs were asked ({', '.join(names)}), {left_out} {raw['compared']:,} answers were compared with the first program's, and all "
-        "agree.")
+        f"Versions: {', '.join(names)}.{missing} {raw['compared']:,} answers were compared, and all agree.")
 
 
 def shown(raw: dict[str, Any]) -> str:

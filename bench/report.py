@@ -182,21 +182,27 @@ def where(part: Part) -> str:
     return "on {machine}; kit {kit}".format(**kept(part))
 
 
-def load(part: Part) -> str:
-    """The load before a part was measured."""
-    before: float = kept(part)["load"][0]
-    return f"load {before:.1f}" + (", so not on a quiet machine" if before >= QUIET else "")
-
-
 def section(part: Part) -> str:
-    """A part's heading, conditions, tables and picture."""
+    """A part's heading, note, tables and picture."""
     told = kept(part)
-    program = f", program {told['program'].split()[0]}" if told["program"] else ""
-    conditions = f"`--only {part.name}`: commit {told['commit']}{program}, {told['date']}, {told['seconds']} s, {load(part)}"
-    conditions += "".join(f"; {each}" for each in where(part).split("; ") if each not in usual().split("; ")) + "."
     note = [told["note"]] if told.get("note") else []
     picture = [f"![{part.title}]({part.picture})"] if part.picture else []
-    return "\n\n".join([f"## {part.title}", conditions, *note, part.shown(told["raw"]), *picture])
+    return "\n\n".join([f"## {part.title}", *note, part.shown(told["raw"]), *picture])
+
+
+def conditions(there: list[Part]) -> str:
+    """How each part was measured, as a table; and what isn't as usual."""
+    rows = []
+    others = []
+    for part in there:
+        told = kept(part)
+        program = told["program"].split()[0] if told["program"] else "–"
+        anchor = re.sub(r"[^\w\- ]", "", part.title.lower()).replace(" ", "-")
+        rows.append([f"[{part.name}](#{anchor})", told["commit"], program, told["date"].replace(" UTC", "").replace(" ", "T"), str(told["seconds"]),
+                     f"{told['load'][0]:.1f}"])
+        others += [f"{part.name} {each}" for each in where(part).split("; ") if each not in usual().split("; ")]
+    unusual = f"\n\nElsewhere: {'; '.join(others)}." if others else ""
+    return floor_table.table(["part", "commit", "program", "UTC", "seconds", "load"], rows) + unusual
 
 
 def introduction() -> str:
@@ -277,10 +283,10 @@ def appendix() -> str:
     missing = ", ".join(f"{part.title.lower()} (`--only {part.name}`)" for part in PARTS if part not in there)
     closing = [f"## Not measured yet\n\n{missing[0].upper()}{missing[1:]}."] if missing else []
     head = (
-        "# Every table\n\nFor those who look closer: all that `python3 bench/report.py` measures, part by part. Each says with which words it is "
-        "measured anew, at which commit, when and in how many seconds it was measured, how the SHA-256 of the program begins, and the load. "
-        "[MEASURED](MEASURED.md) has the documents, the kinds of search and the programs. A dash means that a program has nothing for the search.")
-    return of_paragraphs("\n\n".join([head, *map(section, there), *closing]))
+        "# Every table\n\nFor those who look closer: all that `python3 bench/report.py` measures, part by part; `--only` measures one anew. "
+        "[MEASURED](MEASURED.md) has the documents, the kinds of search and the programs. A dash means that a program has nothing for the search. "
+        "What was measured under a load of 1 or more wasn't measured on a quiet machine. A program is named by its SHA-256.")
+    return of_paragraphs("\n\n".join([head, conditions(there), *map(section, there), *closing]))
 
 
 def readme() -> str:
