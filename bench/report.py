@@ -221,8 +221,7 @@ Lower is better, except in the first row and the last two. Unless a part says ot
 
 {summary.meanings(kept_by_name)}
 
-A µs is a millionth of a second of processor time of one thread. A search of one of these kinds that takes 10 µs can be made 100,000 times a
-second by one thread. A load is how many processes ran or waited to run in the minute before. From 1 on, times are longer than on a quiet machine,
+A µs is a millionth of a second of processor time: one thread makes 100,000 searches of 10 µs a second. A load is how many processes ran or waited to run in the minute before. From 1 on, times are longer than on a quiet machine,
 and a ratio of two columns says more than either.
 
 ## The documents

@@ -103,11 +103,11 @@ def kinds(documents: int) -> dict[str, Callable[[random.Random], Search]]:
 
 # What each kind of `kinds` asks, as docs/MEASURED.md says it.
 ASKED = {
-    "term": "`w`, one of the 200 most frequent words, each as often; how many documents have it",
+    "term": "how many documents have one of the 200 most frequent words",
     "absent term": "a word that no document has",
-    "rare term": "`w`, one of the words that some ten documents have",
-    "keyword": "`tag:k`, one of the 1,000 keywords",
-    "`+a +b`": "both of two words: one of the 20 most frequent, and one of the next 480",
+    "rare term": "a word that about ten documents have",
+    "keyword": "one of the 1,000 keywords",
+    "`+a +b`": "one of the 20 most frequent words and one of the next 480 (AND)",
     "AND of four": "all of four of the 30 most frequent words",
     "`+a -b`": "a word of the 100 most frequent, without one of the 20 most frequent",
     "`a b`": "either of two of the 100 most frequent words (OR)",
@@ -115,10 +115,10 @@ ASKED = {
     "phrase": "`\"a b\"`, two of the ten most frequent words side by side",
     "range": "numbers between two bounds: a tenth of the documents, or ten of them",
     "keyword range": "keywords between two bounds: a tenth of the documents",
-    "groups": "a word of the 20 most frequent, and how many hits have each of the 100 values of the `i64` (facets)",
-    "groups by keyword": "the same word, and how many hits have each of the 1,000 keywords",
-    "top 10": "the same word, its number of hits, and the ten of them with the greatest `u64`",
-    "top 10 over a range": "the documents of a range, and the ten of them with the least `i64`",
+    "groups": "how many documents of one of the 20 most frequent words have each value of the `i64` (facets)",
+    "groups by keyword": "the same by the keyword",
+    "top 10": "one of the 20 most frequent words, and the ten hits with the greatest `u64`",
+    "top 10 over a range": "a range, and the ten hits with the least `i64`",
     "top 10 over everything": "all documents, and the ten with the least or greatest `u64`",
 }
 
