@@ -41,8 +41,7 @@ def updates(raw: Any) -> Found:
 def of_service(kind: str) -> Callable[[Any], Found]:
     def found(raw: Any) -> Found:
         row = re.search(rf"^\|{kind}, 16 clients\|([\d,]+)\|[^|]*\|[^|]*\|([\d,]+)\|", str(raw), re.MULTILINE)
-        assert row
-        return tuple(float(each.replace(",", "")) for each in row.groups()) + (None,)
+        return (*(float(each.replace(",", "")) for each in row.groups()), None) if row else (None,) * len(NAMES)
 
     return found
 
