@@ -553,7 +553,7 @@ def versions() -> None:
         found = re.search(form, (ROOT / name).read_text("utf-8"), re.MULTILINE)
         # CMake is asked for the first two numbers, which have to agree.
         wanted = version if name != "docs/EMBEDDING.md" else version.rpartition(".")[0]
-        check(f"{name}: the version", bool(found) and found[1] == wanted, f"isn't {wanted}")
+        check(f"{name}: the version", found is not None and found[1] == wanted, f"isn't {wanted}")
 
 
 def paragraphs(text: str) -> Iterator[tuple[int, str]]:
