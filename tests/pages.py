@@ -81,7 +81,7 @@ OF_OTHERS = {"conflicts_with", "k_smallest", "kmerge", "logic", "pydoc", "rattle
 # Command lines that don't run here, each by how it begins or by a word in it, and why.
 ELSEWHERE = {
     r"^(sudo )?make\b": "it proves for minutes; .ci/install.py calls each target with what is built",
-    r"^pip install\b": "it needs an environment of its own or a network; .ci/install.py and tests/cluster.py do it",
+    r"^(pip install|python3 -m venv)\b": "it needs an environment of its own or a network; .ci/install.py and tests/cluster.py do it",
     r"^bindings/(build|examples)\.sh$": "bindings/test.py builds and runs what they do",
     r"^bindings/test\.py$|^python3 (tests|bench|examples/sharded)/(?!sharded\.py)": "it is a step of the gate, or takes minutes",
     r"pkg-config": ".ci/install.py compiles with what was installed",
