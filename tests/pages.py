@@ -19,8 +19,7 @@ unless bindings/build.sh has linked them. It takes some seconds, and proves and 
   page has a number before ns, µs, ms or their words, nor one of these tables with a fraction and three digits or more. A part that was measured
   over 50 commits ago is printed, and counted as skipped.
 - Versions: each place that has the version has that of the file VERSION.
-- Sentences: none has over 35 words; a word of code counts as one, and the comments of definitions in DEFINITIONS.md don't count. Each page of
-  docs/ says at its head for whom it is.
+- Sentences: none has over 35 words; a word of code counts as one. Each page of docs/ says at its head for whom it is.
 - README.md has 110 lines at most.
 
 The last lines are 'N skipped', if any, and 'N passed, M failed'.
@@ -576,7 +575,7 @@ def paragraphs(text: str) -> Iterator[tuple[int, str]]:
 def sentences() -> None:
     for page in PAGES:
         long = []
-        for number, told in paragraphs(page.read_text("utf-8").partition(definitions.MARK)[0]):
+        for number, told in paragraphs(page.read_text("utf-8")):
             plain = re.sub(r"`[^`]*`", "CODE", re.sub(r"\[([^\]]*)\]\([^)]*\)", r"\1", told)).replace("**", "")
             for sentence in re.split(r"(?<=[.!?])[\"')]*\s+(?=[\"'(]*[A-Z0-9])", plain):
                 if sum(bool(re.search(r"\w", word)) for word in sentence.split()) > MOST_WORDS:
