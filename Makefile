@@ -1,9 +1,12 @@
 # Proves, builds, tests and installs Dilforec.
 #
-#   make                  proves and builds what is missing: the program, the archive, the shared object
+#   make                  proves and builds what is missing: the program, the archive, the shared object; with -j4, four
+#                         libraries at a time, each of which takes up to 4 GB
 #   make install          puts them, the header, man pages, completions, docs and examples below DESTDIR and PREFIX
 #   make uninstall        takes them away again
 #   make check            the merge gate
+#   make try CRATE=NAME   runs a crate's cases and tests unproved; CASE='words' the cases with these words alone
+#   make prove CRATE=NAME proves a crate; ONLY=NAME a function of it
 #   make wheel, make deb  the Python package, and packages for Debian, in out/
 #   make clean            removes what was built here, but no proof
 #
@@ -40,7 +43,7 @@ SOURCES := crates.txt HANDLES $(shell find crates -name out -prune -o \( -name '
 
 # Documents and examples keep the folders that they have here, so that their links lead somewhere.
 PAGES := README.md CHANGELOG.md $(wildcard docs/*.md docs/*.svg docs/*.png)
-EXAMPLES := $(wildcard examples/*.jsonl examples/*/*.py examples/service/* bindings/c/example.c bindings/python/examples/*.py)
+EXAMPLES := $(wildcard examples/*.jsonl examples/*/*.py examples/packages/available examples/service/* bindings/c/example.c bindings/python/examples/*.py)
 DOCS = $(PAGES) $(EXAMPLES)
 
 FILL = sed -e 's|@VERSION@|$(VERSION)|g' -e 's|@DATE@|$(DATE)|g' -e 's|@PREFIX@|$(PREFIX)|g' \
@@ -62,16 +65,28 @@ INSTALLED = $(bindir)/fts $(libdir)/$(SONAME) $(libdir)/libdilforec.so $(libdir)
 HAS_KIT = @command -v rt >/dev/null || \
     { echo "rt, the Rattle kit's command, isn't on the PATH: README.md says where the kit comes from" >&2; exit 1; }
 
-.PHONY: all check install uninstall wheel deb clean
+.PHONY: all check try prove libraries install uninstall wheel deb clean
 .DELETE_ON_ERROR:
 
 all: $(PROGRAM) $(LIBRARY)
 
+# What each library below the program and the archive stands on, as crates.txt says: fts_merge:fts_segment,fts_pack and so on.
+STANDS := $(shell sed -n '/^fts_\(list\|c\)\b/d; s/^\(fts_[a-z_]*\)[^:]*: */\1:/; t one; d; :one; s/ /,/g; p' crates.txt)
+comma = ,
+LIBRARIES := $(foreach each,$(STANDS),$(firstword $(subst :, ,$(each))))
+below = $(addprefix library-,$(filter $(LIBRARIES),$(subst $(comma), ,$(word 2,$(subst :, ,$(1))))))
+
+libraries: $(addprefix library-,$(LIBRARIES))
+.PHONY: $(addprefix library-,$(LIBRARIES))
+$(foreach each,$(STANDS),$(eval library-$(firstword $(subst :, ,$(each))): $(call below,$(each))))
+$(addprefix library-,$(LIBRARIES)):
+	cd crates/$(@:library-%=%) && rt lib
+
 crates/fts/out/fts: $(SOURCES)
 	$(HAS_KIT)
-	@echo "Proving and building what is missing: half an hour on four processors if nothing was proved before"
-	@echo "(README.md has the minutes), some minutes if everything was."
-	.ci/build.py --version
+	@echo "Proving and building what is missing, for up to an hour if nothing was proved before (README.md has the minutes)."
+	+$(MAKE) --no-print-directory libraries
+	cd crates/fts && rt run -- --version
 	touch $@
 
 crates/fts_c/out/libfts_c.a: $(SOURCES) | $(PROGRAM)
@@ -82,9 +97,19 @@ crates/fts_c/out/libfts_c.a: $(SOURCES) | $(PROGRAM)
 $(LIBRARY) &: $(ARCHIVE) bindings/python/link.py
 	$(PYTHON) bindings/python/link.py
 
+try:
+	$(HAS_KIT)
+	$(PYTHON) tests/try_crate.py $(CRATE) $(if $(CASE),'$(CASE)')
+
+# Errors in the code come first, in seconds.
+prove:
+	$(HAS_KIT)
+	cd crates/$(CRATE) && rt check --only= && rt check $(if $(ONLY),--only $(ONLY))
+
 check:
 	$(HAS_KIT)
 	@echo "The merge gate: every proof, edit and test, most of an hour on four processors (README.md has the minutes)."
+	@echo "It installs packages of Debian that the tests lack, unless DILFOREC_INSTALL=0."
 	.ci/run
 
 install: all

@@ -38,6 +38,41 @@ def make(*words):
     return run("make", "-s", "-C", ROOT, *words, env={**built, **os.environ})
 
 
+# A kit's command that knows what make may call, and no module beside it.
+RT = """#!/bin/sh
+echo "$(basename "$PWD"): $*" >> "$SAID"
+mkdir -p out
+case "$*" in
+    lib) : > "out/lib$(basename "$PWD").a" ;;
+    "run -- --version") : > out/fts ;;
+    *) exit 1 ;;
+esac
+"""
+
+
+def public_commands(folder):
+    """`make` builds by `rt lib` and `rt run` alone, each library once and after those that it stands on."""
+    copy, kit = folder / "copy", folder / "kit"
+    shutil.copytree(ROOT, copy, ignore=shutil.ignore_patterns(".git", "out", ".ci", "docs", "bench", "tests", "target"))
+    kit.mkdir()
+    (kit / "rt").write_text(RT)
+    (kit / "rt").chmod(0o755)
+    variables = {name: value for name, value in os.environ.items() if not name.startswith(("DILFOREC_", "MAKE"))}
+    done = run("make", "-s", "-j4", "-C", copy, "crates/fts/out/fts", "crates/fts_c/out/libfts_c.a",
+               env={**variables, "PATH": f"{kit}:{os.environ['PATH']}", "SAID": str(folder / "called")})
+    called = (folder / "called").read_text().splitlines() if not done.returncode else []
+    libraries = [line.partition(":")[0] for line in called[:-2]]
+    stands = {line.split(":")[0].split()[0]: line.split(":")[1].split() for line in (ROOT / "crates.txt").read_text().splitlines()
+              if ":" in line and not line.startswith("#")}
+    below = {}
+    for name in stands:
+        below[name] = {name}.union(*(below[it] for it in stands[name] if it in below))
+    wanted = (below["fts"] | below["fts_c"]) - {"fts", "fts_c"}
+    after = all(libraries.index(it) < libraries.index(name) for name in libraries for it in stands[name] if it in wanted)
+    check("make builds by the kit's public commands", sorted(libraries) == sorted(wanted) and after, said(done) + "\n".join(called))
+    check("make builds the program and the archive last", called[-2:] == ["fts: run -- --version", "fts_c: lib"], called[-2:])
+
+
 def files():
     """The files outside the folder that an installation could write, each with its time."""
     folders = "/usr/local", *(ROOT / it for it in ("bindings", "packaging", "docs", "examples"))
@@ -103,7 +138,8 @@ def versions(place):
         "dilforec": found(r'^__version__ = "(.*)"$', (ROOT / "bindings/python/dilforec/__init__.py").read_text()),
         "Cargo.toml": found(r'^version = "(.*)"$', (ROOT / "bindings/rust/Cargo.toml").read_text()),
         "CHANGELOG.md": found(r"^## (\S+) \(\d{4}-\d\d-\d\d\)$", (place.pages / "CHANGELOG.md").read_text()),
-        "fts(1)": found(r'^\.TH FTS 1 "\d{4}-\d\d-\d\d" "Dilforec (\S+)"', place.manual("fts.1")),
+        **{page: found(rf'^\.TH {page.split(".")[0].upper()} \d "\d{{4}}-\d\d-\d\d" "Dilforec (\S+)"', place.manual(page))
+           for page in ("fts.1", "dilforec.1", "dilforec.3")},
     }
     check("one version", set(told.values()) == {VERSION}, told)
 
@@ -112,6 +148,8 @@ def main():
     of_debian = "--deb" in sys.argv[1:]
     with tempfile.TemporaryDirectory() as name:
         folder = pathlib.Path(name)
+        if not of_debian:
+            attempt(public_commands, folder)
         (folder / "root").mkdir()
         place = (unpacked if of_debian else installed)(folder / "root")
         if not place:

@@ -17,9 +17,9 @@ PRICES = 1_000_000
 LEAST_TEMP, TEMPS = -50, 100
 
 DESCRIPTION = (
-    f"A document has a text of {WORDS_EACH} words, drawn by Zipf's law from a vocabulary of {VOCABULARY:,} random words of 4 to 9 letters (word r "
-    f"comes with a chance in proportion to 1/r); a keyword, one of {TAGS:,}; a `u64` below {PRICES:,}, almost all of them different; and an `i64` "
-    f"from {LEAST_TEMP} to {LEAST_TEMP + TEMPS - 1}. All are drawn independently."
+    f"A document has a text of {WORDS_EACH} words, drawn by Zipf's law from a vocabulary of {VOCABULARY:,} random words of 4 to 9 letters: word r "
+    f"comes with a chance in proportion to 1/r. It has a keyword, one of {TAGS:,}, a `u64` below {PRICES:,}, almost all of them different, and an "
+    f"`i64` from {LEAST_TEMP} to {LEAST_TEMP + TEMPS - 1}. All are drawn independently."
 )
 
 SCHEMA: dict[str, list[dict[str, Any]]] = {"schema": [

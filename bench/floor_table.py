@@ -98,17 +98,33 @@ HOW = (
     "JSON. FTS5 is called through Python, and its top lists come without the number of hits. Lucene's time is that of the thread that searches, once "
     "its code is compiled. A goal is a ratio that was set beforehand: what `fts run` was to take, by what the column took then. A ratio over its goal is bold.")
 
+PROGRAMS = """|program|what it is|
+|---|---|
+|fts|`fts run`, or the library where a table says so|
+|plain arrays|loops in C++ over each word's list of documents, as 32-bit numbers: what could be had at best without packing|
+|packed lists|the same loops over lists that are packed in blocks, as ours are|
+|CRoaring|compressed bitmaps, one for each word; they have no positions, so no phrases|
+|FTS5|the full-text index of SQLite, through Python|
+|Lucene|with a heap of its own in Java; its query cache and its shortcut for counts are off|
+|Xapian, Groonga|full-text engines in C and C++|"""
+
+DIFFERENT = """Some kinds of search have more than one number in the appendix, since not the same is measured:
+
+|where|a term, µs|what differs|
+|---|---|---|
+|[searches](MEASURED-ALL.md#searches-of-100000-documents)|{searches}|each of the 200 most frequent words as often, one segment, the least of several rounds|
+|[inside another program](MEASURED-ALL.md#inside-another-program)|{embedding}|words as often as documents have them, so mostly the most frequent; two segments|
+|[without a script](MEASURED-ALL.md#searches-without-a-script)|{collecting}|words as often as documents have them; by the clock, and every block is opened|
+|[scripts, by the clock](MEASURED-ALL.md#scripts-by-the-clock)|{scripts}|words as often as documents have them; by the clock, with the waits for the pipe|"""
+
 
 def opening(raw: dict[str, Any]) -> str:
     """What was asked of which programs, and that they agree."""
-    names = [f"{name} {version}".strip() for name, version in raw["programs"].items()]
-    missing = raw["left_out"]
-    were = "was" if len(missing) == 1 else "were"
-    left_out = f"{len(missing) or 'none'} {were} left out{': ' if missing else '.'}{' '.join(missing)}"
+    names = [f"{name} {version}" for name, version in raw["programs"].items() if version]
+    missing = f" Left out: {', '.join(raw['left_out'])}." if raw["left_out"] else ""
     return (
         f"{raw['documents']:,} documents, {raw['searches']} searches of each kind; {raw['dead']:,} documents are deleted for the second half. "
-        f"{len(names)} programs were asked ({', '.join(names)}), {left_out} {raw['compared']:,} answers were compared with the first program's, and all "
-        "agree.")
+        f"Versions: {', '.join(names)}.{missing} {raw['compared']:,} answers were compared, and all agree.")
 
 
 def shown(raw: dict[str, Any]) -> str:

@@ -44,7 +44,7 @@ def written(path: pathlib.Path, width: float, height: float, parts: Iterable[str
 
 def bars(path: pathlib.Path, rows: Mapping[str, Mapping[str, float]], names: Sequence[str], label: str) -> None:
     """A group of bars for each row, one for each name that the row has, on a logarithmic scale."""
-    left, right, top, width = 160.0, 740.0, 10.0, 760.0
+    left, right, top, width = 160.0, 740.0, 10.0, 780.0
     least = 10 ** math.floor(math.log10(min(value for row in rows.values() for value in row.values())))
     most = 10 ** math.ceil(math.log10(max(value for row in rows.values() for value in row.values())))
 

@@ -1,11 +1,12 @@
 #!/usr/bin/env python3
-"""Writes docs/MEASURED.md whole from what was measured.
+"""Writes docs/MEASURED.md, its appendix docs/MEASURED-ALL.md and the table of README.md whole from what was measured.
 
-    python3 bench/report.py [--only PART[,PART..]] [--note TEXT] [--written]
+    python3 bench/report.py [--only PART[,PART..]] [--note TEXT] [--wait MINUTES] [--written]
 
 Without arguments it measures every part anew; with --only, those parts, and the others keep what they were measured with, and their own commit.
-With --written nothing is measured: the page is written again from what bench/measured holds. A part's raw results are kept there, in PART.json,
-with the commit, the date, the machine, the kit and the load when its measuring began, and with what --note says of how it was measured.
+With --written nothing is measured: the pages are written again from what bench/measured holds. A part's raw results are kept there, in PART.json,
+with the commit, the date, the machine, the kit and the load when its measuring began, and with what --note says of how it was measured. Before
+each part it waits until the load is below 1, for 10 minutes at most or as --wait says; a part that began under more says so.
 
 A part is a line of `PARTS`. It names a module of bench/ that has `measure()`, which gives raw results that JSON can hold, and `shown(raw)`, which
 gives them as Markdown; or, by `printed`, a program whose output is shown as it is.
@@ -30,11 +31,19 @@ from typing import Any, Callable, NamedTuple
 
 import corpus
 import floor_table
+import searches
+import summary
 from programs import PROGRAM, ROOT, run
 
 PAGE = ROOT / "docs/MEASURED.md"
+APPENDIX = ROOT / "docs/MEASURED-ALL.md"
+README = ROOT / "README.md"
+# The line of README.md after which the table is.
+MARK = "<!-- bench/report.py writes this table. -->"
 KEPT = ROOT / "bench/measured"
 WIDTH = 140
+# A machine on which less runs or waits to run is quiet.
+QUIET = 1.0
 # Of the scripts that were made to be slow, those are shown that take more than so many times as long as a plain one.
 SLOW = 4
 
@@ -121,8 +130,16 @@ def program() -> str:
     return begins + (" (named in $FTS)" if "FTS" in os.environ else "")
 
 
-def measured(part: Part, note: str) -> dict[str, Any]:
+def wait_for_quiet(minutes: float) -> None:
+    """Waits until the load is below QUIET, for so long at most."""
+    end = time.monotonic() + 60 * minutes
+    while os.getloadavg()[0] >= QUIET and time.monotonic() < end:
+        time.sleep(5)
+
+
+def measured(part: Part, note: str, minutes: float) -> dict[str, Any]:
     """What is kept of a part: the conditions, as they were before it was measured, and its raw results."""
+    wait_for_quiet(minutes)
     now = datetime.datetime.now(datetime.timezone.utc)
     conditions: dict[str, Any] = {
         "commit": commit(), "date": f"{now:%Y-%m-%d %H:%M} UTC", "machine": machine(), "kit": kit(),
@@ -137,10 +154,10 @@ def place(part: Part) -> pathlib.Path:
     return KEPT / f"{part.name}.json"
 
 
-def kept_anew(part: Part, note: str) -> bool:
+def kept_anew(part: Part, note: str, minutes: float) -> bool:
     """Measures a part and keeps its results; if that fails, says so, and what was kept stays."""
     try:
-        told = json.dumps(measured(part, note), indent=1)
+        told = json.dumps(measured(part, note, minutes), indent=1)
     except Exception as error:
         print(f"{part.name}: {error}", file=sys.stderr)
         return False
@@ -166,31 +183,83 @@ def where(part: Part) -> str:
 
 
 def section(part: Part) -> str:
-    """A part's heading, conditions, tables and picture."""
+    """A part's heading, note, tables and picture."""
     told = kept(part)
-    program = f", program {told['program'].split()[0]}" if told["program"] else ""
-    conditions = f"`--only {part.name}`: commit {told['commit']}{program}, {told['date']}, {told['seconds']} s, load {told['load'][0]:.1f}"
-    conditions += "".join(f"; {each}" for each in where(part).split("; ") if each not in usual().split("; ")) + "."
     note = [told["note"]] if told.get("note") else []
     picture = [f"![{part.title}]({part.picture})"] if part.picture else []
-    return "\n\n".join([f"## {part.title}", conditions, *note, part.shown(told["raw"]), *picture])
+    return "\n\n".join([f"## {part.title}", *note, part.shown(told["raw"]), *picture])
+
+
+def conditions(there: list[Part]) -> str:
+    """How each part was measured, as a table; and what isn't as usual."""
+    rows = []
+    others = []
+    for part in there:
+        told = kept(part)
+        program = told["program"].split()[0] if told["program"] else "–"
+        anchor = re.sub(r"[^\w\- ]", "", part.title.lower()).replace(" ", "-")
+        rows.append([f"[{part.name}](#{anchor})", told["commit"], program, told["date"].replace(" UTC", "").replace(" ", "T"), str(told["seconds"]),
+                     f"{told['load'][0]:.1f}"])
+        others += [f"{part.name} {each}" for each in where(part).split("; ") if each not in usual().split("; ")]
+    unusual = f"\n\nElsewhere: {'; '.join(others)}." if others else ""
+    return floor_table.table(["part", "commit", "program", "UTC", "seconds", "load"], rows) + unusual
 
 
 def introduction() -> str:
+    commits = {str(kept(part)["commit"]) for part in PARTS if kept(part)}
+    one = f"All were measured at commit {commits.pop()}." if len(commits) == 1 else "Not all was measured at one commit."
     return f"""# What was measured
 
-`python3 bench/report.py` writes this page, and measures it anew, with `--only` a part of it. Unless a part says otherwise, it was measured
-{usual()}. Each part says at which commit, when and in how many seconds, how the SHA-256 of the program begins, and the load (processes that ran
-or waited to run in the minute before). Under a load, a ratio of two columns says more than either. A dash means that a program has nothing
-for the search.
+For those who choose an index or plan a machine: how fast Dilforec is and how much memory it takes, beside SQLite's FTS5 and Lucene. `python3
+bench/report.py` measures all this and writes the page; [every table](MEASURED-ALL.md) is in the appendix.
+
+{summary.shown(kept_by_name)}
+
+Lower is better, except in the first row and the last two. Unless a part says otherwise, it was measured {usual()}. {one}
+
+## What the rows mean
+
+{summary.meanings(kept_by_name)}
+
+A µs is a millionth of a second of processor time: one thread makes 100,000 searches of 10 µs a second. A load is how many processes ran or waited to run in the minute before. From 1 on, times are longer than on a quiet machine,
+and a ratio of two columns says more than either.
 
 ## The documents
 
 {corpus.DESCRIPTION}
 
+## The kinds of search
+
+{searches.table_of_kinds()}
+
+## The programs
+
+{floor_table.PROGRAMS}
+
 ## How searches are timed
 
-{floor_table.HOW}"""
+{floor_table.HOW}
+
+## One search, several numbers
+
+{floor_table.DIFFERENT.format(**of_a_term())}"""
+
+
+def of_a_term() -> dict[str, str]:
+    """Microseconds of a term, as the parts that measure it differently have them."""
+    raw = {name: kept_by_name(name).get("raw") for name in ("floor", "embedding", "collecting", "scripts")}
+    embedded = re.search(r"^\|a term\|([\d.]+)\|", str(raw["embedding"]), re.MULTILINE)
+    nanos = raw["collecting"] and raw["collecting"]["kinds"]["term"][0] / raw["collecting"]["searches"]
+    return {
+        "searches": floor_table.number(raw["floor"] and raw["floor"]["live"]["term"]["fts"]),
+        "embedding": floor_table.number(float(embedded[1]) if embedded else None),
+        "collecting": floor_table.number(nanos and nanos / 1e3),
+        "scripts": floor_table.number(raw["scripts"] and raw["scripts"]["kinds"]["term"][0] * 1e3),
+    }
+
+
+def kept_by_name(name: str) -> dict[str, Any]:
+    return kept(next(part for part in PARTS if part.name == name))
 
 
 def wrapped(text: str) -> str:
@@ -200,12 +269,36 @@ def wrapped(text: str) -> str:
     return text if text.startswith(("#", "!", " ")) else textwrap.fill(text, WIDTH, break_long_words=False, break_on_hyphens=False)
 
 
+def of_paragraphs(text: str) -> str:
+    return "\n\n".join(map(wrapped, text.split("\n\n"))) + "\n"
+
+
 def page() -> str:
+    return of_paragraphs(introduction())
+
+
+def appendix() -> str:
     there = [part for part in PARTS if kept(part)]
     missing = ", ".join(f"{part.title.lower()} (`--only {part.name}`)" for part in PARTS if part not in there)
     closing = [f"## Not measured yet\n\n{missing[0].upper()}{missing[1:]}."] if missing else []
-    whole = "\n\n".join([introduction(), *map(section, there), *closing])
-    return "\n\n".join(map(wrapped, whole.split("\n\n"))) + "\n"
+    head = (
+        "# Every table\n\nFor those who look closer: all that `python3 bench/report.py` measures, part by part; `--only` measures one anew. "
+        "[MEASURED](MEASURED.md) has the documents, the kinds of search and the programs. A dash means that a program has nothing for the search. "
+        "What was measured under a load of 1 or more wasn't measured on a quiet machine. A program is named by its SHA-256.")
+    return of_paragraphs("\n\n".join([head, conditions(there), *map(section, there), *closing]))
+
+
+def readme() -> str:
+    """README.md with the table in its place."""
+    text = README.read_text("utf-8")
+    before, mark, after = text.partition(f"{MARK}\n\n")
+    rest = after.partition("\n\n")[2]
+    return f"{before}{mark}{wrapped(summary.shown(kept_by_name))}\n\n{rest}" if mark else text
+
+
+def write() -> None:
+    for path, text in ((PAGE, page()), (APPENDIX, appendix()), (README, readme())):
+        path.write_text(text, "utf-8")
 
 
 def draw() -> None:
@@ -217,10 +310,11 @@ def draw() -> None:
 
 def main() -> None:
     names = [part.name for part in PARTS]
-    arguments = argparse.ArgumentParser(description="Writes docs/MEASURED.md from what was measured.")
+    arguments = argparse.ArgumentParser(description="Writes docs/MEASURED.md and its appendix from what was measured.")
     arguments.add_argument("--only", help="parts with commas between: " + ", ".join(names))
     arguments.add_argument("--note", default="", help="a sentence on how these parts were measured")
-    arguments.add_argument("--written", action="store_true", help="measure nothing, write the page again")
+    arguments.add_argument("--wait", type=float, default=10, metavar="MINUTES", help="how long to wait for a quiet machine before each part (10)")
+    arguments.add_argument("--written", action="store_true", help="measure nothing, write the pages again")
     given = arguments.parse_args()
     chosen = [] if given.written else given.only.split(",") if given.only else names
     unknown = [name for name in chosen if name not in names]
@@ -229,9 +323,9 @@ def main() -> None:
     if not PROGRAM.exists() and any(part.asks_program for part in PARTS if part.name in chosen):
         arguments.error(f"{PROGRAM} isn't there: build the program first (README.md), or name it in $FTS")
     KEPT.mkdir(exist_ok=True)
-    failed = [part.name for part in PARTS if part.name in chosen and not kept_anew(part, given.note)]
+    failed = [part.name for part in PARTS if part.name in chosen and not kept_anew(part, given.note, given.wait)]
     draw()
-    PAGE.write_text(page())
+    write()
     sys.exit(f"not measured: {', '.join(failed)}" if failed else 0)
 
 

@@ -481,10 +481,10 @@ def shown(raw: dict[str, Any]) -> str:
     judged = [ratio.value for ratio in ratios + more if not ratio.is_fitted]
     near = sum(abs(value - 1) < NEAR for value in judged)
     return "\n\n".join([
-        f"The documents are those above, but with {raw['words each']} words each, so that ten million fit into a small machine. {SEARCHES} searches "
-        "of four kinds in turn: a word, two words that both must match, a range of a tenth of the `i64`s with groups by the keyword, and a word with "
-        f"a top ten. All ways are there at once and take turns; the quickest of {BUILDS} builds and of {TURNS} rounds of searches counts. Beside each "
-        "number is what the model says, and the measured number divided by that, in parentheses if a constant of the model is from it.",
+        f"The documents have {raw['words each']} words each, so that ten million fit into a small machine. {SEARCHES} searches of four kinds in turn: a "
+        "word, two words (AND), a range of a tenth of the `i64`s with groups by the keyword, and a word with a top ten. The quickest of "
+        f"{BUILDS} builds and of {TURNS} rounds of searches counts. Beside each number is what the model says, and their ratio, in parentheses if "
+        "a constant of the model is from it.",
         points, clusters, many_shown(raw),
         f"Of the {len(judged)} ratios that no constant is from, {near} are within a third; the furthest are {min(judged):.2f} and {max(judged):.2f}.",
         constants_shown(constants), machines_shown(constants),

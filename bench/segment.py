@@ -81,8 +81,8 @@ def measure(count: int = 100_000) -> dict[str, Any]:
 def shown(raw: dict[str, Any]) -> str:
     rows = [[name, f"{each['terms']:,}", f"{each['postings']:,}", number(each["posting"]), f"{each['positions']:,}", number(each["position"])]
             for name, each in raw["fields"].items()]
-    head = (f"A segment of {raw['documents']:,} documents was built in {raw['built'] / 1e6:.2f} s by the clock, tokens and folding included, and a term "
-            f"looked up in it in {raw['finds'] / 1e6:.2f} microseconds; the plain index in C++ was built in {raw['plain'] / 1e6:.2f} s.")
+    head = (f"A segment of {raw['documents']:,} documents was built in {raw['built'] / 1e6:.2f} s by the clock, tokens and folding included; the "
+            f"plain index in C++ in {raw['plain'] / 1e6:.2f} s. A term was looked up in {raw['finds'] / 1e6:.2f} microseconds.")
     return head + "\n\n" + table(["field", "terms", "postings", "bytes a posting", "positions", "bytes a position"], rows)
 
 

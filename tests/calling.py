@@ -41,6 +41,9 @@ The index from Rattle: list `dilforec serde_json` in the crate's line of crates.
 them. It has the model of Tantivy: a writer, operations with stamps, commits, searchers of one commit, `delete_term`, merges,
 fields with columns, a query language. What differs at a call:
 
+- In another repository `python3 tests/another_repository.py FOLDER` makes a beginning: it copies the crates that `dilforec`
+  stands on, with their lines of crates.txt, HANDLES, and the program below. HANDLES has to allow `Threads, Wait`. `may_wait` in a
+  line is how many functions may wait, which `rt verdict` prints.
 - Every call that may allocate takes the allocator and answers a `Result`. `Refusal::Memory` leaves everything as it was, and
   the call can be made again.
 - Operations go into *lanes*. `Writer::open_round` gives up to 64 of them, each for a thread of its own; `Round::gather` puts

@@ -12,9 +12,14 @@ unless bindings/build.sh has linked them. It takes some seconds, and proves and 
 - Commands: each block of command lines in README, DATA, EMBEDDING, SCALE and SERVICE runs, in a folder of its own, with
   stand-ins for what reaches other machines; except the lines that `ELSEWHERE` lists, with the reason. Blocks of Python
   compile. Commands of a script are commands. Queries of QUERIES.md are what that page says.
-- Definitions: docs/DEFINITIONS.md is what tests/definitions.py writes.
-- Numbers: what was measured is in docs/MEASURED.md alone. No other page has a number before ns, µs, ms or their words, nor one that a
-  table of MEASURED.md has with a fraction and three digits or more.
+- The tutorial: its blocks run one after the other, the service too, and print what the page says that they print.
+- Definitions: docs/DEFINITIONS.md is what tests/definitions.py writes. PROOFS.md counts what must be read as tests/reading.py does, and a kit
+  that it doesn't name is printed, and counted as skipped. CONTRIBUTING.md has the table of tests/try_crate.py.
+- Numbers: what was measured is in docs/MEASURED.md, its appendix MEASURED-ALL.md and the table of README.md, which is MEASURED's. Elsewhere no
+  page has a number before ns, µs, ms or their words, nor one of these tables with a fraction and three digits or more. A part that was measured
+  over 50 commits ago is printed, and counted as skipped.
+- Versions: each place that has the version has that of the file VERSION.
+- Sentences: none has over 35 words; a word of code counts as one. Each page of docs/ says at its head for whom it is.
 - README.md has 110 lines at most.
 
 The last lines are 'N skipped', if any, and 'N passed, M failed'.
@@ -32,19 +37,41 @@ import subprocess
 import sys
 import tempfile
 import textwrap
+import time
+import urllib.error
+import urllib.request
 from typing import Callable, Iterator, NamedTuple
 
 import definitions
+import reading
+import service
+import try_crate
 from counts import Counts
 
 ROOT = pathlib.Path(__file__).resolve().parents[1]
 DOCS = ROOT / "docs"
 MEASURED = DOCS / "MEASURED.md"
+APPENDIX = DOCS / "MEASURED-ALL.md"
+# A part of these that was measured more commits ago is old.
+OLD = 50
+TUTORIAL = DOCS / "TUTORIAL.md"
 PAGES = [ROOT / "README.md", *sorted(DOCS.glob("*.md")), ROOT / "CONTRIBUTING.md", ROOT / "CHANGELOG.md"]
 WITH_COMMANDS = [ROOT / "README.md", *(DOCS / f"{name}.md" for name in ("DATA", "EMBEDDING", "SCALE", "SERVICE"))]
 PACKAGE = ROOT / "bindings/python"
 ARCHIVE = ROOT / "bindings/out/libdilforec.a"
 MOST_LINES = 110
+MOST_WORDS = 35
+
+# Each place that has the version, and how.
+VERSIONS = {
+    "bindings/c/dilforec.h": r'^#define DILFOREC_VERSION "(.*)"$',
+    "bindings/python/dilforec/__init__.py": r'^__version__ = "(.*)"$',
+    "bindings/rust/Cargo.toml": r'^version = "(.*)"$',
+    "crates/fts_cli/src/parser.rt": r'^const VERSION: &str = "(.*)";$',
+    "crates/tests_cli/src/lines.rt": r'"fts (\d[\d.]*)\\n"',
+    "CHANGELOG.md": r"^## ([\d.]+) \(\d{4}-\d\d-\d\d\)$",
+    "docs/EMBEDDING.md": r"^    find_package\(dilforec (\d+\.\d+) REQUIRED\)$",
+}
 
 # Pages whose names in code are names of the sources, but for these, which are the kit's and Python's.
 ABOUT_SOURCES = [DOCS / f"{name}.md" for name in ("ARCHITECTURE", "DECISIONS", "EMBEDDING", "PROOFS")]
@@ -53,13 +80,14 @@ OF_OTHERS = {"conflicts_with", "k_smallest", "kmerge", "logic", "pydoc", "rattle
 # Command lines that don't run here, each by how it begins or by a word in it, and why.
 ELSEWHERE = {
     r"^(sudo )?make\b": "it proves for minutes; .ci/install.py calls each target with what is built",
-    r"^pip install\b": "it needs an environment of its own or a network; .ci/install.py and tests/cluster.py do it",
+    r"^(pip install|python3 -m venv)\b": "it needs an environment of its own or a network; .ci/install.py and tests/cluster.py do it",
     r"^bindings/(build|examples)\.sh$": "bindings/test.py builds and runs what they do",
     r"^bindings/test\.py$|^python3 (tests|bench|examples/sharded)/(?!sharded\.py)": "it is a step of the gate, or takes minutes",
     r"pkg-config": ".ci/install.py compiles with what was installed",
     r"^(python3 -m dilforec (serve|load)|curl|split|echo .* \|$)": "tests/service.py asks a service by these lines",
     r"^(dask-|python3 logs\.py)": "tests/cluster.py runs the page's example",
     r"^socat\b": "it waits for clients",
+    r"^apt-cache\b": "its list is another one on each machine",
 }
 
 # Programs in front of the PATH, in place of another machine or a build.
@@ -83,7 +111,7 @@ for number in range(first, last + 1):
     subprocess.run(sys.argv[-1], shell=True, check=True)' "$@\"""",
 }
 
-COMMANDS = re.compile(r"\($|\(?(?:cd|echo|exec|mkfifo|[a-z0-9./_-]+/[a-z_]+\.(?:sh|py)|cc|cp|curl|dask-\w+|fts|make|openssl|parallel|pip|"
+COMMANDS = re.compile(r"\($|\(?(?:apt-cache|cd|echo|exec|grep-dctrl|mkfifo|[a-z0-9./_-]+/[a-z_]+\.(?:sh|py)|cc|cp|curl|dask-\w+|fts|make|openssl|parallel|pip|"
                       r"python3|rt|salloc|sbatch|sed|socat|split|sudo|while)\b")
 SCRIPT = re.compile(r'\{"(?:schema|add|delete|delete_all|commit|rollback|merge|search)":')
 FRACTION = re.compile(r"(?<![\w.,-])\d[\d,]*\.\d+(?![\w.])")
@@ -322,14 +350,35 @@ def commands(place: Place) -> None:
 
 def unlisted() -> None:
     """Each block of the pages with commands is of a kind that is known: commands, JSON, Python, or what `OTHERS` lists."""
-    for page in WITH_COMMANDS:
+    for page in [*WITH_COMMANDS, TUTORIAL]:
+        printed = {prints(block) for block in blocks(page)}
         for block in blocks(page):
-            known = COMMANDS.match(block.lines[0]) or is_json(block) or is_python(block) or OTHERS.match(block.lines[0].strip())
+            known = block.text in printed or COMMANDS.match(block.lines[0]) or is_json(block) or is_python(block) or OTHERS.match(block.lines[0].strip())
             check(f"{block.name}: a kind of block that tests/pages.py knows", bool(known))
 
 
 # Rattle, Rust, C, what programs print, and files of cargo and CMake: how each begins.
 OTHERS = re.compile(r"let |use dilforec::|dilforec_\w+ |C:$|\[dependencies\]|find_package")
+
+
+def counted() -> None:
+    """What PROOFS.md counts is what tests/reading.py counts, and its kit the one that is there."""
+    proofs = (DOCS / "PROOFS.md").read_text("utf-8").replace("\n", " ")
+    sums = reading.summed().told.partition(";")[0]
+    check("docs/PROOFS.md: what must be read", sums in proofs, f"isn't {sums}")
+    if shutil.which("rt"):
+        kit = subprocess.run(["rt", "version"], capture_output=True, text=True).stdout.strip()
+        if kit not in proofs:
+            skip("docs/PROOFS.md: the kit", f"it wasn't tried with {kit}")
+    contributing = (ROOT / "CONTRIBUTING.md").read_text("utf-8")
+    check("CONTRIBUTING.md: the table of crates", try_crate.table() in contributing, "isn't that of tests/try_crate.py --table")
+
+
+def quoted() -> None:
+    """README's lines of Rattle are those of a program that the gate proves."""
+    source = textwrap.dedent((ROOT / "crates/example_index/src/main.rt").read_text("utf-8")).replace("\n    ", "\n")
+    block = next(block for block in blocks(ROOT / "README.md") if block.lines[0].strip().startswith("let "))
+    check(block.name, textwrap.dedent(block.text) in source, "isn't in crates/example_index")
 
 
 def is_json(block: Block) -> bool:
@@ -341,6 +390,65 @@ def is_json(block: Block) -> bool:
 
 def is_python(block: Block) -> bool:
     return bool(re.match(r"\s*(import|from|with|for) ", block.lines[0]))
+
+
+def prints(block: Block) -> str | None:
+    """What a page says that a block prints: the block after the line "prints" that follows it."""
+    after = block.page.read_text("utf-8").splitlines()[block.number - 1 + len(block.lines):]
+    between = "\n".join(after).strip().partition("\n\n")[0]
+    return told(block) if between.startswith("prints") else None
+
+
+def served(place: Place, script: str) -> subprocess.Popen[str] | None:
+    """A service that a block starts, once it answers; nothing if it ends."""
+    words = ["bash", "-c", f"exec {script}"]
+    started = subprocess.Popen(words, cwd=place.folder, env=place.environment, stdout=subprocess.DEVNULL, stderr=subprocess.PIPE, text=True)
+    while started.poll() is None:
+        try:
+            urllib.request.urlopen("http://127.0.0.1:8090/readyz", timeout=10)
+            return started
+        except (urllib.error.URLError, ConnectionError):
+            time.sleep(0.1)
+    return None
+
+
+def tutorial(place: Place) -> None:
+    """Runs the tutorial's blocks in a folder, with the list of packages that ships."""
+    folder = place.folder / "tutorial"
+    folder.mkdir()
+    (folder / "examples").symlink_to(ROOT / "examples")
+    modules = folder / "modules"
+    modules.mkdir()
+    has_package = linked()
+    serves = has_package and service.serves(sys.executable, str(modules))
+    if not shutil.which("grep-dctrl"):
+        service.install("dctrl-tools")
+    paths = os.pathsep.join([place.environment["PYTHONPATH"], str(modules)])
+    place = Place(folder, {**place.environment, "PYTHONPATH": paths})
+    running: subprocess.Popen[str] | None = None
+    for block in blocks(TUTORIAL):
+        script = block.text
+        of_package = is_python(block) or "-m dilforec load" in script
+        of_service = "-m dilforec serve" in script or "curl" in script
+        if not COMMANDS.match(block.lines[0]) and not is_python(block) or script.startswith("apt-cache"):
+            continue
+        if of_package and not has_package:
+            skip(block.name, "the package isn't linked (bindings/build.sh)")
+        elif of_service and not serves:
+            skip(block.name, "the package isn't linked, or uvicorn isn't there")
+        elif "grep-dctrl" in script and not shutil.which("grep-dctrl"):
+            skip(block.name, "there is no grep-dctrl")
+        elif "-m dilforec serve" in script:
+            running = served(place, script)
+            check(block.name, running, "it ended")
+        else:
+            words = [sys.executable, "-c", script] if is_python(block) else ["bash", "-e", "-o", "pipefail", "-c", script]
+            done = subprocess.run(words, cwd=folder, env=place.environment, capture_output=True, text=True, timeout=60)
+            wanted = prints(block)
+            check(block.name, done.returncode == 0 and wanted in (None, done.stdout), done.stdout + done.stderr)
+    if running:
+        running.terminate()
+        check(f"{named(TUTORIAL)}: the service ends", running.wait(60) == 0)
 
 
 def python(place: Place) -> None:
@@ -368,17 +476,12 @@ def python(place: Place) -> None:
 
 
 def scripts(place: Place) -> None:
-    """What looks like a command of a script is one, and README's replies are those of the example."""
+    """What looks like a command of a script is one."""
     for page in PAGES:
         for block in filter(is_json, blocks(page)):
             lines = [line for line in block.lines if SCRIPT.match(line) and not re.match(r'\{"(commit|rollback|merge)":[\[\d]', line)]
             for line, reply in zip(lines, place.replies("".join(f"{line}\n" for line in lines))):
                 check(f"{block.name}: {line}", not re.search(r'"(BadJson|BadCommand)"', reply), reply)
-    example = [(ROOT / f"examples/catalogue{end}.jsonl").read_text("utf-8").splitlines() for end in ("", ".replies")]
-    pairs = set(zip(*([line for line in lines if line.strip()] for lines in example)))
-    block = next(filter(is_json, blocks(ROOT / "README.md")))
-    for pair in zip(block.lines[::2], block.lines[1::2]):
-        check(f"README.md: {pair[0]}", pair in pairs, "isn't in examples/catalogue.jsonl with this reply")
 
 
 def queries(place: Place) -> None:
@@ -409,20 +512,82 @@ def same_definitions() -> None:
     check("docs/DEFINITIONS.md", there == definitions.page(there), "isn't what tests/definitions.py writes")
 
 
+def tables(page: pathlib.Path) -> list[str]:
+    """The tables of a page."""
+    return re.findall(r"(?:^\|.*\n)+", page.read_text("utf-8"), re.MULTILINE)
+
+
 def measured() -> set[str]:
-    """The numbers in the tables of MEASURED.md that have a fraction and three digits or more."""
-    rows = "\n".join(line for line in MEASURED.read_text("utf-8").splitlines() if line.startswith("|"))
+    """The numbers in the tables of MEASURED.md and its appendix that have a fraction and three digits or more."""
+    rows = "".join(table for page in (MEASURED, APPENDIX) for table in tables(page))
     return {number for number in FRACTION.findall(rows) if len(re.sub(r"\D", "", number).lstrip("0")) >= 3}
 
 
 def numbers() -> None:
     there = measured()
+    first = tables(MEASURED)[0]
+    check("README.md: its table", first in tables(ROOT / "README.md"), "isn't the first one of docs/MEASURED.md")
     for page in PAGES:
-        if page in (MEASURED, ROOT / "CONTRIBUTING.md", ROOT / "CHANGELOG.md"):
+        if page in (MEASURED, APPENDIX, ROOT / "CONTRIBUTING.md", ROOT / "CHANGELOG.md"):
             continue
-        lines = page.read_text("utf-8").splitlines()
+        lines = page.read_text("utf-8").replace(first, "\n" * first.count("\n")).splitlines()
         bad = [f"{number}: {line}" for number, line in enumerate(lines, 1) if TIMED.search(line) or there & set(FRACTION.findall(line))]
         check(f"{named(page)}: numbers that belong into docs/MEASURED.md alone", not bad, "\n".join(bad))
+
+
+def ages() -> None:
+    """How many commits ago each part was measured, if this is a clone that has them all."""
+    for path in sorted((ROOT / "bench/measured").glob("*.json")):
+        commit = str(json.loads(path.read_text("utf-8"))["commit"]).split()[0]
+        counted = subprocess.run(["git", "-C", ROOT, "rev-list", "--count", f"{commit}..HEAD"], capture_output=True, text=True)
+        if counted.returncode:
+            skip(f"{named(APPENDIX)}: {path.stem}", f"git doesn't know the commit {commit}")
+        elif int(counted.stdout) > OLD:
+            skip(f"{named(APPENDIX)}: {path.stem}", f"it was measured {counted.stdout.strip()} commits ago")
+
+
+def versions() -> None:
+    version = (ROOT / "VERSION").read_text("utf-8").strip()
+    for name, form in VERSIONS.items():
+        found = re.search(form, (ROOT / name).read_text("utf-8"), re.MULTILINE)
+        # CMake is asked for the first two numbers, which have to agree.
+        wanted = version if name != "docs/EMBEDDING.md" else version.rpartition(".")[0]
+        check(f"{name}: the version", found is not None and found[1] == wanted, f"isn't {wanted}")
+
+
+def paragraphs(text: str) -> Iterator[tuple[int, str]]:
+    """The paragraphs and the items of lists of a page, each with the number of its first line."""
+    begun: tuple[int, list[str]] = (0, [])
+    in_code = False
+    for number, line in enumerate(text.splitlines(), 1):
+        in_code ^= line.startswith("```")
+        apart = in_code or not line.strip() or re.match(r"```| {4}|[|#<!]", line)
+        item = re.match(r" *(?:-|\d+\.) (.*)", line)
+        if (apart or item) and begun[1]:
+            yield begun[0], " ".join(begun[1])
+            begun = (0, [])
+        if not apart:
+            begun = (begun[0] or number, [*begun[1], item[1] if item else line.strip()])
+    if begun[1]:
+        yield begun[0], " ".join(begun[1])
+
+
+def sentences() -> None:
+    for page in PAGES:
+        long = []
+        for number, told in paragraphs(page.read_text("utf-8")):
+            plain = re.sub(r"`[^`]*`", "CODE", re.sub(r"\[([^\]]*)\]\([^)]*\)", r"\1", told)).replace("**", "")
+            for sentence in re.split(r"(?<=[.!?])[\"')]*\s+(?=[\"'(]*[A-Z0-9])", plain):
+                if sum(bool(re.search(r"\w", word)) for word in sentence.split()) > MOST_WORDS:
+                    long.append(f"{number}: {sentence}")
+        check(f"{named(page)}: sentences of {MOST_WORDS} words at most", not long, "\n".join(long))
+
+
+def heads() -> None:
+    """A page of docs/ says under its title whom it is for."""
+    for page in DOCS.glob("*.md"):
+        head = next((told for _, told in paragraphs(page.read_text("utf-8"))), "")
+        check(f"{named(page)}: its head", head.startswith("For "), f"doesn't say for whom it is: {head}")
 
 
 def length() -> None:
@@ -431,7 +596,7 @@ def length() -> None:
 
 
 def running() -> Iterator[Callable[[Place], None]]:
-    yield from (python, commands, scripts, queries)
+    yield from (python, commands, scripts, queries, tutorial)
 
 
 def main() -> int:
@@ -439,8 +604,14 @@ def main() -> int:
     names()
     words_of_code()
     unlisted()
+    quoted()
+    counted()
     same_definitions()
     numbers()
+    ages()
+    versions()
+    sentences()
+    heads()
     length()
     if program().exists():
         with tempfile.TemporaryDirectory() as folder:

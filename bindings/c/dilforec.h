@@ -44,7 +44,7 @@
 extern "C" {
 #endif
 
-#define DILFOREC_VERSION "0.1.0"
+#define DILFOREC_VERSION "0.2.0"
 
 enum {
     DILFOREC_OK = 0,

@@ -26,7 +26,7 @@ from dilforec.refusals import (
 )
 from dilforec.values import Answer, Field, Hit, Stats, Top, i64, keyword, quoted, text, u64
 
-__version__ = "0.1.0"
+__version__ = "0.2.0"
 
 if TYPE_CHECKING:
     from dilforec.index import Index, Merge, Searcher

@@ -12,7 +12,7 @@ use fts_model::MOST_BUILT;
 use std::alloc::{AllocError, Global};
 
 /// The version. The file VERSION has it too: a test compares them.
-const VERSION: &str = "0.1.0";
+const VERSION: &str = "0.2.0";
 
 /// The values of `--merge`.
 static MERGES: [&str; 2] = ["off", "policy"];

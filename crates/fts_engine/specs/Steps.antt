@@ -38,7 +38,7 @@ merge on s = if nat_lt most_merged (length (on.documents s)) then Err TooLarge e
 abbrev pub search_commit : {S : Type 0} → Carrier S → QueryValue → Request → S → Result (S × AnswerValue) Refusal
 search_commit on query request s = Ok (s, answer (on.schema s) query request (on.documents s))
 
--- What a call made of an index, and what it answered, are those of a step; at a refusal the index is as it was, and
+-- What a call made of an index, and what it answered, are those of a step. At a refusal the index is as it was, and
 -- the refusal is the step's, or memory ran out.
 abbrev pub Steps : {S X : Type 0} → Result (S × X) Refusal → S → S → Result X Refusal → Type 0
 Steps step old new (Ok x) = step ≡ Ok (new, x)

@@ -149,8 +149,8 @@ is_bound_of kind Unbounded = true
 abbrev pub is_range_of : Bound FieldValue → Bound FieldValue → Kind → Bool
 is_range_of lower upper kind = is_ordered kind && is_bound_of kind lower && is_bound_of kind upper
 
--- whether a query fits a schema: a term's value is of its field's kind; a phrase is of a text field and not empty; a
--- range is of a field whose values have an order, and so are its bounds; and whether every query of a list does
+-- whether a query fits a schema, or every query of a list does. A term's value is of its field's kind. A phrase is of a
+-- text field and not empty. A range is of a field whose values have an order, and so are its bounds.
 abbrev mutual
   pub query_fits : List Field → QueryValue → Bool
   query_fits schema every = true

@@ -6,8 +6,8 @@ use Rattle.fts_model.specs.declared.operation.Term.{Term}
 use Rattle.fts_model.specs.declared.query.Query.{Query, fold-Query}
 use Rattle.fts_model.specs.declared.query.Query.TheOpen.{Query-F}
 
--- a query: every document, none, those with a term, those with a phrase in a field, those with a value of a field
--- within bounds, or those that a combination of musts, must-nots and shoulds selects
+-- a query: every document, none, those with a term, a phrase in a field, or a value of a field within bounds, or those
+-- that a combination of musts, must-nots and shoulds selects
 mutual
   pub data QueryValue : Type 0 where
     every : QueryValue

@@ -13,8 +13,8 @@ use Rattle.fts_snapshots.specs.declared.entries.entry.SegmentInfo.{SegmentInfo}
 abbrev pub info_of : EntryValue → SegmentInfo
 info_of entry = record { id = entry.id; docs = length entry.segment.documents; live = live_count entry }
 
--- the sizes of segments after a merge of those with these numbers: they are replaced by one under the next number, all
--- of whose documents are live, as many as the sources had live ones together
+-- the sizes of segments after a merge of those with these numbers. One under the next number replaces them. All of its
+-- documents are live, as many as the sources had live ones together.
 abbrev pub infos_after_merge : List ℕ → SnapshotValue → List SegmentInfo
 infos_after_merge ids s =
     let live = sum_by live_count (entries_at s.entries ids) in

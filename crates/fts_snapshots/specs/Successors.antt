@@ -24,8 +24,8 @@ pub record Follows (old new : SnapshotValue) : Type 0 where
   pub segments : (entry : EntryValue) → Contains new.entries entry → entry.id < old.next_id →
       (before : EntryValue) × Contains old.entries before × IsLater before entry
 
--- a merged segment can replace its sources in a snapshot: their numbers were given already, and it has the schema of
--- each source that is there and each of its live documents, with the origin at the same index
+-- a merged segment can replace its sources in a snapshot. Their numbers were given already. It has the schema of each
+-- source that is there and each of its live documents, with the origin at the same index.
 pub record Fits (m : MergedSegmentValue) (s : SnapshotValue) : Type 0 where
   pub below : (id : ℕ) → Contains m.ids id → id < s.next_id
   pub schema : (entry : EntryValue) → Contains s.entries entry → Contains m.ids entry.id →

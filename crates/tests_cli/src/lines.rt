@@ -150,7 +150,7 @@ fn help(rt: HostRuntime) -> Result<(), Fail> {
 #[test]
 fn version(rt: HostRuntime) -> Result<(), Fail> {
     for line in ["fts --version", "fts -V"] {
-        if told(rt.alloc(), line)?.as_str() != "fts 0.1.0\n" {
+        if told(rt.alloc(), line)?.as_str() != "fts 0.2.0\n" {
             return Err(Fail::from(line));
         }
     }
