@@ -71,6 +71,7 @@ VERSIONS = {
     "crates/tests_cli/src/lines.rt": r'"fts (\d[\d.]*)\\n"',
     "CHANGELOG.md": r"^## ([\d.]+) \(\d{4}-\d\d-\d\d\)$",
     "docs/EMBEDDING.md": r"^    find_package\(dilforec (\d+\.\d+) REQUIRED\)$",
+    "packaging/trial/CMakeLists.txt": r"^set\(WANTED (\d+\.\d+) ",
 }
 
 # Pages whose names in code are names of the sources, but for these, which are the kit's and Python's.
@@ -551,7 +552,7 @@ def versions() -> None:
     for name, form in VERSIONS.items():
         found = re.search(form, (ROOT / name).read_text("utf-8"), re.MULTILINE)
         # CMake is asked for the first two numbers, which have to agree.
-        wanted = version if name != "docs/EMBEDDING.md" else version.rpartition(".")[0]
+        wanted = version.rpartition(".")[0] if r"\.\d+)" in form else version
         check(f"{name}: the version", found is not None and found[1] == wanted, f"isn't {wanted}")
 
 

@@ -19,6 +19,11 @@ from typing import NamedTuple
 
 CRATES = pathlib.Path(__file__).resolve().parents[1] / "crates"
 SEGMENTS, INDEX = "cases_segments", "cases_index"
+# Processor seconds of the files of cases_segments, once the driver is built, which takes some 90. Those of cases_index weren't measured.
+SECONDS = {
+    "collectors": 7.3, "cursors": 3.2, "cuttings": 5.4, "documents": 6.8, "generated": 10.4, "joins": 13.8, "lists": 0.1, "merges": 0.2,
+    "packing": 0.2, "queries": 0.7, "scan": 0.1, "schemas": 0.1, "segments": 12.7, "tokens": 0.1, "walks": 10.6,
+}
 # What the later lines of a file ask.
 MAKES = {"make": True, "and_make": False, "clear": False}
 
@@ -56,8 +61,11 @@ TABLE = {
 
 def table() -> str:
     """The table as Markdown."""
-    rows = [f"| `{name}` | {f'{tried.driver}: {tried.files}' if tried.driver else ''} | {tried.tests} |" for name, tried in TABLE.items()]
-    return "\n".join(["| crate | cases | tests |", "|---|---|---|", *rows]) + "\n"
+    rows = [["crate", "cases", "seconds", "tests"], ["---"] * 4]
+    for name, (driver, files, tests) in TABLE.items():
+        seconds = f"{sum(SECONDS[file] for file in files.split()):.0f}" if driver == SEGMENTS else ""
+        rows.append([f"`{name}`", f"{driver}: {files}" if driver else "", seconds, tests])
+    return "\n".join(f"| {' | '.join(row)} |".replace("  ", " ") for row in rows) + "\n"
 
 
 def chosen(path: pathlib.Path, words: str) -> str:
