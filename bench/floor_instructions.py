@@ -52,7 +52,8 @@ def measure(count: int = 100_000, each: int = 20) -> dict[str, Any]:
                 if condition == "deleted":
                     index.delete(prices, numbers)
                 for kind, asked in searches.drawn(count, each).items():
-                    raw[condition][kind][index.name] = counted(index, asked, folder) / each
+                    if asked[0].form not in index.lacks:
+                        raw[condition][kind][index.name] = counted(index, asked, folder) / each
             index.end()
     return raw
 
@@ -61,7 +62,7 @@ def shown(raw: dict[str, Any]) -> str:
     names = (FTS, PLAIN, PACKED)
     parts = [f"Thousands of instructions of a search, {raw['searches']} of each kind, over {raw['documents']:,} documents."]
     for condition, heading in HEADINGS.items():
-        rows = [[kind, *(number(row[name] / 1e3) for name in names), *(number(row[FTS] / row[name]) for name in names[1:])]
-                for kind, row in raw[condition].items()]
+        rows = [[kind, *(number(row[name] / 1e3 if name in row else None) for name in names),
+                 *(number(row[FTS] / row[name] if name in row else None) for name in names[1:])] for kind, row in raw[condition].items()]
         parts += [f"**{heading}**", table(["thousand instructions a search", *names, *(f"fts / {name}" for name in names[1:])], rows)]
     return "\n\n".join(parts)

@@ -25,8 +25,31 @@ def match(search: Search) -> str:
     return {"any": " OR ", "all": " AND ", "phrase": " + "}[search.form].join(wanted) + without
 
 
+def clauses(search: Search) -> tuple[str, tuple[object, ...]]:
+    """Where the hits of clauses come from, as `source_of` tells it: words by FTS5, prices and temperatures by the columns."""
+    tests, wanted, without = ["docs match ?"], [], ""
+    values: list[object] = []
+    for clause in search.parts:
+        field, colon, asked = clause[1:].partition(":")
+        if field == "price":
+            tests.append("price between ? and ?")
+            values += map(int, asked.strip("[]").split(" TO "))
+        elif colon:
+            tests.append(f"{field} = ?")
+            values.append(int(asked))
+        else:
+            words = "(" + " OR ".join(f'"{word}"' for word in field.strip("()").split()) + ")"
+            if clause[0] == "+":
+                wanted.append(words)
+            else:
+                without += f" NOT {words}"
+    return f"from docs join columns on columns.rowid = docs.rowid where {' and '.join(tests)}", (" AND ".join(wanted) + without, *values)
+
+
 def source_of(search: Search) -> tuple[str, tuple[object, ...]]:
     """Where the hits come from, and the values of the question marks in it."""
+    if search.form == "clauses":
+        return clauses(search)
     columns = {"range": "where price between ? and ?", "tag": "where tag = ?", "tags": "where tag between ? and ?", "every": ""}
     if search.form in columns:
         values = tuple(map(int, search.parts)) if search.form == "range" else search.parts

@@ -34,8 +34,8 @@ class Index:
     """An index in a process that is given lines as bench/peers/requests.h says."""
     name = ""
     version = ""
-    # Which forms of query, and what that is asked, it has nothing for.
-    lacks: frozenset[str] = frozenset()
+    # Which forms of query, and what that is asked, it has nothing for: most programs read no clauses.
+    lacks: frozenset[str] = frozenset({"clauses"})
     # Whether its top lists come with the number of hits.
     counts_top = True
     # What has everything before it answered.
@@ -81,6 +81,7 @@ def documents_as_lines(documents: Iterable[corpus.Document]) -> list[str]:
 class Fts(Index):
     """`fts run`, with the documents in one segment. What it took to get there is in `built`."""
     name = FTS
+    lacks = frozenset()
     end_of_batch: list[str] = []
 
     def __init__(self, documents: Iterable[corpus.Document], *guard: str) -> None:
@@ -113,13 +114,14 @@ class Loops(Index):
         self.name = name
         form = {PLAIN: "plain", PACKED: "packed", BITMAPS: "bitmaps"}[name]
         if name == BITMAPS:
-            self.lacks, self.version = frozenset({"range", "phrase"}), bitmaps_version()
+            self.lacks, self.version = self.lacks | {"range", "phrase"}, bitmaps_version()
         super().__init__(documents, *guard, program, form)
 
 
 class Fts5(Index):
     name = "FTS5"
     version = sqlite3.sqlite_version
+    lacks = frozenset()
     counts_top = False
 
     def __init__(self, documents: Iterable[corpus.Document]) -> None:

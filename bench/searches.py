@@ -1,7 +1,8 @@
 """The searches of bench/floor.py, by kind, over the documents of bench/corpus.py, and what each program makes of one.
 
 Words are taken by rank: the most frequent has rank 0 and is in more than nine tenths of the documents, rank 20 in about an eighth, and those
-from rank 20,000 on in about ten of 100,000.
+from rank 20,000 on in about ten of 100,000. Words from rank 500 on are called thin here: each is in about a two-hundredth of the documents or
+in fewer.
 """
 from __future__ import annotations
 
@@ -16,7 +17,8 @@ TOP = 10
 
 class Search(NamedTuple):
     """A form of query ('any', 'all', 'phrase', 'range', 'tag', 'tags', 'every') with its words, of which those with a minus aren't to be in
-    the document, or its two bounds; and what is asked: 'count', 'groups FIELD', or 'FIELD falling' or 'FIELD rising' for a top list."""
+    the document, or its two bounds, or 'clauses' with these as a script has them; and what is asked: 'count', 'groups FIELD', or 'FIELD
+    falling' or 'FIELD rising' for a top list."""
     form: str
     asked: str
     parts: tuple[str, ...]
@@ -66,8 +68,8 @@ def kinds(documents: int) -> dict[str, Callable[[random.Random], Search]]:
     def word(chance: random.Random, first: int, end: int) -> str:
         return corpus.WORDS[chance.randrange(first, end)]
 
-    def some(chance: random.Random, count: int, end: int) -> tuple[str, ...]:
-        return tuple(corpus.WORDS[rank] for rank in chance.sample(range(end), count))
+    def some(chance: random.Random, count: int, end: int, first: int = 0) -> tuple[str, ...]:
+        return tuple(corpus.WORDS[rank] for rank in chance.sample(range(first, end), count))
 
     def prices(chance: random.Random, width: int) -> tuple[str, str]:
         low = chance.randrange(corpus.PRICES - width)
@@ -77,7 +79,13 @@ def kinds(documents: int) -> dict[str, Callable[[random.Random], Search]]:
         low = chance.randrange(corpus.TAGS - width)
         return corpus.tag(low), corpus.tag(low + width - 1)
 
-    frequent = (0, 20)
+    def priced(chance: random.Random) -> str:
+        return "+price:[{} TO {}]".format(*prices(chance, tenth))
+
+    def temp(chance: random.Random) -> int:
+        return chance.randrange(corpus.LEAST_TEMP, corpus.LEAST_TEMP + corpus.TEMPS)
+
+    frequent, thin = (0, 20), (500, 2_000)
     tenth = corpus.PRICES // 10
     return {
         "term": lambda chance: Search("any", "count", (word(chance, 0, 200),)),
@@ -89,11 +97,19 @@ def kinds(documents: int) -> dict[str, Callable[[random.Random], Search]]:
         "`+a -b`": lambda chance: Search("all", "count", (word(chance, 0, 100), "-" + word(chance, *frequent))),
         "`a b`": lambda chance: Search("any", "count", some(chance, 2, 100)),
         "OR of ten": lambda chance: Search("any", "count", some(chance, 10, 500)),
+        "OR of ten thin": lambda chance: Search("any", "count", some(chance, 10, 5_000, 500)),
+        "`+common -thin`": lambda chance: Search("all", "count", (word(chance, *frequent), "-" + word(chance, *thin))),
+        "`+(a b) -c`, b thin": lambda chance: Search(
+            "clauses", "count", (f"+({word(chance, *frequent)} {word(chance, *thin)})", "-" + word(chance, *frequent))),
+        "`+word +range`": lambda chance: Search("clauses", "count", ("+" + word(chance, *frequent), priced(chance))),
+        "`+thin +range`": lambda chance: Search("clauses", "count", ("+" + word(chance, *thin), priced(chance))),
+        "`+word +temp:N`": lambda chance: Search("clauses", "count", ("+" + word(chance, *frequent), f"+temp:{temp(chance)}")),
         "phrase": lambda chance: Search("phrase", "count", some(chance, 2, 10)),
         "range, a tenth": lambda chance: Search("range", "count", prices(chance, tenth)),
         "range, ten documents": lambda chance: Search("range", "count", prices(chance, 10 * corpus.PRICES // documents)),
         "keyword range, a tenth": lambda chance: Search("tags", "count", tags(chance, corpus.TAGS // 10)),
         "groups": lambda chance: Search("any", "groups temp", (word(chance, *frequent),)),
+        "groups, `+a +range`": lambda chance: Search("clauses", "groups temp", ("+" + word(chance, *frequent), priced(chance))),
         "groups by keyword": lambda chance: Search("any", "groups tag", (word(chance, *frequent),)),
         "top 10": lambda chance: Search("any", "price falling", (word(chance, *frequent),)),
         "top 10 over a range": lambda chance: Search("range", "temp rising", prices(chance, tenth)),

@@ -1,5 +1,5 @@
 -- How many blocks were opened, and how many musts a query has.
-use Rattle.std.proofs.Common.{◌≡◌, ◌≢◌, ℕ, ◌-◌, ◌/◌, ◌^◌, ◌<◌, ◌≤◌, ◌||◌, true, false, nat_le, List, [], ◌∷◌, length, map, min, refl, sym, ap, ◌∙◌, inl, inr}
+use Rattle.std.proofs.Common.{◌≡◌, ◌≢◌, ℕ, ◌-◌, ◌/◌, ◌^◌, ◌<◌, ◌≤◌, true, false, nat_le, List, [], ◌∷◌, length, map, min, refl, sym, ap, ◌∙◌, inl, inr}
 use Rattle.std.proofs.Common.{nat_lt, arith}
 use Rattle.std.proofs.lemmas.Bool.{cases_lt, le-ltb, lt-ltb}
 use Rattle.std.proofs.lemmas.List.{length-map}
@@ -21,7 +21,6 @@ use Rattle.fts_pack.specs.Documents.{block_count}
 use Rattle.fts_cursor.specs.Hits.{segment_hits}
 use Rattle.fts_cursor.specs.Most.{least_for, least_of_range}
 use Rattle.fts_cursor.specs.Openings.{HasMusts, blocks_with}
-use Rattle.fts_cursor.specs.Ranges.{is_bounded}
 use Rattle.fts_parts.specs.Collected.{hits_at}
 use Rattle.fts_segment.proofs.HoldingLemmas.{length-numbers_where}
 
@@ -62,11 +61,8 @@ least-few segment nothing few = omega arith
 least-few segment (term t) few = omega arith
 least-few segment (phrase field pattern) few = omega arith
 least-few segment (range field lower upper) few =
-    let n = least_of_range (length segment.documents) (length (segment_hits segment (range field lower upper))) in
-    let less : n ≤ 2 ^ 64 - 1 =
     least-range (length segment.documents) (length (segment_hits segment (range field lower upper)))
-    (length-numbers_where (λ (d : Stamped DocumentValue). matches segment.schema d.value (range field lower upper)) 0 segment.documents) few in
-    elim (is_bounded lower || is_bounded upper) as (λ b. (if b then n else 0) ≤ 2 ^ 64 - 1) [ true ↦ less | false ↦ omega arith ]
+    (length-numbers_where (λ (d : Stamped DocumentValue). matches segment.schema d.value (range field lower upper)) 0 segment.documents) few
 least-few segment (boolean must must_not should) few = omega arith
 
 -- one number is at most another, and that at most a third

@@ -1,5 +1,5 @@
 -- A range over the ordinals of a keyword field is one over the documents.
-use Rattle.std.proofs.Common.{◌≡◌, ◌^◌, ◌<◌, ◌||◌, ◌&&◌, ℕ, Bool, true, false, nat_le, Option, Some, None, IfSome, List, [], length, get_or, map, Contains}
+use Rattle.std.proofs.Common.{◌≡◌, ◌^◌, ◌<◌, ◌&&◌, ℕ, All, Bool, true, false, nat_le, Option, Some, None, IfSome, List, [], length, get_or, map, Contains}
 use Rattle.std.proofs.Common.{unwrap_or, option_map, refl, sym, ap, ap₂, ◌∙◌, arith}
 use Rattle.std.specs.List.{slice_get}
 use Rattle.std.specs.Option.{option_map_or}
@@ -13,7 +13,7 @@ use Rattle.fts_model.specs.declared.operation.Stamped.{Stamped}
 use Rattle.fts_model.specs.declared.schema.Kind.TheVariants as kinds
 use Rattle.fts_model.specs.declared.value.FieldValue.{FieldValue}
 use Rattle.fts_model.specs.declared.value.FieldValue.TheVariants as values
-use Rattle.fts_model.specs.Documents.{DocumentValue, value_in_field}
+use Rattle.fts_model.specs.Documents.{DocumentValue, IsDocument, fits, is_of_kind, value_in_field}
 use Rattle.fts_model.specs.Operations.{kind_at}
 use Rattle.fts_model.specs.Queries.{admits_from, admits_to, is_bound_of}
 use Rattle.fts_segment.specs.Keywords.{before, keyword_of, texts_of}
@@ -23,9 +23,10 @@ use Rattle.fts_segment.proofs.KeywordIndexLemmas.{text_among}
 use Rattle.fts_segment.proofs.KeywordsLemmas.{from_excluded, from_included, to_excluded, to_included}
 use Rattle.fts_segment.proofs.OccurrencesLemmas.{map-map}
 use Rattle.fts_postings.specs.Windows.{passing}
-use Rattle.fts_cursor.specs.Ranges.{IsLastOrdinal, is_bounded, ordinal_from, ordinal_to}
+use Rattle.fts_cursor.specs.Ranges.{IsLastOrdinal, ordinal_from, ordinal_to}
 use Rattle.fts_pack.specs.column.Column.{is_within}
 use Rattle.fts_cursor.specs.Scans.{has_within}
+use Rattle.fts_cursor.proofs.FitLemmas.{are_of_kind, of_kind_at}
 use Rattle.fts_cursor.proofs.HitsLemmas.{numbers_are, passing_are, test_at}
 use Rattle.fts_cursor.proofs.RangeLemmas.{admits, small_of}
 
@@ -50,43 +51,13 @@ to_text ts (Excluded (values.Number n)) t ok h = absurd (false≢true ok)
 to_text ts (Excluded (values.Texts us)) t ok h = absurd (false≢true ok)
 to_text ts Unbounded t ok h = refl
 
--- bounds of texts, of which one is one, admit neither a number nor a list
-no_other : (lower upper : Bound FieldValue) (v : FieldValue) → keyword_of kinds.Keyword (Some v) ≡ None → is_bound_of kinds.Keyword lower ≡ true →
-    is_bound_of kinds.Keyword upper ≡ true → (is_bounded lower || is_bounded upper) ≡ true → admits lower upper v ≡ false
-no_other lower upper (values.Text t) is low high some = absurd (let e : Some t ≡ None = is in cc)
-no_other (Included (values.Text b)) upper (values.Texts us) is low high some = refl
-no_other (Included (values.Texts bs)) upper (values.Texts us) is low high some = absurd (false≢true low)
-no_other (Included (values.Number b)) upper (values.Texts us) is low high some = absurd (false≢true low)
-no_other (Excluded (values.Text b)) upper (values.Texts us) is low high some = refl
-no_other (Excluded (values.Texts bs)) upper (values.Texts us) is low high some = absurd (false≢true low)
-no_other (Excluded (values.Number b)) upper (values.Texts us) is low high some = absurd (false≢true low)
-no_other Unbounded (Included (values.Text b)) (values.Texts us) is low high some = refl
-no_other Unbounded (Included (values.Texts bs)) (values.Texts us) is low high some = absurd (false≢true high)
-no_other Unbounded (Included (values.Number b)) (values.Texts us) is low high some = absurd (false≢true high)
-no_other Unbounded (Excluded (values.Text b)) (values.Texts us) is low high some = refl
-no_other Unbounded (Excluded (values.Texts bs)) (values.Texts us) is low high some = absurd (false≢true high)
-no_other Unbounded (Excluded (values.Number b)) (values.Texts us) is low high some = absurd (false≢true high)
-no_other Unbounded Unbounded (values.Texts us) is low high some = absurd (false≢true some)
-no_other (Included (values.Text b)) upper (values.Number n) is low high some = refl
-no_other (Included (values.Texts bs)) upper (values.Number n) is low high some = absurd (false≢true low)
-no_other (Included (values.Number b)) upper (values.Number n) is low high some = absurd (false≢true low)
-no_other (Excluded (values.Text b)) upper (values.Number n) is low high some = refl
-no_other (Excluded (values.Texts bs)) upper (values.Number n) is low high some = absurd (false≢true low)
-no_other (Excluded (values.Number b)) upper (values.Number n) is low high some = absurd (false≢true low)
-no_other Unbounded (Included (values.Text b)) (values.Number n) is low high some = refl
-no_other Unbounded (Included (values.Texts bs)) (values.Number n) is low high some = absurd (false≢true high)
-no_other Unbounded (Included (values.Number b)) (values.Number n) is low high some = absurd (false≢true high)
-no_other Unbounded (Excluded (values.Text b)) (values.Number n) is low high some = refl
-no_other Unbounded (Excluded (values.Texts bs)) (values.Number n) is low high some = absurd (false≢true high)
-no_other Unbounded (Excluded (values.Number b)) (values.Number n) is low high some = absurd (false≢true high)
-no_other Unbounded Unbounded (values.Number n) is low high some = absurd (false≢true some)
-
 -- what a range over documents is to the ordinals of a keyword field
 pub record Ranked (segment : SegmentValue) (field : ℕ) (lower upper : Bound FieldValue) : Type 0 where
   pub keyword : kind_at segment.schema field ≡ Some kinds.Keyword
   pub low : is_bound_of kinds.Keyword lower ≡ true
   pub high : is_bound_of kinds.Keyword upper ≡ true
-  pub some : (is_bounded lower || is_bounded upper) ≡ true
+  pub documents : All (λ d. IsDocument d.value) segment.documents
+  pub fitting : All (λ d. fits segment.schema d.value ≡ true) segment.documents
   pub small : (d x : ℕ) → get_or (ordinals segment field) d None ≡ Some x → x < 2 ^ 64
 
 -- the ordinals that the bounds admit
@@ -113,11 +84,12 @@ module _ (segment : SegmentValue) (field : ℕ) (lower upper : Bound FieldValue)
       ∙ sym (map-map ordinal (λ (e : Stamped DocumentValue). value_in_field e.value field) segment.documents)
 
   by_value : (o : Option FieldValue) → Contains (values_in field segment.documents) o → IfSome (ordinal o) (λ x. x < 2 ^ 64) →
+      IfSome o (λ v. is_of_kind kinds.Keyword v ≡ true) →
       option_map_or (admits lower upper) o false ≡ option_map_or (ordinal_admits texts lower last) (ordinal o) false
-  by_value None there small = refl
-  by_value (Some (values.Texts us)) there small = no_other lower upper (values.Texts us) refl h.low h.high h.some
-  by_value (Some (values.Number n)) there small = no_other lower upper (values.Number n) refl h.low h.high h.some
-  by_value (Some (values.Text t)) there small =
+  by_value None there small is = refl
+  by_value (Some (values.Texts us)) there small is = absurd (false≢true is)
+  by_value (Some (values.Number n)) there small is = absurd (false≢true is)
+  by_value (Some (values.Text t)) there small is =
       let among : Contains texts t = text_among (values_in field segment.documents) t there in
       sym (ap₂ (λ a b. a && b) (from_text texts lower t h.low among)
       (is_last (before texts t) small ∙ ap (λ ts. ordinal_to ts upper (before texts t)) same_texts ∙ to_text texts upper t h.high among))
@@ -125,10 +97,11 @@ module _ (segment : SegmentValue) (field : ℕ) (lower upper : Bound FieldValue)
   by_document : (s : Option (Stamped DocumentValue)) →
       ((e : Stamped DocumentValue) → s ≡ Some e → Contains (values_in field segment.documents) (value_in_field e.value field)
       × IfSome (ordinal (value_in_field e.value field)) (λ x. x < 2 ^ 64)) →
+      ((e : Stamped DocumentValue) → s ≡ Some e → IfSome (value_in_field e.value field) (λ v. is_of_kind kinds.Keyword v ≡ true)) →
       option_map_or (Hit lower upper field) s false ≡ option_map_or (ordinal_admits texts lower last)
       (unwrap_or (option_map (λ (e : Stamped DocumentValue). ordinal (value_in_field e.value field)) s) None) false
-  by_document None known = refl
-  by_document (Some e) known = let k = known e refl in by_value (value_in_field e.value field) k.0 k.1
+  by_document None known are = refl
+  by_document (Some e) known are = let k = known e refl in by_value (value_in_field e.value field) k.0 k.1 (are e refl)
 
   -- whether a document is a hit is what its ordinal says of it
   ordinal_hit : (d : ℕ) → test_at (Hit lower upper field) segment.documents d ≡ option_map_or (ordinal_admits texts lower last)
@@ -146,6 +119,7 @@ module _ (segment : SegmentValue) (field : ℕ) (lower upper : Bound FieldValue)
         small_of (rank e) (λ x is. h.small d x (shown ∙ is)),
       ) in
       by_document (slice_get segment.documents d) known
+      (of_kind_at kinds.Keyword field segment.documents (are_of_kind segment field kinds.Keyword h.documents h.fitting h.keyword) d)
       ∙ ap (λ o. option_map_or (ordinal_admits texts lower last) o false)
       (ap (λ o. unwrap_or o None) (sym (slice_get-map rank segment.documents d)) ∙ unwrap_or-slice_get (map rank segment.documents) d None
       ∙ ap (λ os. get_or os d None) (sym same_ordinals))

@@ -17,6 +17,7 @@ pub mod MostLemmas
 pub mod OpensLemmas
 pub mod DepthLemmas
 pub mod PhraseHits
+pub mod FitLemmas
 pub mod RangeLemmas
 pub mod BoundsLemmas
 pub mod KeywordRangeLemmas

@@ -1,5 +1,5 @@
 -- How many blocks are opened at most: of several cursors, of lists that are joined, and of a phrase.
-use Rattle.std.proofs.Common.{◌≡◌, ℕ, zero, suc, ◌+◌, ◌-◌, ◌*◌, ◌/◌, ◌<◌, ◌≤◌, ◌&&◌, ◌||◌, min, nat_le, nat_lt, true, false, None, List, [], ◌∷◌, length, map}
+use Rattle.std.proofs.Common.{◌≡◌, ℕ, zero, suc, ◌+◌, ◌-◌, ◌*◌, ◌/◌, ◌<◌, ◌≤◌, ◌&&◌, min, nat_le, nat_lt, true, false, None, List, [], ◌∷◌, length, map}
 use Rattle.std.proofs.Common.{get_or, refl, sym, ap, ap₂, subst, ◌∙◌, arith}
 use Rattle.std.specs.Prelude.{if◌then◌else◌}
 use Rattle.std.specs.List.{AllZip, flat_map, fold, list_all, remove, sum_by}
@@ -27,7 +27,6 @@ use Rattle.fts_cursor.specs.Leading.{IsOver}
 use Rattle.fts_cursor.specs.Hits.{segment_hits}
 use Rattle.fts_cursor.specs.Most.{Opens, OpensRange, are_terms, hits_each, least_for, least_of_range, most_for, most_for_all, most_of_range}
 use Rattle.fts_cursor.specs.Openings.{shortest_of}
-use Rattle.fts_cursor.specs.Ranges.{is_bounded}
 use Rattle.fts_cursor.specs.Standing.{Standing, at_most}
 use Rattle.fts_cursor.specs.TreeValues.{TreeValue, all_most}
 use Rattle.fts_cursor.proofs.HitsLemmas.{hits_of}
@@ -163,7 +162,4 @@ module _ (segment : SegmentValue) (field : ℕ) (lower upper : Bound FieldValue)
 
   pub range_least : s.remaining ≡ segment_hits segment (range field lower upper) → OpensRange (length segment.documents) s →
       least_for segment (range field lower upper) ≤ s.openings
-  range_least is opens =
-      let n = least_of_range (length segment.documents) (length (segment_hits segment (range field lower upper))) in
-      let less : n ≤ s.openings = subst (λ xs. least_of_range (length segment.documents) (length xs) ≤ s.openings) is opens.least in
-      elim (is_bounded lower || is_bounded upper) as (λ b. (if b then n else 0) ≤ s.openings) [ true ↦ less | false ↦ omega arith ]
+  range_least is opens = subst (λ xs. least_of_range (length segment.documents) (length xs) ≤ s.openings) is opens.least

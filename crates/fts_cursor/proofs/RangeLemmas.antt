@@ -1,11 +1,11 @@
 -- A range over a column is one over the documents.
-use Rattle.std.proofs.Common.{◌≡◌, ℕ, ◌+◌, ◌-◌, ◌^◌, ◌<◌, ◌≤◌, ℤ, pos, negsuc, Bool, true, false, not, ◌&&◌, ◌||◌, nat_le, nat_lt, int_lt, is_some, Option}
+use Rattle.std.proofs.Common.{◌≡◌, ℕ, ◌+◌, ◌-◌, ◌^◌, ◌<◌, ◌≤◌, ℤ, pos, negsuc, All, Bool, true, false, not, ◌&&◌, nat_le, nat_lt, int_lt, Option}
 use Rattle.std.proofs.Common.{Some, None, IfSome, unwrap_or, option_map, List, [], length, get_or, map, refl, sym, ap, ap₂, subst, ◌∙◌, inl, inr, arith}
 use Rattle.std.specs.List.{slice_get}
 use Rattle.std.specs.Option.{option_map_or, option_and_then}
 use Rattle.std.specs.declared.ops.Bound.{Bound}
 use Rattle.std.specs.declared.ops.Bound.TheVariants.{Included, Excluded, Unbounded}
-use Rattle.std.proofs.lemmas.Bool.{and_parts, cases_Bool, cases_lt, false≢true, le-leb, lt-leb, lt-ltb, le-ltb, ltb-true}
+use Rattle.std.proofs.lemmas.Bool.{and_parts, cases_lt, false≢true, le-leb, lt-leb, lt-ltb, le-ltb, ltb-true}
 use Rattle.std.proofs.lemmas.List.{get_or-map, get_or_past, length-map}
 use Rattle.std.proofs.lemmas.Option.{get_or_from_slice_get, slice_get-map, slice_get_within, unwrap_or-slice_get}
 use Rattle.std.proofs.Math.Bool.{and-false}
@@ -16,19 +16,20 @@ use Rattle.fts_model.specs.declared.schema.Kind.TheVariants as kinds
 use Rattle.fts_model.specs.declared.value.FieldValue.{FieldValue}
 use Rattle.fts_model.specs.declared.value.FieldValue.TheVariants as values
 use Rattle.fts_model.specs.declared.value.Number.TheVariants as numbers
-use Rattle.fts_model.specs.Documents.{DocumentValue, fits_i64, is_term_of, value_in_field}
+use Rattle.fts_model.specs.Documents.{DocumentValue, IsDocument, fits, fits_i64, is_of_kind, is_term_of, value_in_field}
 use Rattle.fts_model.specs.Operations.{kind_at}
 use Rattle.fts_model.specs.Schemas.{holds_numbers, is_ordered}
 use Rattle.fts_model.specs.Queries.{admits_from, admits_to, is_bound_of, is_number_field, is_range_of, value_le, value_lt}
 use Rattle.fts_pack.specs.bits.Signed.{u64_of}
 use Rattle.fts_segment.specs.Numbers.{Fits64}
-use Rattle.fts_pack.specs.column.Column.{IsRangeOf, is_within}
+use Rattle.fts_pack.specs.column.Column.{is_within}
 use Rattle.fts_segment.specs.FieldIndexes.{NumbersFit}
 use Rattle.fts_segment.specs.Occurrences.{values_in}
 use Rattle.fts_segment.specs.Segments.{SegmentValue, column, number_in, number_of, numbers_where}
-use Rattle.fts_cursor.specs.Ranges.{IsGreatestOf, IsLeastOf, IsWhole, IsWholeBound, is_bounded, key_from, key_of, key_to}
-use Rattle.fts_cursor.specs.Scans.{has_value, has_within}
+use Rattle.fts_cursor.specs.Ranges.{IsGreatestOf, IsLeastOf, IsWhole, IsWholeBound, key_from, key_of, key_to}
+use Rattle.fts_cursor.specs.Scans.{has_within}
 use Rattle.fts_postings.specs.Windows.{passing}
+use Rattle.fts_cursor.proofs.FitLemmas.{AreOfKind, are_of_kind, of_kind_at}
 use Rattle.fts_cursor.proofs.HitsLemmas.{numbers_are, passing_are, test_at}
 
 -- the order of numbers with a sign is that of their places
@@ -95,68 +96,22 @@ admits lower upper v = admits_from lower v && admits_to upper v
 abbrev pub key_admits : Bound FieldValue → Bound FieldValue → ℕ → Bool
 key_admits lower upper x = key_from lower x && key_to upper x
 
--- a value of a kind is neither below nor above one of another
-record IsApart (b v : FieldValue) : Type 0 where
-  le : value_le b v ≡ false
-  lt : value_lt b v ≡ false
-  ge : value_le v b ≡ false
-  gt : value_lt v b ≡ false
-
-apart : (kind : Kind) (b v : FieldValue) → is_term_of kind b ≡ true → holds_numbers kind ≡ true → number_in kind v ≡ None → IsApart b v
-apart kinds.U64 (values.Number (numbers.U64 b)) (values.Number (numbers.U64 n)) ok holds none = absurd (let e : Some n ≡ None = none in cc)
-apart kinds.U64 (values.Number (numbers.U64 b)) (values.Number (numbers.I64 z)) ok holds none = record { le = refl; lt = refl; ge = refl; gt = refl }
-apart kinds.U64 (values.Number (numbers.U64 b)) (values.Text t) ok holds none = record { le = refl; lt = refl; ge = refl; gt = refl }
-apart kinds.U64 (values.Number (numbers.U64 b)) (values.Texts ts) ok holds none = record { le = refl; lt = refl; ge = refl; gt = refl }
-apart kinds.U64 (values.Number (numbers.I64 b)) v ok holds none = absurd (false≢true ok)
-apart kinds.U64 (values.Text b) v ok holds none = absurd (false≢true ok)
-apart kinds.U64 (values.Texts bs) v ok holds none = absurd (false≢true ok)
-apart kinds.I64 (values.Number (numbers.I64 b)) (values.Number (numbers.I64 z)) ok holds none = absurd (let e : Some (u64_of z) ≡ None = none in cc)
-apart kinds.I64 (values.Number (numbers.I64 b)) (values.Number (numbers.U64 n)) ok holds none = record { le = refl; lt = refl; ge = refl; gt = refl }
-apart kinds.I64 (values.Number (numbers.I64 b)) (values.Text t) ok holds none = record { le = refl; lt = refl; ge = refl; gt = refl }
-apart kinds.I64 (values.Number (numbers.I64 b)) (values.Texts ts) ok holds none = record { le = refl; lt = refl; ge = refl; gt = refl }
-apart kinds.I64 (values.Number (numbers.U64 b)) v ok holds none = absurd (false≢true ok)
-apart kinds.I64 (values.Text b) v ok holds none = absurd (false≢true ok)
-apart kinds.I64 (values.Texts bs) v ok holds none = absurd (false≢true ok)
-apart kinds.Text b v ok holds none = absurd (false≢true holds)
-apart kinds.Keyword b v ok holds none = absurd (false≢true holds)
-
--- a bound of a kind admits nothing of another
-none_of : (kind : Kind) (bound : Bound FieldValue) (v : FieldValue) → is_bound_of kind bound ≡ true → holds_numbers kind ≡ true → number_in kind v ≡ None →
-    is_bounded bound ≡ true → (admits_from bound v ≡ false) × (admits_to bound v ≡ false)
-none_of kind (Included b) v ok holds none some = let h = apart kind b v ok holds none in (h.le, h.ge)
-none_of kind (Excluded b) v ok holds none some = let h = apart kind b v ok holds none in (h.lt, h.gt)
-none_of kind Unbounded v ok holds none some = absurd (false≢true some)
-
--- bounds, of which one is one, admit nothing of another kind
-other : (kind : Kind) (lower upper : Bound FieldValue) (v : FieldValue) → is_bound_of kind lower ≡ true → is_bound_of kind upper ≡ true →
-    holds_numbers kind ≡ true → number_in kind v ≡ None → (is_bounded lower || is_bounded upper) ≡ true → admits lower upper v ≡ false
-other kind lower upper v low high holds none some = elim (cases_Bool (is_bounded lower)) [
-  | inl bounded ↦ ap (λ b. b && admits_to upper v) (none_of kind lower v low holds none bounded).0
-  | inr open_below ↦
-      let bounded : is_bounded upper ≡ true = ap (λ b. b || is_bounded upper) (sym open_below) ∙ some in
-      ap (λ b. admits_from lower v && b) (none_of kind upper v high holds none bounded).1 ∙ and-false (admits_from lower v)
-]
-
--- what bounds say of a value is what they say of its number
+-- what bounds say of a value of the kind is what they say of its number
 pub admits_by_key : (kind : Kind) (lower upper : Bound FieldValue) (v : FieldValue) → is_bound_of kind lower ≡ true → is_bound_of kind upper ≡ true →
-    holds_numbers kind ≡ true → IsWholeBound lower → IsWholeBound upper → Fits64 kind v → (is_bounded lower || is_bounded upper) ≡ true →
+    holds_numbers kind ≡ true → IsWholeBound lower → IsWholeBound upper → Fits64 kind v → is_of_kind kind v ≡ true →
     admits lower upper v ≡ option_map_or (key_admits lower upper) (number_in kind v) false
-admits_by_key kinds.U64 lower upper (values.Number (numbers.U64 n)) low high holds whole below fits some =
+admits_by_key kinds.U64 lower upper (values.Number (numbers.U64 n)) low high holds whole below fits is =
     ap₂ (λ a b. a && b) (by_u64 lower n low).0 (by_u64 upper n high).1
-admits_by_key kinds.U64 lower upper (values.Number (numbers.I64 z)) low high holds whole below fits some =
-    other kinds.U64 lower upper (values.Number (numbers.I64 z)) low high holds refl some
-admits_by_key kinds.U64 lower upper (values.Text t) low high holds whole below fits some = other kinds.U64 lower upper (values.Text t) low high holds refl some
-admits_by_key kinds.U64 lower upper (values.Texts ts) low high holds whole below fits some =
-    other kinds.U64 lower upper (values.Texts ts) low high holds refl some
-admits_by_key kinds.I64 lower upper (values.Number (numbers.I64 z)) low high holds whole below fits some =
+admits_by_key kinds.U64 lower upper (values.Number (numbers.I64 z)) low high holds whole below fits is = absurd (false≢true is)
+admits_by_key kinds.U64 lower upper (values.Text t) low high holds whole below fits is = absurd (false≢true is)
+admits_by_key kinds.U64 lower upper (values.Texts ts) low high holds whole below fits is = absurd (false≢true is)
+admits_by_key kinds.I64 lower upper (values.Number (numbers.I64 z)) low high holds whole below fits is =
     ap₂ (λ a b. a && b) (by_i64 lower z low whole fits).0 (by_i64 upper z high below fits).1
-admits_by_key kinds.I64 lower upper (values.Number (numbers.U64 n)) low high holds whole below fits some =
-    other kinds.I64 lower upper (values.Number (numbers.U64 n)) low high holds refl some
-admits_by_key kinds.I64 lower upper (values.Text t) low high holds whole below fits some = other kinds.I64 lower upper (values.Text t) low high holds refl some
-admits_by_key kinds.I64 lower upper (values.Texts ts) low high holds whole below fits some =
-    other kinds.I64 lower upper (values.Texts ts) low high holds refl some
-admits_by_key kinds.Text lower upper v low high holds whole below fits some = absurd (false≢true holds)
-admits_by_key kinds.Keyword lower upper v low high holds whole below fits some = absurd (false≢true holds)
+admits_by_key kinds.I64 lower upper (values.Number (numbers.U64 n)) low high holds whole below fits is = absurd (false≢true is)
+admits_by_key kinds.I64 lower upper (values.Text t) low high holds whole below fits is = absurd (false≢true is)
+admits_by_key kinds.I64 lower upper (values.Texts ts) low high holds whole below fits is = absurd (false≢true is)
+admits_by_key kinds.Text lower upper v low high holds whole below fits is = absurd (false≢true holds)
+admits_by_key kinds.Keyword lower upper v low high holds whole below fits is = absurd (false≢true holds)
 
 -- the value of a document, and the number of its column
 abbrev Hit : Bound FieldValue → Bound FieldValue → ℕ → Stamped DocumentValue → Bool
@@ -167,23 +122,24 @@ number_at schema field e = option_and_then (λ kind. number_of kind (value_in_fi
 
 module _ (schema : List Field) (field : ℕ) (kind : Kind) (lower upper : Bound FieldValue) (is : kind_at schema field ≡ Some kind)
     (low : is_bound_of kind lower ≡ true) (high : is_bound_of kind upper ≡ true) (holds : holds_numbers kind ≡ true) (whole : IsWholeBound lower)
-    (below : IsWholeBound upper) (some : (is_bounded lower || is_bounded upper) ≡ true) where
-  by_value : (o : Option FieldValue) → IfSome o (Fits64 kind) →
+    (below : IsWholeBound upper) where
+  by_value : (o : Option FieldValue) → IfSome o (Fits64 kind) → IfSome o (λ v. is_of_kind kind v ≡ true) →
       option_map_or (admits lower upper) o false ≡ option_map_or (key_admits lower upper) (number_of kind o) false
-  by_value None fits = refl
-  by_value (Some v) fits = admits_by_key kind lower upper v low high holds whole below fits some
+  by_value None fits is = refl
+  by_value (Some v) fits is = admits_by_key kind lower upper v low high holds whole below fits is
 
   by_document : (s : Option (Stamped DocumentValue)) → ((e : Stamped DocumentValue) → s ≡ Some e → IfSome (value_in_field e.value field) (Fits64 kind)) →
+      ((e : Stamped DocumentValue) → s ≡ Some e → IfSome (value_in_field e.value field) (λ v. is_of_kind kind v ≡ true)) →
       option_map_or (Hit lower upper field) s false ≡ option_map_or (key_admits lower upper) (unwrap_or (option_map (number_at schema field) s) None) false
-  by_document None fit = refl
-  by_document (Some e) fit =
-      by_value (value_in_field e.value field) (fit e refl)
+  by_document None fit are = refl
+  by_document (Some e) fit are =
+      by_value (value_in_field e.value field) (fit e refl) (are e refl)
       ∙ sym (ap (λ k. option_map_or (key_admits lower upper) (option_and_then (λ kind. number_of kind (value_in_field e.value field)) k) false) is)
 
   -- whether a document is a hit is what the column says of it
-  pub hit_by_key : (documents : List (Stamped DocumentValue)) → NumbersFit kind field documents → (d : ℕ) →
+  pub hit_by_key : (documents : List (Stamped DocumentValue)) → NumbersFit kind field documents → AreOfKind kind field documents → (d : ℕ) →
       test_at (Hit lower upper field) documents d ≡ option_map_or (key_admits lower upper) (get_or (map (number_at schema field) documents) d None) false
-  hit_by_key documents fit d =
+  hit_by_key documents fit are d =
       let fits : (e : Stamped DocumentValue) → slice_get documents d ≡ Some e → IfSome (value_in_field e.value field) (Fits64 kind) = λ e at.
       let inside = slice_get_within documents d e at in
       let value : get_or (values_in field documents) d None ≡ value_in_field e.value field =
@@ -191,7 +147,7 @@ module _ (schema : List Field) (field : ℕ) (kind : Kind) (lower upper : Bound 
       ∙ ap (λ x. value_in_field x.value field) (get_or_from_slice_get documents d e e at) in
       subst (λ (o : Option FieldValue). IfSome o (Fits64 kind)) value
       (fit d None (omega (arith, inside, length-map documents (λ x. value_in_field x.value field)))) in
-      by_document (slice_get documents d) fits
+      by_document (slice_get documents d) fits (of_kind_at kind field documents are d)
       ∙ ap (λ o. option_map_or (key_admits lower upper) o false) (ap (λ o. unwrap_or o None) (sym (slice_get-map (number_at schema field) documents d))
       ∙ unwrap_or-slice_get (map (number_at schema field) documents) d None)
 
@@ -229,28 +185,6 @@ small_of (Some x) h = h x refl
 pub small_at : (column : List (Option ℕ)) → ((d x : ℕ) → get_or column d None ≡ Some x → x < 2 ^ 64) → (d : ℕ) → IfSome (get_or column d None) (λ x. x < 2 ^ 64)
 small_at column small d = small_of (get_or column d None) (small d)
 
--- open bounds admit all
-open_all : (bound : Bound FieldValue) (v : FieldValue) → is_bounded bound ≡ false → (admits_from bound v ≡ true) × (admits_to bound v ≡ true)
-open_all Unbounded v is = (refl, refl)
-open_all (Included b) v is = absurd (false≢true (sym is))
-open_all (Excluded b) v is = absurd (false≢true (sym is))
-
-valued : (lower upper : Bound FieldValue) → is_bounded lower ≡ false → is_bounded upper ≡ false → (o : Option FieldValue) →
-    is_some o ≡ option_map_or (admits lower upper) o false
-valued lower upper low high None = refl
-valued lower upper low high (Some v) = sym (ap₂ (λ a b. a && b) (open_all lower v low).0 (open_all upper v high).1)
-
-valued_at : (lower upper : Bound FieldValue) (field : ℕ) → is_bounded lower ≡ false → is_bounded upper ≡ false → (s : Option (Stamped DocumentValue)) →
-    option_map_or (λ e. is_some (value_in_field e.value field)) s false ≡ option_map_or (Hit lower upper field) s false
-valued_at lower upper field low high None = refl
-valued_at lower upper field low high (Some e) = valued lower upper low high (value_in_field e.value field)
-
--- a range without bounds finds the documents with a value
-pub open_hits : (documents : List (Stamped DocumentValue)) (field : ℕ) (lower upper : Bound FieldValue) → is_bounded lower ≡ false → is_bounded upper ≡ false →
-    passing (has_value documents field) 0 (length documents) ≡ numbers_where (Hit lower upper field) 0 documents
-open_hits documents field lower upper low high =
-    passing_are (Hit lower upper field) documents (has_value documents field) (λ d inside. valued_at lower upper field low high (slice_get documents d))
-
 -- the kind of a field that fits
 pub kind_of : (o : Option Kind) (f : Kind → Bool) → option_map_or f o false ≡ true → (kind : Kind) × (o ≡ Some kind) × (f kind ≡ true)
 kind_of None f h = absurd (false≢true h)
@@ -258,11 +192,12 @@ kind_of (Some kind) f h = (kind, refl, h)
 
 -- what a range over documents is to their column
 pub record Bounded (segment : SegmentValue) (field : ℕ) (lower upper : Bound FieldValue) : Type 0 where
+  pub documents : All (λ d. IsDocument d.value) segment.documents
+  pub fitting : All (λ d. fits segment.schema d.value ≡ true) segment.documents
   pub fits : option_map_or (is_range_of lower upper) (kind_at segment.schema field) false ≡ true
   pub numbers : is_number_field segment.schema field ≡ true
   pub whole : IsWholeBound lower
   pub below : IsWholeBound upper
-  pub some : (is_bounded lower || is_bounded upper) ≡ true
   pub fit : (kind : Kind) → kind_at segment.schema field ≡ Some kind → NumbersFit kind field segment.documents
   pub small : (d x : ℕ) → get_or (column segment field) d None ≡ Some x → x < 2 ^ 64
 
@@ -273,7 +208,8 @@ module _ (segment : SegmentValue) (field : ℕ) (lower upper : Bound FieldValue)
       let front = and_parts (is_ordered kind.0 && is_bound_of kind.0 lower) (is_bound_of kind.0 upper) kind.2 in
       let both = and_parts (is_ordered kind.0) (is_bound_of kind.0 lower) front.0 in
       let numbers : holds_numbers kind.0 ≡ true = ap (λ o. option_map_or holds_numbers o false) (sym kind.1) ∙ h.numbers in
-      hit_by_key segment.schema field kind.0 lower upper kind.1 both.1 front.1 numbers h.whole h.below h.some segment.documents (h.fit kind.0 kind.1) d
+      hit_by_key segment.schema field kind.0 lower upper kind.1 both.1 front.1 numbers h.whole h.below segment.documents (h.fit kind.0 kind.1)
+      (are_of_kind segment field kind.0 h.documents h.fitting kind.1) d
 
   pub within_hits : (low high : ℕ) → IsLeastOf lower (Some low) → IsGreatestOf upper (Some high) →
       passing (has_within low high (column segment field)) 0 (length segment.documents) ≡ numbers_where (Hit lower upper field) 0 segment.documents

@@ -1,18 +1,14 @@
 -- The documents of a range that pass a test, stretch by stretch.
-use Rattle.std.proofs.Common.{◌≡◌, ℕ, zero, suc, ◌+◌, ◌-◌, ◌<◌, ◌≤◌, Bool, true, false, cond, Option, Some, None, is_some, option_map, Bor, List, [], ◌∷◌, ◌++◌}
+use Rattle.std.proofs.Common.{◌≡◌, ℕ, zero, suc, ◌+◌, ◌-◌, ◌<◌, ◌≤◌, Bool, true, cond, Some, List, [], ◌∷◌, ◌++◌}
 use Rattle.std.proofs.Common.{length, get_or, set, take, drop, min, refl, sym, ap, ap₂, subst, ◌∙◌, inl, inr, arith}
 use Rattle.std.specs.List.{filter, range_with_len, slice_get}
-use Rattle.std.specs.Option.{option_copied, option_map_or}
 use Rattle.std.proofs.lemmas.Option.{slice_get-get_or}
 use Rattle.std.proofs.lemmas.Bool.{cases_lt, lt-leb}
 use Rattle.std.proofs.lemmas.List.{append-nil, take_more_set, length-append, length-drop, get_or-drop, get_or-take, get_or_append_left, drop-append-le}
 use Rattle.std.proofs.lemmas.List.{drop-drop, drop_all}
 use Rattle.fts_pack.specs.Documents.{Rises}
 use Rattle.fts_postings.specs.Remaining.{at_least, IsPlaceOf}
-use Rattle.fts_model.specs.declared.operation.Stamped.{Stamped}
-use Rattle.fts_model.specs.declared.value.FieldValue.{FieldValue}
-use Rattle.fts_model.specs.Documents.{DocumentValue, value_in_field}
-use Rattle.fts_cursor.specs.Scans.{has_value, keeps, kept_from, kept_in}
+use Rattle.fts_cursor.specs.Scans.{keeps, kept_from, kept_in}
 use Rattle.fts_postings.specs.Windows.{passing}
 use Rattle.fts_cursor.specs.declared.rows.Kept.{Kept}
 use Rattle.fts_cursor.specs.declared.rows.Kept.TheVariants.{Every}
@@ -40,12 +36,6 @@ KeptUpTo-kept p from out place count h passes room =
       size = omega (arith, h.size, ap length more, length-append (passing p from place) ((from + place) ∷ []));
       behind = omega (arith, h.behind);
     }
-
-pub KeptUpTo-passed : (p : ℕ → Bool) (from : ℕ) (out : List ℕ) (place count : ℕ) → KeptUpTo p from out place count → p (from + place) ≡ false →
-    KeptUpTo p from out (place + 1) count
-KeptUpTo-passed p from out place count h fails =
-    let more = one p from place false fails ∙ append-nil (passing p from place) in
-    record { front = h.front ∙ sym more; size = h.size ∙ ap length (sym more); behind = omega (arith, h.behind) }
 
 -- the first stretch, and the others
 pub passing-stretch : (p : ℕ → Bool) (from docs : ℕ) → passing p from (docs - from) ≡ passing p from (min 128 (docs - from))
@@ -113,21 +103,6 @@ passing-skipped p from to docs target up low =
     (range_with_len from n) (range_with_len (from + n) (docs - to))
     ∙ ap₂ (λ xs ys. xs ++ at_least target ys) (low_range target from n (omega (arith, up, low))) there)
     ∙ filter-at_least target p (range_with_len to (docs - to))
-
--- a document has a value of a field
-valued_at : (s : Option (Stamped DocumentValue)) (d : DocumentValue) (field : ℕ) → option_map (λ e. e.value) s ≡ Some d →
-    option_map_or (λ e. is_some (value_in_field e.value field)) s false ≡ is_some (value_in_field d field)
-valued_at None d field is = absurd (let e : None ≡ Some d = is in cc)
-valued_at (Some s) d field is = let same : s.value ≡ d = cc in ap (λ e. is_some (value_in_field e field)) same
-
-copied_some : {X : Type 0} (o : Option (Bor X)) (v : Option X) → option_copied o ≡ v → is_some v ≡ is_some o
-copied_some None v is = ap is_some (sym is)
-copied_some (Some x) v is = ap is_some (sym is)
-
-pub has_value-is : (documents : List (Stamped DocumentValue)) (field doc : ℕ) (d : DocumentValue) (o : Option (Bor FieldValue)) →
-    option_map (λ e. e.value) (slice_get documents doc) ≡ Some d → option_copied o ≡ value_in_field d field →
-    has_value documents field doc ≡ is_some o
-has_value-is documents field doc d o is value = valued_at (slice_get documents doc) d field is ∙ copied_some o (value_in_field d field) value
 
 -- a stretch of which the last is below the target is passed over
 pub stretch_below : (p : ℕ → Bool) (from docs target len : ℕ) (numbers : List ℕ) → len ≡ length (passing p from (min 128 (docs - from))) →

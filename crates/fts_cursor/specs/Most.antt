@@ -1,5 +1,5 @@
 -- How many blocks the cursor of a query opens, whatever the query is.
-use Rattle.std.specs.Prelude.{◌≡◌, ◌≢◌, ℕ, ◌+◌, ◌/◌, ◌≤◌, nat_le, Bool, true, ◌&&◌, ◌||◌, Option, None, Some, List, []}
+use Rattle.std.specs.Prelude.{◌≡◌, ◌≢◌, ℕ, ◌+◌, ◌/◌, ◌≤◌, nat_le, Bool, true, ◌&&◌, Option, None, Some, List, []}
 use Rattle.std.specs.Prelude.{◌∷◌, length}
 use Rattle.std.specs.Prelude.{if◌then◌else◌, map}
 use Rattle.fts_model.specs.declared.operation.Term.{Term}
@@ -12,7 +12,6 @@ use Rattle.fts_segment.specs.Segments.{SegmentValue, postings}
 use Rattle.fts_cursor.specs.Builds.{is_term, text_term}
 use Rattle.fts_cursor.specs.Hits.{segment_hits}
 use Rattle.fts_cursor.specs.Openings.{HasMusts, IsOfOneTerm, blocks_with, bound_for_musts, bound_of_all, most_for_musts}
-use Rattle.fts_cursor.specs.Ranges.{is_bounded}
 use Rattle.fts_cursor.specs.Standing.{Standing}
 
 -- the blocks that are opened at most and at least for a range that so many of some documents match: where it is one in
@@ -59,12 +58,11 @@ abbrev mutual
   most_for_all segment no_queries = 0
   most_for_all segment (queries q qs) = most_for segment q + most_for_all segment qs
 
--- the fewest blocks that the cursor of a range with a bound opens, as soon as it is made: few documents are read from
--- the lists of their numbers
+-- the fewest blocks that the cursor of a range opens, as soon as it is made: few documents are read from the lists of
+-- their numbers
 abbrev pub least_for : SegmentValue → QueryValue → ℕ
 least_for segment (range field lower upper) =
-    if is_bounded lower || is_bounded upper
-    then least_of_range (length segment.documents) (length (segment_hits segment (range field lower upper))) else 0
+    least_of_range (length segment.documents) (length (segment_hits segment (range field lower upper)))
 least_for segment query = 0
 
 -- what the cursor of a query opens: no more blocks than is said of the query, for a range no fewer either, and for one

@@ -70,11 +70,6 @@ abbrev pub IsLastOrdinal : List (List ℕ) → Bound FieldValue → Option ℕ �
 IsLastOrdinal texts bound last =
     (x : ℕ) → x < 2 ^ 64 → option_map_or (λ high. nat_le x high) last false ≡ ordinal_to texts bound x
 
--- a bound is one
-abbrev pub is_bounded : Bound FieldValue → Bool
-is_bounded Unbounded = false
-is_bounded bound = true
-
 -- what the column of a field keeps for each document: numbers, or the ordinals of keywords
 abbrev pub values_of : SegmentValue → ℕ → List (Option ℕ)
 values_of segment field = if is_number_field segment.schema field then column segment field else ordinals segment field

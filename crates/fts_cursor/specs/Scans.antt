@@ -1,13 +1,10 @@
 -- The documents that are kept by their numbers alone, a stretch at a time.
-use Rattle.std.specs.Prelude.{◌≡◌, ℕ, ◌-◌, ◌%◌, ◌^◌, ◌<◌, ◌≤◌, ◌&&◌, Bool, true, false, Option, None}
-use Rattle.std.specs.Prelude.{IfSome, List, drop, length, min, take, is_some, slice_get, slice_index_or}
-use Rattle.std.specs.Option.{option_map_or}
-use Rattle.fts_model.specs.Documents.{DocumentValue, value_in_field}
-use Rattle.fts_model.specs.declared.operation.Stamped.{Stamped}
+use Rattle.std.specs.Prelude.{◌≡◌, ℕ, ◌-◌, ◌%◌, ◌^◌, ◌<◌, ◌≤◌, ◌&&◌, Bool, true, Option, None}
+use Rattle.std.specs.Prelude.{IfSome, List, drop, length, min, take, slice_index_or}
 use Rattle.fts_pack.specs.column.Column.{is_within}
 use Rattle.fts_postings.specs.Windows.{passing}
 use Rattle.fts_cursor.specs.declared.rows.Kept.{Kept}
-use Rattle.fts_cursor.specs.declared.rows.Kept.TheVariants.{Every, Within, WithinLive, Valued, Told}
+use Rattle.fts_cursor.specs.declared.rows.Kept.TheVariants.{Every, Within, WithinLive, Told}
 use Rattle.fts_cursor.specs.Dense.{AreWithin, HoldsRow, is_dense}
 use Rattle.fts_cursor.specs.declared.dense.Row.{Row}
 use Rattle.fts_cursor.specs.Hits.{is_live}
@@ -20,17 +17,11 @@ has_within low high column doc = is_within low high (slice_index_or column doc N
 abbrev pub has_within_live : ℕ → ℕ → List (Option ℕ) → List Bool → ℕ → Bool
 has_within_live low high column live doc = has_within low high column doc && is_live live doc
 
--- whether a document has a value of a field
-abbrev pub has_value : List (Stamped DocumentValue) → ℕ → ℕ → Bool
-has_value documents field doc =
-    option_map_or (λ d. is_some (value_in_field d.value field)) (slice_get documents doc) false
-
 -- whether a document is kept
 abbrev pub keeps : Kept → ℕ → Bool
 keeps Every doc = true
 keeps (Within column low high) doc = has_within low high column.now doc
 keeps (WithinLive column low high live) doc = has_within_live low high column.now live.now doc
-keeps (Valued segment field) doc = has_value segment.now.documents field doc
 keeps (Told dense) doc = is_dense dense doc
 
 -- there is a number, or a document, for each of this many
@@ -38,7 +29,6 @@ abbrev pub AreFor : Kept → ℕ → Type 0
 AreFor Every docs = Unit {0}
 AreFor (Within column low high) docs = length column.now ≡ docs
 AreFor (WithinLive column low high live) docs = length column.now ≡ docs
-AreFor (Valued segment field) docs = length segment.now.documents ≡ docs
 AreFor (Told dense) docs = AreWithin dense docs
 
 -- those kept of this many documents, from one on

@@ -11,7 +11,7 @@ ghost use Rattle.fts_cursor.specs.Tests.{HasMore, hits_of_each, is_kept, passes_
 ghost use Rattle.fts_postings.specs.Sets.{has, in_all, in_some};
 
 use crate::doc_test::{DocTest, passes_one};
-use crate::range::{bounds_of, is_open};
+use crate::range::bounds_of;
 use fts_model::{FieldValue, Query, Term};
 use fts_pack::bits::Bits;
 use fts_segment::Segment;
@@ -79,7 +79,7 @@ fn passes_each(lists: &[Vec<DocTest>], doc: usize) -> bool
 }
 
 /// The test of the live hits of a query, if bits and columns suffice for it: if each of its terms is in many documents,
-/// each range has a bound, and it has no phrase and no Boolean query with musts or must-nots within another.
+/// and it has no phrase and no Boolean query with musts or must-nots within another.
 ///
 /// No block of a list is opened. The only refusal is that of memory.
 pub fn hit_test<'a>(
@@ -284,7 +284,7 @@ fn push_term<'a>(
     Ok(true)
 }
 
-/// Adds the test of a range. Returns false if the range is open at both ends.
+/// Adds the test of a range, or none if no number or text is within it.
 fn push_range<'a>(
     segment: &'a Segment,
     field: usize,
@@ -296,9 +296,6 @@ fn push_range<'a>(
     ensures { IfOk result (λ told. told ≡ true → HasMore
         (has (segment_hits segment.now (range field lower.now upper.now))) tests.old.items tests.new.items) }
 {
-    if is_open(lower) && is_open(upper) {
-        return Ok(false);
-    }
     let Some((low, high)) = bounds_of(segment, field, lower, upper) else {
         return Ok(true);
     };

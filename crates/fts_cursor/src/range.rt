@@ -1,5 +1,5 @@
 // Ranges, as what a column keeps: numbers, or ordinals of texts.
-ghost use Rattle.std.specs.Prelude.{◌≡◌, ℕ, ◌^◌, ◌<◌, ◌≤◌, ◌||◌, IfOk, None, Some, false, length, not};
+ghost use Rattle.std.specs.Prelude.{◌≡◌, ℕ, ◌^◌, ◌<◌, ◌≤◌, IfOk, None, Some, false, length};
 ghost use Rattle.std.specs.Prelude.{slice_index_or, true};
 ghost use Rattle.std.specs.Option.{option_map_or};
 ghost use Rattle.fts_model.specs.Operations.{kind_at};
@@ -11,7 +11,7 @@ ghost use Rattle.fts_cursor.specs.Most.{OpensRange, least_for, most_for};
 ghost use Rattle.fts_postings.specs.Bounds.{most_at};
 ghost use Rattle.fts_segment.specs.Segments.{column, keywords, ordinals};
 ghost use Rattle.fts_cursor.specs.Ranges.{AreBoundsOf, IsGreatestOf, IsLastOrdinal, IsLeastOf, IsWhole, IsWholeBound};
-ghost use Rattle.fts_cursor.specs.Ranges.{is_bounded, key_of, ordinal_from, values_of};
+ghost use Rattle.fts_cursor.specs.Ranges.{key_of, ordinal_from, values_of};
 ghost use Rattle.fts_cursor.specs.Scans.{has_within};
 ghost use Rattle.fts_postings.specs.Windows.{passing};
 ghost use Rattle.fts_segment.specs.Between.{AreBetween, count_between};
@@ -45,27 +45,22 @@ pub(crate) fn of_range<'a>(
         ≤ most_for segment.now (range field lower.now upper.now)) }
     ensures least { IfOk result (λ t. least_for segment.now (range field lower.now upper.now) ≤ t.openings) }
 {
-    if is_open(lower) && is_open(upper) {
-        let kept = Kept::Valued { segment, field };
-        return Tree::scan(alloc, ScanCursor::new(kept, segment.docs(), None));
-    }
     match bounds_of(segment, field, lower, upper) {
         None => Ok(Tree::nothing()),
         Some((low, high)) => of_bounds(alloc, segment, field, low, high),
     }
 }
 
-/// The least and the greatest number of a keyword or number field's column that a range admits, if the range isn't open
-/// at both ends. `None` if it admits no value.
+/// The least and the greatest number of a keyword or number field's column that a range admits. `None` if it admits no
+/// value.
 pub(crate) fn bounds_of(
     segment: &Segment,
     field: usize,
     lower: &Bound<FieldValue>,
     upper: &Bound<FieldValue>,
 ) -> Option<(u64, u64)>
-    requires range { option_map_or (is_range_of lower.now upper.now) (kind_at segment.now.schema field)
+    requires { option_map_or (is_range_of lower.now upper.now) (kind_at segment.now.schema field)
         false ≡ true }
-    requires bounded { (is_bounded lower.now || is_bounded upper.now) ≡ true }
     ensures { AreBoundsOf segment.now (range field lower.now upper.now) (values_of segment.now field) result }
 {
     if segment.schema().kind(field).holds_numbers() {
@@ -85,12 +80,12 @@ fn number_bounds(
     requires range { option_map_or (is_range_of lower.now upper.now) (kind_at segment.now.schema field)
         false ≡ true }
     requires numbers { is_number_field segment.now.schema field ≡ true }
-    requires bounded { (is_bounded lower.now || is_bounded upper.now) ≡ true }
     ensures { AreBoundsOf segment.now (range field lower.now upper.now) (column segment.now field) result }
 {
     let column = segment.column(field);
-    // Shows the proof that its numbers have 64 bits.
+    // These two show the proof that its numbers have 64 bits, and that each value of the field is a number.
     let _ = most_of(column);
+    let _ = segment.docs();
     let low = least(lower);
     let high = greatest(upper);
     Some((low?, high?))
@@ -105,12 +100,12 @@ fn keyword_bounds(
 ) -> Option<(u64, u64)>
     requires range { is_range_of lower.now upper.now kinds.Keyword ≡ true }
     requires keyword { kind_at segment.now.schema field ≡ Some kinds.Keyword }
-    requires bounded { (is_bounded lower.now || is_bounded upper.now) ≡ true }
     ensures { AreBoundsOf segment.now (range field lower.now upper.now) (ordinals segment.now field) result }
 {
     let column = segment.column(field);
-    // Shows the proof that its ordinals have 64 bits.
+    // These two show the proof that its ordinals have 64 bits, and that each value of the field is a text.
     let _ = most_of(column);
+    let _ = segment.docs();
     let low = first_ordinal(segment, field, lower);
     let high = last_ordinal(segment, field, upper)?;
     Some((low, high))
@@ -202,13 +197,6 @@ fn most_of(column: &Column) -> Option<u64>
         None => None,
         Some((_, most)) => Some(most),
     }
-}
-
-/// Whether a bound admits everything.
-pub(crate) fn is_open(bound: &Bound<FieldValue>) -> bool
-    ensures { result ≡ not (is_bounded bound.now) }
-{
-    matches!(bound, Bound::Unbounded)
 }
 
 /// The number as a column keeps it.

@@ -3,14 +3,13 @@ ghost use Rattle.std.specs.Prelude.{◌≡◌, ℕ, ◌+◌, ◌%◌, ◌-◌, �
 ghost use Rattle.std.specs.Prelude.{take};
 ghost use Rattle.fts_cursor.specs.Dense.{AreWithin, HoldsRow, Tells, is_dense};
 ghost use Rattle.fts_cursor.specs.Hits.{is_live};
-ghost use Rattle.fts_cursor.specs.Scans.{AreFor, has_value, has_within, has_within_live, keeps, kept_in};
+ghost use Rattle.fts_cursor.specs.Scans.{AreFor, has_within, has_within_live, keeps, kept_in};
 ghost use Rattle.fts_postings.specs.Windows.{passing};
 
 use crate::dense::{Dense, Row};
 use fts_pack::bits::Bits;
 use fts_pack::column::Column;
 use fts_postings::marks;
-use fts_segment::Segment;
 use std::alloc::{AllocError, Global};
 
 /// The documents that pass.
@@ -30,11 +29,6 @@ pub(crate) enum Kept<'a> {
         low: u64,
         high: u64,
         live: &'a Bits,
-    },
-    /// Those that have a value of the field.
-    Valued {
-        segment: &'a Segment,
-        field: usize,
     },
     /// Those whose bits are set.
     Told(Dense<'a>),
@@ -74,7 +68,7 @@ pub(crate) fn cut<'a>(
             };
             Ok(true)
         }
-        Kept::WithinLive { .. } | Kept::Valued { .. } => Ok(false),
+        Kept::WithinLive { .. } => Ok(false),
         Kept::Told(dense) => {
             dense.all.push(live)?;
             Ok(true)
@@ -108,7 +102,6 @@ pub(crate) fn write(
             high,
             live,
         } => write_within_live(column, *low, *high, live, from, out),
-        Kept::Valued { segment, field } => write_valued(segment, *field, from, out),
         Kept::Told(dense) => write_told(dense, docs, from, out, row),
     }
 }
@@ -130,7 +123,6 @@ pub(crate) fn count(kept: &Kept, docs: usize, from: usize) -> usize
             high,
             live,
         } => count_within_live(column, *low, *high, live, from),
-        Kept::Valued { segment, field } => write_valued(segment, *field, from, &mut [0; 128]),
         Kept::Told(dense) => write_told(dense, docs, from, &mut [0; 128], &mut Row::new()),
     }
 }
@@ -220,25 +212,6 @@ fn count_within_live(column: &Column, low: u64, high: u64, live: &Bits, from: us
 {
     let (first, second) = words_within_live(column, low, high, live, from);
     (first.count_ones() + second.count_ones()) as usize
-}
-
-fn write_valued(segment: &Segment, field: usize, from: usize, out: &mut [u32; 128]) -> usize
-    requires few { length segment.now.documents ≤ 2 ^ 32 }
-    requires inside { from < length segment.now.documents }
-    ensures count { result ≡ length (passing (has_value segment.now.documents field) from
-        (min 128 (length segment.now.documents - from))) }
-    ensures written { take result out.new
-        ≡ passing (has_value segment.now.documents field) from
-        (min 128 (length segment.now.documents - from)) }
-{
-    let mut count = 0;
-    for place in 0..(segment.docs() - from).min(128) {
-        if segment.document(from + place).value(field).is_some() {
-            out[count] = (from + place) as u32;
-            count += 1;
-        }
-    }
-    count
 }
 
 fn write_told(dense: &Dense, docs: usize, from: usize, out: &mut [u32; 128], row: &mut Row) -> usize

@@ -19,7 +19,8 @@ returns-in_err-high c =
       keyword = c.requires.keyword;
       low = bounds.0;
       high = bounds.1;
-      some = c.requires.bounded;
+      documents = c.docs.ensures.documents;
+      fitting = c.docs.ensures.fit;
       small = rw (c.column-column.ensures.ordinals other) at c.most_of.ensures;
     } in
     rw c.from_residual.ensures (sym (no_keyword c.args.segment.now c.args.field c.args.lower.now c.args.upper.now c.last_ordinal.result ranked
@@ -34,7 +35,8 @@ returns c =
       keyword = c.requires.keyword;
       low = bounds.0;
       high = bounds.1;
-      some = c.requires.bounded;
+      documents = c.docs.ensures.documents;
+      fitting = c.docs.ensures.fit;
       small = rw (c.column-column.ensures.ordinals other) at c.most_of.ensures;
     } in
     ap (λ low. passing (has_within low c.in_ok-high.high (ordinals segment c.args.field)) 0 (length segment.documents)) c.first_ordinal-low.ensures

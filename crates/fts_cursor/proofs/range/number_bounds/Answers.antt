@@ -10,7 +10,8 @@ returns-in_err-low c =
       numbers = c.requires.numbers;
       whole = c.least-low.ensures.whole;
       below = c.greatest-high.ensures.whole;
-      some = c.requires.bounded;
+      documents = c.docs.ensures.documents;
+      fitting = c.docs.ensures.fit;
       fit = c.column-column.ensures.fit;
       small = rw (c.column-column.ensures.numbers c.requires.numbers) at c.most_of.ensures;
     } in
@@ -24,7 +25,8 @@ returns-in_err-high c =
       numbers = c.requires.numbers;
       whole = c.least-low.ensures.whole;
       below = c.greatest-high.ensures.whole;
-      some = c.requires.bounded;
+      documents = c.docs.ensures.documents;
+      fitting = c.docs.ensures.fit;
       fit = c.column-column.ensures.fit;
       small = rw (c.column-column.ensures.numbers c.requires.numbers) at c.most_of.ensures;
     } in
@@ -38,7 +40,8 @@ returns c =
       numbers = c.requires.numbers;
       whole = c.least-low.ensures.whole;
       below = c.greatest-high.ensures.whole;
-      some = c.requires.bounded;
+      documents = c.docs.ensures.documents;
+      fitting = c.docs.ensures.fit;
       fit = c.column-column.ensures.fit;
       small = rw (c.column-column.ensures.numbers c.requires.numbers) at c.most_of.ensures;
     } in
