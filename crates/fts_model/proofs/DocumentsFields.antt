@@ -1,12 +1,12 @@
 -- The fields of a schema by their names, and the members of an object without a fault.
-use Rattle.std.proofs.Common.{◌≡◌, ℕ, suc, zero, ◌||◌, Bool, true, false, cond, not, List, [], ◌∷◌, ◌++◌, Option, Some, None, refl, sym, ap, ◌∙◌, subst}
+use Rattle.std.proofs.Common.{◌≡◌, ℕ, suc, zero, Bool, true, false, cond, not, List, [], ◌∷◌, ◌++◌, Option, Some, None, refl, sym, ap, ◌∙◌, subst, ◌≤◌, length, arith}
 use Rattle.std.proofs.Common.{Ordering, Less, Equal, Greater, nat_cmp, bytes_eq}
 use Rattle.std.proofs.lemmas.Slice.Eq.{bytes_eq-Decides}
 use Rattle.std.proofs.lemmas.Map.Lookups.{exact_bytes}
 use Rattle.std.specs.Cmp.Lexicographic.{slice_cmp}
 use Rattle.std.specs.Ordering.{match_ordering}
 use Rattle.std.specs.List.{find, list_any, slice_get}
-use Rattle.std.proofs.lemmas.Bool.{or_parts, or_from}
+use Rattle.std.proofs.lemmas.Bool.{ltb-false, or_parts, or_from}
 use Rattle.serde_json.specs.Data.{Data, Members, no_members, member}
 use Rattle.serde_json.specs.Find.{get_member}
 use Rattle.fts_base.specs.declared.refusal.Refusal.{Refusal}
@@ -65,7 +65,17 @@ found_itself before (f ∷ fs) h (suc k) field e =
     let other = (none_of_more (is_named field.name) before f (others_before (before ++ f ∷ []) fs (none_of_two _ _ h).1 k field e)).1 in
     ap (λ b. cond b (Some f) (find (is_named field.name) fs)) other ∙ found_itself (before ++ f ∷ []) fs (none_of_two _ _ h).1 k field e
 
+-- the fields are not too many if that is no fault
+few_enough : (b : Bool) (r : Option Refusal) → cond b (Some TooManyFields) r ≡ None → b ≡ false
+few_enough true r h = cc
+few_enough false r h = refl
+
 -- a schema's fields are at most 32
+pub at_most_32 : (fields : List Field) → schema_fault fields ≡ None → length fields ≤ 32
+at_most_32 [] h = omega arith
+at_most_32 (f ∷ fs) h = let few : length fs ≤ 31 = ltb-false 31 (length fs) (few_enough _ _ h) in omega (arith, few)
+
+-- what is left if the fields are not too many
 no_fault_left : (b : Bool) (r : Option Refusal) → cond b (Some TooManyFields) r ≡ None → r ≡ None
 no_fault_left true r h = cc
 no_fault_left false r h = h

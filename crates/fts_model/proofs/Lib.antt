@@ -1,6 +1,7 @@
 pub mod DocumentsFields
 pub mod DocumentsReadBack
 pub mod DocumentsZips
+pub mod FieldValuesLemmas
 pub mod ItemsLemmas
 pub mod Lists
 pub mod ListsLemmas

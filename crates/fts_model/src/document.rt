@@ -17,6 +17,7 @@ ghost use Rattle.fts_model.specs.Documents.{may_stand, fits_fields, fits, value_
 ghost use Rattle.fts_model.specs.Shorts.{IsShort};
 ghost use Rattle.fts_base.specs.declared.refusal.Refusal.TheVariants.{Memory};
 
+use crate::field_values::FieldValues;
 use crate::schema::{Field, Kind, Schema};
 use crate::text::Text;
 use crate::texts::Texts;
@@ -195,15 +196,16 @@ fn values_of(
     fields: &[Field],
     json: &Value,
     members: &Map<String, Value>,
-) -> Result<Vec<Option<FieldValue>>, AllocError>
+) -> Result<FieldValues, AllocError>
     requires object { view json.now ≡ object (members_view members.now.entries) }
     requires valid { schema_fault fields.now ≡ None }
     requires no_fault { members_fault fields.now (members_view members.now.entries) ≡ None }
     ensures values { IfOk result
-        (λ values. values.items ≡ map (value_at (members_view members.now.entries)) fields.now) }
-    ensures in_range { IfOk result (λ values. AreValuesOf fields.now values.items) }
+        (λ values. values ≡ map (value_at (members_view members.now.entries)) fields.now) }
+    ensures in_range { IfOk result (λ values. AreValuesOf fields.now values) }
 {
-    let mut values = Vec::with_capacity(alloc, fields.len())?;
+    let count = members.values().filter(|json| !json.is_null()).count();
+    let mut values = FieldValues::with_capacity(alloc, count)?;
     for field in fields {
         let value = match json.get(field.name.as_str()) {
             Some(json) => value_of(alloc, field.kind, json)?,
@@ -218,7 +220,7 @@ fn values_of(
 #[derive(Drop)]
 struct DocumentData {
     schema: Schema,
-    values: Vec<Option<FieldValue>>,
+    values: FieldValues,
 }
 
 /// Stores the values of an object without a fault.
@@ -232,10 +234,10 @@ fn store(
     requires no_fault { members_fault schema.now (members_view members.now.entries) ≡ None }
     ensures schema { IfOk result (λ stored. (arc_value stored).schema ≡ schema.now) }
     ensures values { IfOk result
-        (λ stored. (arc_value stored).values.items
+        (λ stored. (arc_value stored).values
         ≡ map (value_at (members_view members.now.entries)) schema.now) }
     ensures document { IfOk result (λ stored.
-        IsDocument (record { schema = schema.now; values = (arc_value stored).values.items })) }
+        IsDocument (record { schema = schema.now; values = (arc_value stored).values })) }
 {
     let values = values_of(alloc, schema.fields(), json, members)?;
     let schema = schema.clone()?;
@@ -332,7 +334,7 @@ impl Document {
         ensures value { option_copied result ≡ value_in_field self.now field }
         ensures short { IfSome result (λ v. IsShort v.now) }
     {
-        self.stored.values.get(field)?.as_ref()
+        self.stored.values.get(field)
     }
 }
 
@@ -381,10 +383,10 @@ fn put_value(
     alloc: Global,
     members: &mut Map<String, Value>,
     field: &Field,
-    value: &Option<FieldValue>,
+    value: Option<&FieldValue>,
 ) -> Result<(), AllocError>
     ensures { OnOk result (members_view members.new.entries
-        ≡ with_value (members_view members.old.entries) field.now value.now) }
+        ≡ with_value (members_view members.old.entries) field.now (option_copied value.entry)) }
 {
     if let Some(value) = value {
         let name = String::from_str(alloc, field.name.as_str())?;
@@ -397,14 +399,14 @@ fn put_value(
 fn members_of(
     alloc: Global,
     fields: &[Field],
-    values: &[Option<FieldValue>],
+    values: &FieldValues,
 ) -> Result<Map<String, Value>, AllocError>
     ensures { IfOk result
         (λ members. members_view members.entries ≡ with_values no_members fields.now values.now) }
 {
     let mut members = Map::new(alloc);
-    for (field, value) in fields.iter().zip(values) {
-        put_value(alloc, &mut members, field, value)?;
+    for (number, field) in fields.iter().enumerate() {
+        put_value(alloc, &mut members, field, values.get(number))?;
     }
     Ok(members)
 }
@@ -424,10 +426,11 @@ fn put_among(
     members: &mut Map<String, Value>,
     names: &[Text],
     field: &Field,
-    value: &Option<FieldValue>,
+    value: Option<&FieldValue>,
 ) -> Result<(), AllocError>
     ensures { OnOk result (members_view members.new.entries
-        ≡ with_value (members_view members.old.entries) field.now (value_among names.now field.now value.now)) }
+        ≡ with_value (members_view members.old.entries) field.now
+        (value_among names.now field.now (option_copied value.entry))) }
 {
     if is_among(names, field) {
         put_value(alloc, members, field, value)?;
@@ -440,21 +443,21 @@ fn members_among(
     alloc: Global,
     names: &[Text],
     fields: &[Field],
-    values: &[Option<FieldValue>],
+    values: &FieldValues,
 ) -> Result<Map<String, Value>, AllocError>
     ensures { IfOk result (λ members. members_view members.entries
         ≡ with_values no_members fields.now (values_among names.now fields.now values.now)) }
 {
     let mut members = Map::new(alloc);
-    for (field, value) in fields.iter().zip(values) {
-        put_among(alloc, &mut members, names, field, value)?;
+    for (number, field) in fields.iter().enumerate() {
+        put_among(alloc, &mut members, names, field, values.get(number))?;
     }
     Ok(members)
 }
 
 /// Whether a value of `field` may be a value of the field `there`.
-fn may_stand(there: Option<&Field>, field: &Field, value: &Option<FieldValue>) -> bool
-    ensures { result ≡ may_stand (option_copied there.entry) field.now value.now }
+fn may_stand(there: Option<&Field>, field: &Field, value: Option<&FieldValue>) -> bool
+    ensures { result ≡ may_stand (option_copied there.entry) field.now (option_copied value.entry) }
 {
     match (there, value) {
         (_, None) => true,
@@ -466,12 +469,12 @@ fn may_stand(there: Option<&Field>, field: &Field, value: &Option<FieldValue>) -
 }
 
 /// Whether the values of other fields fit the fields of a schema, by number.
-fn values_fit(schema: &[Field], fields: &[Field], values: &[Option<FieldValue>]) -> bool
+fn values_fit(schema: &[Field], fields: &[Field], values: &FieldValues) -> bool
     ensures { result ≡ fits_fields schema.now fields.now values.now }
 {
     let mut schema = schema.iter();
-    for (field, value) in fields.iter().zip(values) {
-        if !may_stand(schema.next(), field, value) {
+    for (number, field) in fields.iter().enumerate() {
+        if !may_stand(schema.next(), field, values.get(number)) {
             return false;
         }
     }

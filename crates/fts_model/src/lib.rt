@@ -20,6 +20,7 @@
 mod answer;
 mod cut;
 mod document;
+mod field_values;
 mod limits;
 mod operation;
 mod query;
