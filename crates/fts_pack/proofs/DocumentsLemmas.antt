@@ -102,6 +102,12 @@ pub first_block : (documents : List ℕ) (block : ℕ) → length documents ≤ 
 first_block documents zero few h = take_all 128 documents few
 first_block documents (suc block) few h = absurd (omega (arith, few, h))
 
+-- the documents of a list that is one block
+pub one_block : (value documents : List ℕ) (block : ℕ) → value ≡ documents → length documents ≤ 128 → block < block_count (length value) →
+    documents ≡ block_at value block
+one_block value documents block is few inside =
+    sym (first_block documents block few (subst (λ (v : List ℕ). block < block_count (length v)) is inside)) ∙ ap (λ (v : List ℕ). block_at v block) (sym is)
+
 -- the last of rising documents is the greatest
 pub within_last : (next : ℕ) (xs : List ℕ) → Rises next xs → (k : ℕ) → k < length xs → get_or xs k 0 ≤ get_or xs (length xs - 1) 0
 within_last next [] h k inside = absurd (omega arith)

@@ -1,6 +1,7 @@
 pub mod BlockLemmas
 pub mod DocumentsLemmas
 pub mod LaneLemmas
+pub mod ListsLemmas
 pub mod LongListLemmas
 pub mod NumbersLemmas
 pub mod PackedLemmas

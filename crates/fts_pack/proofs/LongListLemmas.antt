@@ -3,15 +3,16 @@ use Rattle.std.proofs.Common.{◌≡◌, ℕ, zero, suc, ◌+◌, ◌-◌, ◌*�
 use Rattle.std.proofs.Common.{sym, ap, ap₂, ◌∙◌, subst, arith, append_assoc}
 use Rattle.std.specs.List.Sorted.{IsStrictlyIncreasing}
 use Rattle.std.proofs.lemmas.List.{length-append, length_push, take_all, take_at, drop-drop, drop_at, append-nil, get_or-take, get_or-drop, get_or_default}
-use Rattle.std.proofs.lemmas.List.{length-take-le}
+use Rattle.std.proofs.lemmas.List.{length-take-le, length-drop, drop-append-le, take-append-le}
 use Rattle.std.proofs.lemmas.Bool.{cases_lt}
 use Rattle.std.proofs.Math.Seq.{take-append-add}
 use Rattle.fts_pack.specs.declared.skip.Skip.{Skip}
 use Rattle.fts_pack.specs.Documents.{gaps, documents_at, block_count, block_at, last_of, Rises, after}
+use Rattle.fts_pack.specs.bits.Digits.{IsWidthOf}
 use Rattle.fts_pack.specs.FourLanes.{words_in_lanes}
 use Rattle.fts_pack.specs.BlockMeta.{numbers_at, IsWithin}
-use Rattle.fts_pack.specs.LongList.{kept_block, kept_documents, IsSkipAdded, IsKeptBlock, AreKept, IsLongList}
-use Rattle.fts_pack.proofs.LaneLemmas.{length-numbers_in_lanes}
+use Rattle.fts_pack.specs.LongList.{Extends, kept_block, kept_documents, IsSkipAdded, IsKeptBlock, AreKept, IsLongList}
+use Rattle.fts_pack.proofs.LaneLemmas.{length-numbers_in_lanes, length-words_in_lanes}
 use Rattle.fts_pack.proofs.PackedLemmas.{numbers_at-append, numbers_at-added, IsWithin-append, IsWithin-added}
 use Rattle.fts_pack.proofs.DocumentsLemmas.{Rises-block, take_block, documents_at-gaps, length-gaps, length-documents_at, after-append, after_last}
 use Rattle.fts_pack.specs.SourceLaws.{length-block_at, block_inside}
@@ -23,11 +24,18 @@ kept_block-append words more next count skip h =
     ap (λ xs. documents_at next (take (min 128 count) xs)) (numbers_at-append words more skip.block h.within)
 
 IsKeptBlock-append : (words more : List ℕ) (next count : ℕ) (skip : Skip) → IsKeptBlock words next count skip → IsKeptBlock (words ++ more) next count skip
-IsKeptBlock-append words more next count skip h = record {
-  some = h.some;
-  within = IsWithin-append words more skip.block h.within;
-  last_is = ap (after next) (kept_block-append words more next count skip h) ∙ h.last_is;
-}
+IsKeptBlock-append words more next count skip h =
+    let same = kept_block-append words more next count skip h in
+    let w = skip.block.width in
+    let room : 4 * w ≤ length (drop skip.block.start words) = omega (arith, length-drop skip.block.start words, h.within.room) in
+    record {
+      some = h.some;
+      within = IsWithin-append words more skip.block h.within;
+      last_is = ap (after next) same ∙ h.last_is;
+      width_is = subst (λ ds. IsWidthOf (gaps next ds) w) (sym same) h.width_is;
+      words_are = ap (take (4 * w)) (drop-append-le skip.block.start words more (omega (arith, h.within.room)))
+          ∙ take-append-le (4 * w) (drop skip.block.start words) more room ∙ h.words_are ∙ ap (λ ds. words_in_lanes w (gaps next ds)) (sym same);
+    }
 
 pub AreKept-append : (words more : List ℕ) (next count : ℕ) (skips : List Skip) → AreKept words next count skips → AreKept (words ++ more) next count skips
 AreKept-append words more next count [] h = h
@@ -47,11 +55,15 @@ next_after next (s ∷ ss) = next_after (suc s.last) ss
 
 -- a block is unchanged if as many of its documents are counted
 kept_same : (words : List ℕ) (next a b : ℕ) (skip : Skip) → min 128 a ≡ min 128 b → 0 < b → IsKeptBlock words next a skip → IsKeptBlock words next b skip
-kept_same words next a b skip same some h = record {
-  some = some;
-  within = h.within;
-  last_is = ap (λ n. after next (documents_at next (take n (numbers_at words skip.block)))) (sym same) ∙ h.last_is;
-}
+kept_same words next a b skip same some h =
+    let here : kept_block words next b skip ≡ kept_block words next a skip = ap (λ n. documents_at next (take n (numbers_at words skip.block))) (sym same) in
+    record {
+      some = some;
+      within = h.within;
+      last_is = ap (after next) here ∙ h.last_is;
+      width_is = subst (λ ds. IsWidthOf (gaps next ds) skip.block.width) (sym here) h.width_is;
+      words_are = h.words_are ∙ ap (λ ds. words_in_lanes skip.block.width (gaps next ds)) (sym here);
+    }
 
 pub kept_documents-push : (words : List ℕ) (next more : ℕ) (skips : List Skip) (skip : Skip) → more ≤ 128 →
     kept_documents words next (length skips * 128 + more) (skips ++ skip ∷ []) ≡ kept_documents words next (length skips * 128) skips
@@ -189,10 +201,17 @@ kept_block-added piece before words next skip h rises few =
 pub IsKeptBlock-added : (piece before words : List ℕ) (next : ℕ) (skip : Skip) → IsSkipAdded piece next before words skip → Rises next piece →
     0 < length piece → length piece ≤ 128 → IsKeptBlock words next (length piece) skip
 IsKeptBlock-added piece before words next skip h rises some few =
+    let here = kept_block-added piece before words next skip h rises few in
+    let w = skip.block.width in
+    let new = words_in_lanes w (gaps next piece) in
     record {
       some = some;
       within = IsWithin-added (gaps next piece) before words skip.block h.block;
-      last_is = ap (after next) (kept_block-added piece before words next skip h rises few) ∙ sym h.last_is;
+      last_is = ap (after next) here ∙ sym h.last_is;
+      width_is = subst (λ ds. IsWidthOf (gaps next ds) w) (sym here) h.block.width_is;
+      words_are = ap (take (4 * w)) (ap₂ drop h.block.start h.block.words_are ∙ drop_at before new (length before) refl)
+          ∙ take_all (4 * w) new (omega (arith, length-words_in_lanes w (gaps next piece)))
+          ∙ ap (λ ds. words_in_lanes w (gaps next ds)) (sym here);
     }
 
 pub IsBuilt-more : (documents : List ℕ) (block next : ℕ) (skips : List Skip) (before words : List ℕ) (skip : Skip) → IsBuilt documents block next skips before →
@@ -263,6 +282,9 @@ pub record Reads (value : List ℕ) (count : ℕ) (words : List ℕ) (block : �
   pub start : block * 128 < count
   pub within : IsWithin words skip.block
   pub last_is : skip.last ≡ last_of (block_at value block)
+  pub width_is : IsWidthOf (gaps (after 0 (take (block * 128) value)) (block_at value block)) skip.block.width
+  pub words_are : take (4 * skip.block.width) (drop skip.block.start words)
+      ≡ words_in_lanes skip.block.width (gaps (after 0 (take (block * 128) value)) (block_at value block))
   pub size : min (count - block * 128) 128 ≡ length (block_at value block)
   pub documents_are : documents_at (after 0 (take (block * 128) value)) (take (min (count - block * 128) 128) (numbers_at words skip.block))
       ≡ block_at value block
@@ -288,6 +310,9 @@ block_read value count skips words block skip view h inside skip_is =
       start = omega (arith, at.kept.some);
       within = at.kept.within;
       last_is = (let e : skip.last ≡ last_of here = omega (arith, last) in e) ∙ ap last_of (sym same);
+      width_is = subst (λ n. IsWidthOf (gaps n (block_at value block)) skip.block.width) next_is
+          (subst (λ ds. IsWidthOf (gaps first ds) skip.block.width) (sym same) at.kept.width_is);
+      words_are = at.kept.words_are ∙ ap₂ (λ n ds. words_in_lanes skip.block.width (gaps n ds)) next_is (sym same);
       size = size;
       documents_are = ap₂ (λ n k. documents_at n (take k (numbers_at words skip.block))) (sym next_is) turned ∙ sym same;
       fits = λ k d lt. rw (get_or-take 128 (drop (block * 128) value) k d (omega (arith, size, lt)), get_or-drop (block * 128) value k d)
@@ -323,3 +348,37 @@ first_fits value count skips words block d view h inside =
     let some : 0 < length (documents_at first numbers) = rw here (omega (arith, r.size, r.start)) in
     let all : All (λ document. document < 2 ^ 32) (documents_at first numbers) = rw here r.fits in
     omega (arith, head_at_least first numbers some, all 0 0 some)
+
+-- blocks do not change when words are appended
+pub IsLongList-append : (words more : List ℕ) (count : ℕ) (skips : List Skip) → IsLongList count skips words → IsLongList count skips (words ++ more)
+IsLongList-append words more count skips h =
+    let same = kept_documents-append words more 0 count skips h.kept in
+    record {
+      count_fits = h.count_fits;
+      kept = AreKept-append words more 0 count skips h.kept;
+      rises = subst IsStrictlyIncreasing (sym same) h.rises;
+      fits = subst (All (λ document. document < 2 ^ 32)) (sym same) h.fits;
+    }
+
+pub extends_same : {X : Type 0} (xs : List X) → Extends xs xs
+extends_same xs = sym (append-nil xs) ∙ ap (λ ys. xs ++ ys) (sym (drop_at xs [] (length xs) refl) ∙ ap (drop (length xs)) (append-nil xs))
+
+pub extends_more : {X : Type 0} (xs more ys : List X) → ys ≡ xs ++ more → Extends xs ys
+extends_more xs more ys is = is ∙ ap (λ zs. xs ++ zs) (sym (ap (drop (length xs)) is ∙ drop_at xs more (length xs) refl))
+
+pub extends_equal : {X : Type 0} (xs ys : List X) → ys ≡ xs → Extends xs ys
+extends_equal xs ys is = extends_more xs [] ys (is ∙ sym (append-nil xs))
+
+-- what was appended, after something more was
+pub extends_on : {X : Type 0} (xs ys more zs : List X) → Extends xs ys → zs ≡ ys ++ more →
+    (drop (length xs) zs ≡ drop (length xs) ys ++ more) × Extends xs zs
+extends_on xs ys more zs h is =
+    let new = drop (length xs) ys in
+    let whole : zs ≡ xs ++ (new ++ more) = is ∙ ap (λ ls. ls ++ more) h ∙ append_assoc xs new more in
+    (ap (drop (length xs)) whole ∙ drop_at xs (new ++ more) (length xs) refl, extends_more xs (new ++ more) zs whole)
+
+-- no block was added yet
+pub nothing_built : (documents : List ℕ) (skips : List Skip) (words : List ℕ) → IsBuilt documents 0 0 (drop (length skips) skips) words
+nothing_built documents skips words =
+    let none : drop (length skips) skips ≡ [] = ap (drop (length skips)) (sym (append-nil skips)) ∙ drop_at skips [] (length skips) refl in
+    subst (λ ss. IsBuilt documents 0 0 ss words) (sym none) (record { count = refl; kept = omega arith; documents_are = refl; next_is = refl })

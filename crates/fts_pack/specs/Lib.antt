@@ -1,12 +1,15 @@
 pub mod Block
 pub mod Documents
 pub mod FourLanes
+pub mod ListRef
 pub mod ListSource
+pub mod Lists
 pub mod LongList
 pub mod PackedNumbers
 pub mod BlockMeta
 pub mod Repr
 pub mod SourceLaws
+pub mod StoredList
 pub mod Unpacked
 pub mod DenseList
 pub mod bits

@@ -1,5 +1,5 @@
 // The position of a block among the words of a list, and the function that appends a block.
-ghost use Rattle.std.specs.Prelude.{IfOk};
+ghost use Rattle.std.specs.Prelude.{◌≡◌, IfOk, OnErr};
 ghost use Rattle.fts_pack.specs.BlockMeta.{IsAdded};
 
 use crate::bits::widths;
@@ -15,9 +15,10 @@ pub(crate) struct BlockMeta {
     pub(crate) width: u32,
 }
 
-/// Packs a block, appends it and returns its position.
+/// Packs a block, appends it and returns its position. On `Err` nothing was appended.
 pub(crate) fn add_block(words: &mut Vec<u32>, numbers: &[u32]) -> Result<BlockMeta, AllocError>
-    ensures { IfOk result (λ block. IsAdded numbers.now words.old.items words.new.items block) }
+    ensures ok { IfOk result (λ block. IsAdded numbers.now words.old.items words.new.items block) }
+    ensures err { OnErr result (words.new.items ≡ words.old.items) }
 {
     let width = widths::width_of(numbers);
     let start = words.len();

@@ -1,6 +1,6 @@
 // Up to 128 numbers packed in four lanes, so that four numbers, one of each lane, are unpacked at a time.
-ghost use Rattle.std.specs.Prelude.{◌≡◌, ◌≢◌, ℕ, ◌+◌, ◌-◌, ◌*◌, ◌/◌, ◌%◌, ◌^◌, ◌<◌, ◌≤◌, ◌++◌, All, OnOk, length};
-ghost use Rattle.std.specs.Prelude.{replicate, slice_index};
+ghost use Rattle.std.specs.Prelude.{◌≡◌, ◌≢◌, ℕ, ◌+◌, ◌-◌, ◌*◌, ◌/◌, ◌%◌, ◌^◌, ◌<◌, ◌≤◌, ◌++◌, All, OnErr, OnOk};
+ghost use Rattle.std.specs.Prelude.{length, replicate, slice_index};
 ghost use Rattle.fts_pack.specs.bits.Digits.{words_of};
 ghost use Rattle.fts_pack.specs.FourLanes.{lane_of, numbers_in_lanes, words_in_lanes};
 ghost use Rattle.fts_pack.specs.Unpacked.{IsUnpacked};
@@ -38,11 +38,12 @@ fn write_lane(numbers: &[u32], lane: usize, width: u32, out: &mut [u32; 128])
     }
 }
 
-/// Appends the words of up to 128 numbers, each of which has at most `width` bits.
+/// Appends the words of up to 128 numbers, each of which has at most `width` bits. On `Err` nothing was appended.
 pub(crate) fn append(words: &mut Vec<u32>, width: u32, numbers: &[u32]) -> Result<(), AllocError>
     requires narrow { width ≤ 32 }
     requires fits { All (λ x. x < 2 ^ width) numbers.now }
-    ensures { OnOk result (words.new.items ≡ words.old.items ++ words_in_lanes width numbers.now) }
+    ensures ok { OnOk result (words.new.items ≡ words.old.items ++ words_in_lanes width numbers.now) }
+    ensures err { OnErr result (words.new.items ≡ words.old.items) }
 {
     let mut lanes = [0; 128];
     for lane in 0..4 {

@@ -1,12 +1,12 @@
 // A strictly rising list of documents in blocks of 128 gaps, all in one buffer, with a skip entry for each block.
 ghost use Rattle.std.specs.Prelude.{◌≡◌, ℕ, ◌*◌, ◌<◌, List, IfOk, length, take};
 ghost use Rattle.std.specs.List.Sorted.{IsStrictlyIncreasing};
-ghost use Rattle.fts_pack.specs.Documents.{after, block_at, block_count, last_of, Rises};
-ghost use Rattle.fts_pack.specs.LongList.{IsLongList, IsSkipAdded, kept_documents};
+ghost use Rattle.fts_pack.specs.Documents.{after, block_at, block_count, last_of};
+ghost use Rattle.fts_pack.specs.LongList.{IsLongList, kept_documents};
 
 use crate::block::BLOCK;
-use crate::block_meta::{BlockMeta, add_block};
-use crate::gaps::push_gaps;
+use crate::block_meta::BlockMeta;
+use crate::packed_list::add_skip;
 use crate::skip::Skip;
 use crate::{four_lanes, prefix_sums};
 use fts_base::release;
@@ -112,24 +112,4 @@ impl LongList {
             self.skips[block - 1].last + 1
         }
     }
-}
-
-/// Appends a block, whose documents are at least `next`, and returns its skip entry. `gaps` is a scratch buffer.
-fn add_skip(
-    words: &mut Vec<u32>,
-    gaps: &mut Vec<u32>,
-    next: u64,
-    documents: &[u32],
-) -> Result<Skip, AllocError>
-    requires some { 0 < length documents.now }
-    requires rises { Rises next documents.now }
-    ensures { IfOk result (λ skip. IsSkipAdded documents.now next words.old.items words.new.items skip) }
-{
-    gaps.clear();
-    push_gaps(gaps, next, documents)?;
-    let block = add_block(words, gaps)?;
-    Ok(Skip {
-        block,
-        last: documents[documents.len() - 1],
-    })
 }

@@ -11,8 +11,8 @@ loop-lane-preserved c = (
   c.write_lane.array_long,
 )
 
-pub returns : goal.returns
-returns c =
+pub returns-clause-ok : goal.returns-clause-ok
+returns-clause-ok c =
     let whole : take (4 * c.args.width) c.loop-lane.lanes ≡ words_in_lanes c.args.width c.args.numbers.now =
     lanes_whole c.args.width c.args.numbers.now c.loop-lane.lanes c.loop-lane.lane c.loop-lane.invariant.1 c.requires.narrow c.loop-lane-test.false
     c.loop-lane.invariant.0 in

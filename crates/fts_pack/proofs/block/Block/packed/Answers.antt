@@ -4,7 +4,7 @@ use Rattle.fts_pack.proofs.BlockLemmas.{IsBlock-packed, block_again}
 use Rattle.fts_pack.proofs.block.Block.packed.Goals as goal
 
 words : (c : goal.In_ok-append) → c.append.new.words.items ≡ words_in_lanes c.width_of-width.result c.args.numbers.now
-words c = c.in_ok-append.ensures ∙ ap (λ xs. xs ++ words_in_lanes c.width_of-width.result c.args.numbers.now) c.in_ok-words.ensures.items
+words c = c.in_ok-append.ensures.ok ∙ ap (λ xs. xs ++ words_in_lanes c.width_of-width.result c.args.numbers.now) c.in_ok-words.ensures.items
 
 pub invariant_of-result : goal.invariant_of-result
 invariant_of-result c =

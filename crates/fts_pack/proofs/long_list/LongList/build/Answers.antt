@@ -17,7 +17,7 @@ pub loop-block-preserved : goal.loop-block-preserved
 loop-block-preserved c =
     let documents = c.args.documents.now in
     let block = c.loop-block.block in
-    let added = rw (block_sliced documents block c.min-end.result c.min-end.ensures) at c.in_ok-skip.ensures in
+    let added = rw (block_sliced documents block c.min-end.result c.min-end.ensures) at c.in_ok-skip.ensures.ok in
     let inside : block < block_count (length documents) =
     omega (arith, c.loop-block-test.true, c.div_ceil-blocks.ensures, block_count-div_ceil (length documents)) in
     let next : c.from-next.result + 1 ≡ suc c.in_ok-skip.skip.last = omega (arith, c.from-next.ensures) in

@@ -8,7 +8,7 @@ pub loop-block-preserved : goal.loop-block-preserved
 loop-block-preserved c =
     let numbers = c.args.numbers.now in
     let block = c.loop-block.block in
-    let added = rw (block_sliced numbers block c.min-end.result c.min-end.ensures) at c.in_ok-packed.ensures in
+    let added = rw (block_sliced numbers block c.min-end.result c.min-end.ensures) at c.in_ok-packed.ensures.ok in
     let inside : block < block_count (length numbers) =
     omega (arith, c.loop-block-test.true, c.div_ceil-count.ensures, block_count-div_ceil (length numbers)) in
     rw c.in_ok-push.ensures.items (AreBuilt-more numbers block c.loop-block.blocks.items c.loop-block.words.items c.add_block.new.words.items
