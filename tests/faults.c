@@ -2,6 +2,7 @@
  *
  *     FAIL_GROWTH=N    the Nth call for memory finds none
  *     COUNT=1          at the end the numbers of calls for memory and of reads are told on standard error
+ *     THREADS=1        at the end the number of threads that were started is told there
  *     FAIL_READ=N      the Nth read of standard input fails with FAIL_ERRNO (5, an input or output error, without it)
  *     FAIL_WRITE=N     the Nth write to standard output fails so
  *     ZERO_WRITE=N     the Nth write to standard output takes no byte
@@ -10,11 +11,12 @@
 #define _GNU_SOURCE
 #include <dlfcn.h>
 #include <errno.h>
+#include <pthread.h>
 #include <stdio.h>
 #include <stdlib.h>
 #include <unistd.h>
 
-static long growth_at, read_at, write_at, zero_at, error = EIO, growths, reads, writes;
+static long growth_at, read_at, write_at, zero_at, error = EIO, growths, reads, writes, threads;
 static int is_ready, is_short;
 static void *(*next_malloc)(size_t);
 static void *(*next_realloc)(void *, size_t);
@@ -73,8 +75,14 @@ ssize_t write(int file, const void *from, size_t n) {
     return next_write(file, from, file == 1 && is_short && n > 1 ? 1 : n);
 }
 
+int pthread_create(pthread_t *thread, const pthread_attr_t *how, void *(*run)(void *), void *with) {
+    __atomic_add_fetch(&threads, 1, __ATOMIC_SEQ_CST);
+    return ((int (*)(pthread_t *, const pthread_attr_t *, void *(*)(void *), void *))dlsym(RTLD_NEXT, "pthread_create"))(thread, how, run, with);
+}
+
 __attribute__((destructor)) static void tell(void) {
     if (getenv("COUNT")) dprintf(2, "%ld %ld\n", growths, reads);
+    if (getenv("THREADS")) dprintf(2, "%ld\n", threads);
 }
 
 /* A program that may have threads ends by this call alone. */

@@ -1,6 +1,6 @@
 #!/usr/bin/env python3
-"""Tests of the built program that no case can be: what it says of a fault, help that can't be written, an input of no byte, and the
-limits of lanes and merges, whose scripts have a million lines.
+"""Tests of the built program that no case can be: what it says of a fault and of wrong arguments, help that can't be written, an
+input of no byte, the limits of lanes and merges, whose scripts have a million lines, and searches that start threads.
 
     python3 tests/program.py
 
@@ -10,6 +10,7 @@ lines are 'N skipped', if any, and 'N passed, M failed'.
 from __future__ import annotations
 
 import itertools
+import json
 import os
 import pathlib
 import resource
@@ -23,10 +24,14 @@ from built import PLAIN, PROGRAM, ROOT
 from counts import Counts
 
 MEMORY, READ, WRITE = (3, b"out of memory\n"), (4, b"the input couldn't be read\n"), (4, b"the output couldn't be written\n")
+# The status of arguments that are refused.
+USAGE = 2
 SCRIPT = (ROOT / "examples/groups.jsonl").read_bytes()
 
 # The limits, as docs/SCRIPT.md has them.
 MOST_OPERATIONS, MOST_MERGED = 1_000_000, 1_048_576
+# From so many documents on, several workers share out a search.
+WORTH_THREADS = 262_144
 # What the runs of the limits may take: processor seconds together, and bytes at the peak of each.
 SECONDS, BYTES = 20, 2 * 10**9
 
@@ -49,6 +54,17 @@ def said_of_faults() -> None:
         # There is no memory for the command line itself.
         found, out, told = faults.run(shim, [PROGRAM, "run"], SCRIPT, FAIL_GROWTH=1)
         check("the command line", (found, out, told) == (MEMORY[0], b"", MEMORY[1]), (found, out, told))
+
+
+def refused_arguments() -> None:
+    """Arguments that ask for nothing that there is: status 2, no reply, and words on standard error."""
+    wrong: list[list[str | bytes]] = [
+        [], ["walk"], ["--walk"], ["run", "--workers"], ["run", "--workers", "0"], ["run", "--workers", "65"], ["run", "--runs", "0"],
+        ["run", "--deal", "65"], ["run", "--runs", "1", "--deal", "1"], ["run", "--merge", "on"], ["run", "a", "b"], ["run", b"\xff"],
+    ]
+    for words in wrong:
+        done = subprocess.run([PROGRAM, *words], input=SCRIPT, capture_output=True)
+        check(f"arguments {words}", (done.returncode, done.stdout, done.stderr[:6]) == (USAGE, b"", b"error:"), done)
 
 
 def unwritable() -> None:
@@ -125,8 +141,38 @@ def limits() -> None:
     print(f"program: LaneFull and TooLarge three times in {took:.0f} processor seconds, with {peak / 1e9:.1f} GB at the peak", flush=True)
 
 
+def many_documents() -> tuple[list[str], list[str]]:
+    """The lines before the searches, and the searches: over so many documents that a search by several workers starts threads."""
+    fields = [{"name": "title", "kind": "text", "default": True}, {"name": "tag", "kind": "keyword"}, {"name": "price", "kind": "u64"}]
+    adds = [{"title": f"a b{' a' * (n % 3)} w{n % 1_000}", "tag": f"t{n % 7}", "price": n * 7_919 % 10_007} for n in range(WORTH_THREADS)]
+    lines = [{"schema": fields}, *({"add": each} for each in adds), {"commit": True}, {"delete": {"tag": "t6"}}, {"add": {"tag": "t6"}}]
+    lines += [*({"add": each} for each in adds[: WORTH_THREADS // 7 + 1]), {"commit": True}]
+    tops = [{"by": "price", "k": k, "order": order} for k, order in ((10, "falling"), (1_000, "rising"))]
+    searches = [{"query": "*"}, {"query": "w7", "groups": "tag"}, {"query": '"b a a"', "top": tops[0]}, {"query": "price:[5 TO 50]", "groups": "price"},
+                {"query": "+a -tag:t1", "groups": "tag", "top": tops[1]}, {"query": "tag:t6"}]
+    return [json.dumps(line) for line in lines], [json.dumps({"search": search}) for search in searches]
+
+
+def searches_by_threads() -> None:
+    """Searches that are shared out among threads: the replies are those of the plain list, and threads are started for them."""
+    lines, searches = many_documents()
+    before, whole = ("\n".join(each).encode() + b"\n" for each in (lines, lines + searches))
+    wanted = subprocess.run([PLAIN], input=whole, capture_output=True).stdout
+    by = [[PROGRAM, "run", "--runs", cut, "--workers", workers] for cut, workers in (("65536", "1"), ("65536", "3"), ("20000", "64"))]
+    for words in by:
+        done = subprocess.run(words, input=whole, capture_output=True)
+        check(f"many documents: {' '.join(words)}", (done.returncode, done.stdout) == (0, wanted), done.stdout[-400:])
+    if not faults.compiler():
+        skip("threads of searches", "there is no C compiler")
+        return
+    with faults.shim() as shim:
+        # A commit starts threads too, so the script without its searches is looked at as well.
+        started = [[int(faults.run(shim, words, script, THREADS=1)[2].split()[-1]) for script in (before, whole)] for words in by[:2]]
+    check("threads of searches", started[0] == [0, 0] and started[1][1] - started[1][0] >= len(searches), started)
+
+
 def main() -> int:
-    for test in (said_of_faults, unwritable, of_no_byte, limits):
+    for test in (said_of_faults, refused_arguments, unwritable, of_no_byte, limits, searches_by_threads):
         test()
     return counts.end()
 

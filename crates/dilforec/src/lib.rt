@@ -28,6 +28,7 @@
 //! - [`script`]: the same index by lines of JSON, as the program `fts` runs them, and the program's command line.
 //! - [`text`], [`pack`], [`segment`], [`cursor`], [`collect`], [`merge`] and [`pool`]: the parts, for those who build
 //!   on them.
+//! - [`laws`]: what the definitions that contracts cite say of each other.
 //!
 //! `CALLING.md` beside this crate has a whole program. Nothing is defined here: each item, with its contract, is handed
 //! on from another crate, and `specs/` hands on the definitions that the contracts cite.
@@ -35,6 +36,7 @@
 
 pub mod collect;
 pub mod cursor;
+pub mod laws;
 pub mod merge;
 pub mod pack;
 pub mod pool;

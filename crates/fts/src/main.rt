@@ -2,16 +2,17 @@
 #![tactic(auto)]
 
 ghost use Rattle.std.specs.Prelude.{◌≡◌, ◌≢◌, ◌⊎◌};
+ghost use Rattle.std.specs.Process.{exit_status};
 ghost use Rattle.fts_script.specs.Runs.{FailsNever, FailsRead, FailsWrite, Flushes, FlushesAll, ReadsTooMuch};
 ghost use Rattle.fts_script.specs.Runs.{StopsInLastRead, TellsEnd, WritesBeginning, WritesEnded, WritesOutput};
-ghost use Rattle.fts_cli.specs.Arguments.{run_status_of};
+ghost use Rattle.fts_cli.specs.Arguments.{arg_status_of, run_status_of, status_of};
 
 use fts_cli::args::{ArgFault, Asked, args};
 use fts_cli::status::{arg_status, run_status, status};
 use fts_engine_index::IndexEngine;
 use fts_script::{EngineOver, Fault, Options, Plain, ScriptIn, ScriptOut, run_script};
 use std::env::Env;
-use std::io::{Eprint, IsTerminal};
+use std::io::{Eprint, IsTerminal, Print};
 use std::process::ExitCode;
 use std::{env, io};
 
@@ -39,38 +40,57 @@ fn run_standard<R: AllocGlobal + Sync + Eprint, E: EngineOver<R>, I: ScriptIn, O
     reader: &mut I,
     writer: &mut O,
     options: Options,
-) -> (u8, Result<(), Fault>)
+) -> (ExitCode, Result<(), Fault>)
     // 0 if the run came to its end, 3 if memory ran out, 4 if a stream failed, 5 if the stamps are used up
-    ensures status { result.0 ≡ run_status_of result.1 }
+    ensures status { exit_status result.0 ≡ run_status_of result.1 }
 
-    ensures ok { result.0 ≡ 0 → WritesOutput
+    ensures ok { exit_status result.0 ≡ 0 → WritesOutput
         (I.calls reader.old, O.calls writer.old) (I.calls reader.new, O.calls writer.new) }
-    ensures end { result.0 ≡ 0 → TellsEnd (I.calls reader.old) (I.calls reader.new) }
-    ensures flushed { result.0 ≡ 0 → Flushes (O.calls writer.old) (O.calls writer.new) }
-    ensures flushed_all { result.0 ≡ 0 → FlushesAll (O.calls writer.new) }
-    ensures none_failed { result.0 ≡ 0 → FailsNever
+    ensures end { exit_status result.0 ≡ 0 → TellsEnd (I.calls reader.old) (I.calls reader.new) }
+    ensures flushed { exit_status result.0 ≡ 0 → Flushes (O.calls writer.old) (O.calls writer.new) }
+    ensures flushed_all { exit_status result.0 ≡ 0 → FlushesAll (O.calls writer.new) }
+    ensures none_failed { exit_status result.0 ≡ 0 → FailsNever
         (I.calls reader.old, O.calls writer.old) (I.calls reader.new, O.calls writer.new) }
 
-    ensures stopped { result.0 ≢ 0 → WritesBeginning
+    ensures stopped { exit_status result.0 ≢ 0 → WritesBeginning
         (I.calls reader.old, O.calls writer.old) (I.calls reader.new, O.calls writer.new) }
-    ensures memory { result.0 ≡ 3 → StopsInLastRead
+    ensures memory { exit_status result.0 ≡ 3 → StopsInLastRead
         (I.calls reader.old, O.calls writer.old) (I.calls reader.new, O.calls writer.new) }
-    ensures failed { result.0 ≡ 4 → FailsWrite
+    ensures failed { exit_status result.0 ≡ 4 → FailsWrite
         (I.calls reader.old, O.calls writer.old) (I.calls reader.new, O.calls writer.new)
         ⊎ (FailsRead (I.calls reader.old, O.calls writer.old) (I.calls reader.new, O.calls writer.new)
         × WritesEnded (I.calls reader.old, O.calls writer.old) (I.calls reader.new, O.calls writer.new)) }
-    ensures used_up { result.0 ≡ 5 → ReadsTooMuch
+    ensures used_up { exit_status result.0 ≡ 5 → ReadsTooMuch
         (I.calls reader.old, O.calls writer.old) (I.calls reader.new, O.calls writer.new) }
 {
     let outcome = run_script::<_, E, _, _>(rt, reader, writer, options);
     if let Err(fault) = &outcome {
         let _ = rt.eprintln(format_args!("fts: {fault}"));
     }
-    (run_status(&outcome), outcome)
+    let status = run_status(&outcome);
+    (ExitCode::from(status), outcome)
+}
+
+/// Prints a help that was asked for. The exit status is 0, or 4 if the text couldn't be written.
+fn show_help(rt: &impl Print, text: String) -> ExitCode
+    ensures { (exit_status result ≡ 0) ⊎ (exit_status result ≡ status_of Fault.Write) }
+{
+    ExitCode::from(match rt.print(text) {
+        Ok(()) => 0,
+        Err(_) => status(&Fault::Write),
+    })
+}
+
+/// Says what is wrong with the arguments. The exit status is 2, or 3 if there was no memory to read them.
+fn refuse(rt: &impl Eprint, fault: &ArgFault) -> ExitCode
+    ensures { exit_status result ≡ arg_status_of fault.now }
+{
+    let _ = rt.eprint(fault);
+    ExitCode::from(arg_status(fault))
 }
 
 fn main(rt: HostRuntime) -> ExitCode {
-    ExitCode::from(match asked(&rt) {
+    match asked(&rt) {
         Ok(Asked::Run(options)) => {
             if rt.stdin().is_terminal() {
                 let _ = rt.eprintln(WAITS);
@@ -79,13 +99,7 @@ fn main(rt: HostRuntime) -> ExitCode {
             let mut writer = Plain::new(rt.stdout());
             run_standard::<_, IndexEngine, _, _>(&rt, &mut reader, &mut writer, options).0
         }
-        Ok(Asked::Help(text)) => match rt.print(text) {
-            Ok(()) => 0,
-            Err(_) => status(&Fault::Write),
-        },
-        Err(fault) => {
-            let _ = rt.eprint(&fault);
-            arg_status(&fault)
-        }
-    })
+        Ok(Asked::Help(text)) => show_help(&rt, text),
+        Err(fault) => refuse(&rt, &fault),
+    }
 }

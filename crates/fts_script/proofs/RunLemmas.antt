@@ -9,7 +9,7 @@ use Rattle.fts_script.specs.Streams.{Wrote}
 use Rattle.fts_script.specs.Runs.{StopsInLastRead}
 use Rattle.fts_script.specs.session.Text.{lines_of, IsWhole, HasNoEnd}
 use Rattle.fts_script.specs.session.Outputs.{SessionValue, start, after_line, reply_to, replies, after_lines, output}
-use Rattle.fts_script.specs.Stops.{AnswersFirst, AnswersEnded, BeginsOutput, BeginsOutputUnless, BeginsWith, IsWritten, StopsFirst}
+use Rattle.fts_script.specs.Stops.{AnswersFirst, AnswersEnded, BeginsOutput, BeginsOutputUnless, BeginsWith, IsWritten, StopsAfter, StopsFirst}
 use Rattle.fts_script.specs.Responders.{Answered, Finishes, Advances, AdvancesFirst, AdvancesToStop, RunState}
 use Rattle.fts_script.proofs.BlankLemmas.{IsWritten-front}
 use Rattle.fts_script.proofs.StreamLemmas.{append_more}
@@ -109,11 +109,11 @@ AdvancesFirst-leads s t p q xs more a b first = record {
 
 -- and memory runs out there
 pub AdvancesToStop-leads : (s t : SessionValue) (p q : KeptLine) (xs more a b : List ℕ) → Advances s t p q xs a b →
-    ((line : List ℕ) → q ≡ kept_line line → HasNoEnd line → IsWritten (lines_of (line ++ more))) → AdvancesToStop s p (xs ++ more) a b
+    ((line : List ℕ) → q ≡ kept_line line → HasNoEnd line → IsWritten (lines_of (line ++ more))) → AdvancesToStop s t p (xs ++ more) a b
 AdvancesToStop-leads s t p q xs more a b first written = record {
   leads = λ input out from.
       let r = first.leads input out from in
-      (answers_first t q input xs more (out ++ b) r, λ some. written r.line r.held r.unended);
+      ((answers_first t q input xs more (out ++ b) r, λ some. written r.line r.held r.unended), r.script);
 }
 
 -- the replies of some lines went out
@@ -127,10 +127,10 @@ RunState-sent before now after s t p q input bytes gathered step sent r = record
 }
 
 -- memory ran out, and the replies of the lines before went out
-pub Wrote-first : (before now after : List ℕ) (s : SessionValue) (p : KeptLine) (input bytes gathered : List ℕ) →
-    AdvancesToStop s p bytes [] gathered → after ≡ now ++ gathered →
-    RunState before now s p input → Wrote before after (StopsFirst (length bytes) (input ++ bytes))
-Wrote-first before now after s p input bytes gathered step sent r = record {
+pub Wrote-first : (before now after : List ℕ) (s t : SessionValue) (p : KeptLine) (input bytes gathered : List ℕ) →
+    AdvancesToStop s t p bytes [] gathered → after ≡ now ++ gathered →
+    RunState before now s p input → Wrote before after (StopsAfter t (length bytes) (input ++ bytes))
+Wrote-first before now after s t p input bytes gathered step sent r = record {
   bytes = r.out ++ gathered;
   taken = append_more before now after r.out gathered r.taken sent;
   so = step.leads input r.out (subst (λ v. Answered s p input v) (sym (append-nil r.out)) r.answered);
@@ -203,8 +203,13 @@ Wrote-late before now input m n h w = record {
   so = (answers_late input w.bytes m n h w.so.0, w.so.1);
 }
 
-pub Wrote-stopped : (before now input : List ℕ) (n : ℕ) → Wrote before now (StopsFirst n input) → Wrote before now (AnswersFirst n input)
-Wrote-stopped before now input n w = record { bytes = w.bytes; taken = w.taken; so = w.so.0 }
+-- the session is as the lines left it that were answered
+pub Wrote-after : (before now input : List ℕ) (s : SessionValue) (n : ℕ) → Wrote before now (StopsAfter s n input) → Wrote before now (StopsFirst n input)
+Wrote-after before now input s n w = record { bytes = w.bytes; taken = w.taken; so = w.so.0 }
+
+pub Wrote-stopped : (before now input : List ℕ) (s : SessionValue) (n : ℕ) → Wrote before now (StopsAfter s n input) →
+    Wrote before now (AnswersFirst n input)
+Wrote-stopped before now input s n w = record { bytes = w.bytes; taken = w.taken; so = w.so.0.0 }
 
 -- memory ran out at the end of the input
 pub Wrote-stop : (before now : List ℕ) (s : SessionValue) (p : KeptLine) (input : List ℕ) → is_blank_kept p ≡ false →
@@ -331,10 +336,10 @@ on_ok (Err e) Q h = tt
 
 -- whether lines were taken or memory ran out
 pub AdvancesFirst-either : {E : Type 0} (result : Result ℕ E) (s t : SessionValue) (p q : KeptLine) (bytes a b : List ℕ) →
-    IfOk result (λ n. Advances s t p q (take n bytes) a b) → OnErr result (AdvancesToStop s p bytes a b) → AdvancesFirst s p bytes a b
+    IfOk result (λ n. Advances s t p q (take n bytes) a b) → OnErr result (AdvancesToStop s t p bytes a b) → AdvancesFirst s p bytes a b
 AdvancesFirst-either (Ok n) s t p q bytes a b ok err =
     subst (λ v. AdvancesFirst s p v a b) (take-append-drop n bytes) (AdvancesFirst-leads s t p q (take n bytes) (drop n bytes) a b ok)
-AdvancesFirst-either (Err e) s t p q bytes a b ok err = record { leads = λ input out from. (err.leads input out from).0 }
+AdvancesFirst-either (Err e) s t p q bytes a b ok err = record { leads = λ input out from. (err.leads input out from).0.0 }
 
 -- the bytes up to a place, and those after it
 pub whole_is : (input bytes : List ℕ) (i : ℕ) →
@@ -351,14 +356,18 @@ part_is input bytes i n =
     ∙ ap (λ v. input ++ v) (sent_more bytes i n)
 
 -- the last bytes are the rest of a block
-pub Wrote-block : (before now input bytes : List ℕ) (i : ℕ) →
-    (let rest : List ℕ = take (length bytes - i) (drop i bytes) in Wrote before now (StopsFirst (length rest) ((input ++ take i bytes) ++ rest))) →
-    Wrote before now (StopsFirst (length bytes) (input ++ bytes))
-Wrote-block before now input bytes i w =
+pub Wrote-block : (before now input bytes : List ℕ) (s : SessionValue) (i : ℕ) →
+    (let rest : List ℕ = take (length bytes - i) (drop i bytes) in Wrote before now (StopsAfter s (length rest) ((input ++ take i bytes) ++ rest))) →
+    Wrote before now (StopsAfter s (length bytes) (input ++ bytes))
+Wrote-block before now input bytes s i w =
     let rest : List ℕ = take (length bytes - i) (drop i bytes) in
     let shorter : length rest ≤ length bytes = omega (arith, ap length (take_rest bytes i), length-drop i bytes) in
-    Wrote-late before now (input ++ bytes) (length rest) (length bytes) shorter
-    (subst (λ v. Wrote before now (StopsFirst (length rest) v)) (whole_is input bytes i) w)
+    let whole = subst (λ v. Wrote before now (StopsAfter s (length rest) v)) (whole_is input bytes i) w in
+    record {
+      bytes = whole.bytes;
+      taken = whole.taken;
+      so = ((answers_late (input ++ bytes) whole.bytes (length rest) (length bytes) shorter whole.so.0.0, whole.so.0.1), whole.so.1);
+    }
 
 -- a read that gave nothing
 pub given_none : (a b c input buffer : List ℕ) (n : ℕ) → n ≡ 0 → b ≡ a ++ input → c ≡ b ++ take n buffer → c ≡ a ++ input

@@ -2,7 +2,7 @@
 use Rattle.std.specs.Prelude.{ℕ, ◌≡◌, List, ◌++◌, length}
 use Rattle.fts_script.specs.session.Text.{lines_of, IsWhole, HasNoEnd}
 use Rattle.fts_script.specs.session.Outputs.{SessionValue, start, after_lines, output}
-use Rattle.fts_script.specs.Stops.{AnswersFirst, StopsFirst}
+use Rattle.fts_script.specs.Stops.{AnswersFirst, StopsAfter}
 use Rattle.fts_script.specs.session.KeptLines.{KeptLine, kept_line}
 
 -- After this input the lines that have ended were answered by `out`, and the rest of it is the current line.
@@ -25,10 +25,10 @@ pub record AdvancesFirst (s : SessionValue) (p : KeptLine) (bytes a b : List ℕ
   pub leads : (input out : List ℕ) → Answered s p input (out ++ a) →
       AnswersFirst (length bytes) (input ++ bytes) (out ++ b)
 
--- As `AdvancesFirst`, and memory ran out at a line that isn't blank.
-pub record AdvancesToStop (s : SessionValue) (p : KeptLine) (bytes a b : List ℕ) : Type 0 where
+-- As `AdvancesFirst`, and memory ran out at a line that isn't blank; the session answered the lines before it.
+pub record AdvancesToStop (s t : SessionValue) (p : KeptLine) (bytes a b : List ℕ) : Type 0 where
   pub leads : (input out : List ℕ) → Answered s p input (out ++ a) →
-      StopsFirst (length bytes) (input ++ bytes) (out ++ b)
+      StopsAfter t (length bytes) (input ++ bytes) (out ++ b)
 
 -- With these replies all of the input is answered, if it ends here.
 pub record Finishes (s : SessionValue) (p : KeptLine) (replies : List ℕ) : Type 0 where

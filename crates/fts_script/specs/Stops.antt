@@ -1,7 +1,7 @@
 -- What is written if a script stops before its end.
 use Rattle.std.specs.Prelude.{ℕ, ◌≡◌, ◌≢◌, ◌-◌, false, List, [], ◌∷◌, ◌++◌, length, take}
 use Rattle.fts_script.specs.session.Text.{lines_of, is_blank, IsWhole, HasNoEnd}
-use Rattle.fts_script.specs.session.Outputs.{output}
+use Rattle.fts_script.specs.session.Outputs.{SessionValue, start, after_lines, output}
 
 -- xs begins with front
 abbrev pub BeginsWith : List ℕ → List ℕ → Type 0
@@ -32,6 +32,10 @@ IsWritten (line ∷ lines) = is_blank line ≡ false
 -- as `AnswersFirst`, and the next line isn't blank, unless there was no input
 abbrev pub StopsFirst : ℕ → List ℕ → List ℕ → Type 0
 StopsFirst n input out = (first : AnswersFirst n input out) × (input ≢ [] → IsWritten (lines_of first.rest))
+
+-- as `StopsFirst`, and the session is as those lines leave it: all lines that it has answered are replied to
+abbrev pub StopsAfter : SessionValue → ℕ → List ℕ → List ℕ → Type 0
+StopsAfter s n input out = (stops : StopsFirst n input out) × (s ≡ after_lines start (lines_of stops.0.done))
 
 -- the replies to all lines that have ended
 pub record AnswersEnded (input out : List ℕ) : Type 0 where

@@ -6,7 +6,7 @@ ghost use Rattle.fts_script.specs.session.Text.{lines_of, HasNoEnd};
 ghost use Rattle.fts_script.specs.command.Commands.{longest};
 ghost use Rattle.fts_script.specs.session.KeptLines.{after_kept, grown, is_blank_kept, kept_line, reply_to_kept};
 ghost use Rattle.fts_script.specs.session.Outputs.{start, output};
-ghost use Rattle.fts_script.specs.Stops.{BeginsOutput, BeginsWith, IsWritten, StopsFirst};
+ghost use Rattle.fts_script.specs.Stops.{BeginsOutput, BeginsWith, IsWritten, StopsAfter, StopsFirst};
 ghost use Rattle.fts_script.specs.Responders.{Finishes, Advances, AdvancesToStop, RunState};
 
 use crate::fault::Fault;
@@ -102,6 +102,7 @@ impl<E: Engine> Responder<E> {
             ≡ after_kept self.old.session self.old.line) }
         ensures next { OnOk result (self.new.line ≡ kept_line []) }
         ensures err { OnErr result (string_bytes self.new.replies ≡ string_bytes self.old.replies) }
+        ensures kept { OnErr result (self.new.session ≡ self.old.session) }
         ensures not_blank { OnErr result (is_blank_kept self.old.line ≡ false) }
         ensures lines_counted { self.new.session.number ≤ self.old.session.number + 1 }
     {
@@ -130,6 +131,7 @@ impl<E: Engine> Responder<E> {
             ≡ after_kept self.old.session (grown self.old.line piece.now)) }
         ensures next { OnOk result (self.new.line ≡ kept_line []) }
         ensures err { OnErr result (string_bytes self.new.replies ≡ string_bytes self.old.replies) }
+        ensures kept { OnErr result (self.new.session ≡ self.old.session) }
         ensures not_blank { OnErr result (is_blank_kept (grown self.old.line piece.now) ≡ false) }
         ensures lines_counted { self.new.session.number ≤ self.old.session.number + 1 }
     {
@@ -158,6 +160,7 @@ impl<E: Engine> Responder<E> {
             Advances self.old.session self.new.session self.old.line self.new.line
             (take n bytes.now) (string_bytes self.old.replies) (string_bytes self.new.replies)) }
         ensures err { OnErr result (string_bytes self.new.replies ≡ string_bytes self.old.replies) }
+        ensures kept { OnErr result (self.new.session ≡ self.old.session) }
         ensures not_blank { OnErr result ((start : List ℕ) → self.old.line ≡ kept_line start →
             HasNoEnd start → IsWritten (lines_of (start ++ bytes.now))) }
         ensures lines_counted { self.new.session.number ≤ self.old.session.number + 1 }
@@ -191,7 +194,7 @@ impl<E: Engine> Responder<E> {
         ensures ok { IfOk result (λ n.
             Advances self.old.session self.new.session self.old.line self.new.line
             (take n bytes.now) [] (string_bytes self.new.replies)) }
-        ensures err { OnErr result (AdvancesToStop self.old.session self.old.line
+        ensures err { OnErr result (AdvancesToStop self.old.session self.new.session self.old.line
             bytes.now [] (string_bytes self.new.replies)) }
         ensures lines_counted { IfOk result
             (λ n. self.new.session.number ≤ self.old.session.number + n) }
@@ -203,27 +206,29 @@ impl<E: Engine> Responder<E> {
         Ok(at)
     }
 
-    /// Replies to the lines of a piece. At a fault the responder is closed.
+    /// Replies to the lines of a piece. After a fault the responder is to be closed. If memory ran out, the replies to
+    /// all lines that the session has answered were written.
     pub fn feed<R: AllocGlobal + Sync, W: ScriptOut>(
-        mut self,
+        &mut self,
         rt: &R,
         piece: &[u8],
         writer: &mut W,
-    ) -> Result<Responder<E>, Fault>
+    ) -> Result<(), Fault>
     where
         E: EngineOver<R>,
-        requires line_number_fits { self.session.number + length piece.now ≤ 2 ^ 61 }
+        requires line_number_fits { self.old.session.number + length piece.now ≤ 2 ^ 61 }
         requires fits_line { length piece.now ≤ longest }
-        requires none_wait { string_bytes self.replies ≡ [] }
-        ensures ok { IfOk result (λ fed. (before input : List ℕ) →
-            RunState before ((W.calls writer.old).taken) self.session self.line input →
-            RunState before ((W.calls writer.new).taken) fed.session fed.line (input ++ piece.now)) }
-        ensures none_wait { IfOk result (λ fed. string_bytes fed.replies ≡ []) }
+        requires none_wait { string_bytes self.old.replies ≡ [] }
+        ensures ok { OnOk result ((before input : List ℕ) →
+            RunState before ((W.calls writer.old).taken) self.old.session self.old.line input →
+            RunState before ((W.calls writer.new).taken) self.new.session self.new.line (input ++ piece.now)) }
+        ensures none_wait { OnOk result (string_bytes self.new.replies ≡ []) }
         ensures memory { IsErrOf result Fault.Memory → ((before input : List ℕ) →
-            RunState before ((W.calls writer.old).taken) self.session self.line input →
-            Wrote before ((W.calls writer.new).taken) (StopsFirst (length piece.now) (input ++ piece.now))) }
+            RunState before ((W.calls writer.old).taken) self.old.session self.old.line input →
+            Wrote before ((W.calls writer.new).taken)
+            (StopsAfter self.new.session (length piece.now) (input ++ piece.now))) }
         ensures err { OnErr result ((before input : List ℕ) →
-            RunState before ((W.calls writer.old).taken) self.session self.line input →
+            RunState before ((W.calls writer.old).taken) self.old.session self.old.line input →
             Wrote before ((W.calls writer.new).taken) (BeginsOutput (input ++ piece.now))) }
         ensures held { GainsTaken ((W.calls writer.old).taken) ((W.calls writer.new).taken) ((W.calls writer.old).held)
             ((W.calls writer.new).held) }
@@ -233,8 +238,8 @@ impl<E: Engine> Responder<E> {
         ensures none_fails { OnOk result ((W.calls writer.new).failed ≡ (W.calls writer.old).failed) }
         ensures memory_alone { IsErrOf result Fault.Memory → (W.calls writer.new).failed ≡ (W.calls writer.old).failed }
         ensures flushes { (W.calls writer.new).flushes ≡ (W.calls writer.old).flushes }
-        ensures lines_counted { IfOk result (λ fed.
-            fed.session.number ≤ self.session.number + length piece.now) }
+        ensures lines_counted { OnOk result
+            (self.new.session.number ≤ self.old.session.number + length piece.now) }
     {
         let mut at = 0;
         while at < piece.len() {
@@ -242,20 +247,14 @@ impl<E: Engine> Responder<E> {
             // The replies are written before more is read, and also if memory ran out.
             match send(writer, &mut self.replies) {
                 Ok(()) => {}
-                Err(fault) => {
-                    self.close(rt);
-                    return Err(fault);
-                }
+                Err(fault) => return Err(fault),
             }
             match taken {
                 Ok(n) => at += n,
-                Err(AllocError) => {
-                    self.close(rt);
-                    return Err(Fault::Memory);
-                }
+                Err(AllocError) => return Err(Fault::Memory),
             }
         }
-        Ok(self)
+        Ok(())
     }
 
     /// Replies to the last line, if the end of the input ends one.

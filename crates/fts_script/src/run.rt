@@ -80,7 +80,13 @@ pub fn run_script<G: AllocGlobal + Sync, E: EngineOver<G>, R: ScriptIn, W: Scrip
                     return Err(Fault::StampsUsedUp);
                 }
                 count += n as u64;
-                responder = responder.feed(rt, &block[..n], writer)?;
+                match responder.feed(rt, &block[..n], writer) {
+                    Ok(()) => {}
+                    Err(fault) => {
+                        responder.close(rt);
+                        return Err(fault);
+                    }
+                }
             }
             Err(_) => {
                 responder.close(rt);

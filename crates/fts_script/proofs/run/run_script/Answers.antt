@@ -1,9 +1,9 @@
 use Rattle.std.proofs.Common.{arith, ◌<◌, ◌++◌, length, take, ◌∙◌, append-nil}
-use Rattle.std.proofs.lemmas.Result.{on_ok_weaker, on_err_weaker, err_from_is_err_and}
+use Rattle.std.proofs.lemmas.Result.{on_ok_weaker, on_err_weaker}
 use Rattle.std.proofs.lemmas.List.{length-take-le}
 use Rattle.fts_script.specs.Stops.{AnswersFirst, StopsFirst}
-use Rattle.fts_script.proofs.RunLemmas.{Wrote-ended, Wrote-begins, Wrote-late, Wrote-latest, Wrote-more, Wrote-reached, Wrote-same, Wrote-unless, counted_end}
-use Rattle.fts_script.proofs.RunLemmas.{given_none, length_more, not_counted, on_err}
+use Rattle.fts_script.proofs.RunLemmas.{Wrote-after, Wrote-ended, Wrote-begins, Wrote-late, Wrote-latest, Wrote-more, Wrote-reached, Wrote-same, Wrote-unless, counted_end}
+use Rattle.fts_script.proofs.RunLemmas.{given_none, length_more, not_counted}
 use Rattle.fts_script.proofs.StreamLemmas.{append_more, GainsTaken-trans, LosesGiven-read}
 use Rattle.fts_script.proofs.run.run_script.Goals as goal
 
@@ -14,20 +14,20 @@ reads-preserved g c = record {
   left = LosesGiven-read c.read.result c.read.new.buffer _ _ _ _ _ (g.R.ScriptIn.calls c.read.new.self).remaining c.reads.invariant.left c.read.ensures.given
       c.read.ensures.left;
   held = GainsTaken-trans _ _ _ _ _ (g.W.ScriptOut.calls c.feed.new.writer).held c.reads.invariant.held c.feed.ensures.held;
-  reached = c.in_ok-responder-in-Ok.ensures.ok _ _ c.reads.invariant.reached;
-  none_wait = c.in_ok-responder-in-Ok.ensures.none_wait;
+  reached = c.in-Ok-feed.ensures.ok _ _ c.reads.invariant.reached;
+  none_wait = c.in-Ok-feed.ensures.none_wait;
   ends = not_counted c.in-Ok.n _ _ _ c.in-Ok.n-test.1 c.in-Ok.ensures.end ∙ c.reads.invariant.ends;
   failed = c.in-Ok.ensures.fails ∙ c.reads.invariant.failed;
   counted = length_more c.reads.invariant.input c.read.new.buffer c.in-Ok.n c.reads.count c.in-Ok.ensures.bound c.reads.invariant.counted;
   most = omega (arith, c.reads.invariant.most, c.if-n-count.false);
   number = omega (
     arith,
-    c.in_ok-responder-in-Ok.ensures.lines_counted,
+    c.in-Ok-feed.ensures.lines_counted,
     c.reads.invariant.number,
     length-take-le c.in-Ok.n c.read.new.buffer
         c.in-Ok.ensures.bound,
   );
-  write_failed = c.in_ok-responder-in-Ok.ensures.none_fails ∙ c.reads.invariant.write_failed;
+  write_failed = c.in-Ok-feed.ensures.none_fails ∙ c.reads.invariant.write_failed;
   flushes = c.feed.ensures.flushes ∙ c.reads.invariant.flushes;
 }
 
@@ -95,21 +95,20 @@ returns-then-n-count-clause-used_up g c = λ _.
       };
     }
 
-pub returns-in_err-responder-in-Ok-clause-err : goal.returns-in_err-responder-in-Ok-clause-err
-returns-in_err-responder-in-Ok-clause-err g c = on_err c.from_residual-in_err-responder-in-Ok.result _ (record {
+pub returns-in-Err-feed-clause-err : goal.returns-in-Err-feed-clause-err
+returns-in-Err-feed-clause-err g c = record {
   input = c.reads.invariant.input ++ take c.in-Ok.n c.read.new.buffer;
   read = append_more (g.R.ScriptIn.calls c.args.reader.now).given _ _ c.reads.invariant.input (take c.in-Ok.n c.read.new.buffer) c.reads.invariant.given c.in-Ok.ensures.given;
-  wrote = Wrote-unless _ _ (c.reads.invariant.input ++ take c.in-Ok.n c.read.new.buffer) _ (c.in_err-responder-in-Ok.ensures.err _ _ c.reads.invariant.reached);
-})
+  wrote = Wrote-unless _ _ (c.reads.invariant.input ++ take c.in-Ok.n c.read.new.buffer) _ (c.in-Err-feed.ensures.err _ _ c.reads.invariant.reached);
+}
 
-pub returns-in_err-responder-in-Ok-clause-memory : goal.returns-in_err-responder-in-Ok-clause-memory
-returns-in_err-responder-in-Ok-clause-memory g c = λ e.
-    let p = err_from_is_err_and c.from_residual-in_err-responder-in-Ok.result c.from_residual-in_err-responder-in-Ok.ensures.1 in record {
-      input = c.reads.invariant.input ++ take c.in-Ok.n c.read.new.buffer;
-      read = append_more (g.R.ScriptIn.calls c.args.reader.now).given _ _ c.reads.invariant.input (take c.in-Ok.n c.read.new.buffer) c.reads.invariant.given c.in-Ok.ensures.given;
-      wrote = Wrote-latest StopsFirst _ _ _ (take c.in-Ok.n c.read.new.buffer) (g.R.ScriptIn.calls c.read.new.self).latest c.in-Ok.ensures.latest
-          (c.in_err-responder-in-Ok.ensures.memory (cc (p.1, p.2, e)) _ _ c.reads.invariant.reached);
-    }
+pub returns-in-Err-feed-clause-memory : goal.returns-in-Err-feed-clause-memory
+returns-in-Err-feed-clause-memory g c = λ e. record {
+  input = c.reads.invariant.input ++ take c.in-Ok.n c.read.new.buffer;
+  read = append_more (g.R.ScriptIn.calls c.args.reader.now).given _ _ c.reads.invariant.input (take c.in-Ok.n c.read.new.buffer) c.reads.invariant.given c.in-Ok.ensures.given;
+  wrote = Wrote-latest StopsFirst _ _ _ (take c.in-Ok.n c.read.new.buffer) (g.R.ScriptIn.calls c.read.new.self).latest c.in-Ok.ensures.latest
+      (Wrote-after _ _ _ c.feed.new.self.session _ (c.in-Err-feed.ensures.memory e _ _ c.reads.invariant.reached));
+}
 
 pub returns-in-Err-clause-err : goal.returns-in-Err-clause-err
 returns-in-Err-clause-err g c = record {
@@ -130,8 +129,8 @@ returns-then-n-count-clause-left g c =
     LosesGiven-read c.read.result c.read.new.buffer _ _ _ _ _ (g.R.ScriptIn.calls c.read.new.self).remaining c.reads.invariant.left c.read.ensures.given
     c.read.ensures.left
 
-pub returns-in_err-responder-in-Ok-clause-left : goal.returns-in_err-responder-in-Ok-clause-left
-returns-in_err-responder-in-Ok-clause-left g c =
+pub returns-in-Err-feed-clause-left : goal.returns-in-Err-feed-clause-left
+returns-in-Err-feed-clause-left g c =
     LosesGiven-read c.read.result c.read.new.buffer _ _ _ _ _ (g.R.ScriptIn.calls c.read.new.self).remaining c.reads.invariant.left c.read.ensures.given
     c.read.ensures.left
 
@@ -139,6 +138,6 @@ pub returns-in-Ok-eq0-clause-held : goal.returns-in-Ok-eq0-clause-held
 returns-in-Ok-eq0-clause-held g c =
     GainsTaken-trans _ _ _ _ _ (g.W.ScriptOut.calls c.end.new.writer).held c.reads.invariant.held c.end.ensures.held
 
-pub returns-in_err-responder-in-Ok-clause-held : goal.returns-in_err-responder-in-Ok-clause-held
-returns-in_err-responder-in-Ok-clause-held g c =
+pub returns-in-Err-feed-clause-held : goal.returns-in-Err-feed-clause-held
+returns-in-Err-feed-clause-held g c =
     GainsTaken-trans _ _ _ _ _ (g.W.ScriptOut.calls c.feed.new.writer).held c.reads.invariant.held c.feed.ensures.held

@@ -21,19 +21,20 @@ returns-in-Err-clause-err g c = (λ before input r.
 
 pub returns-in-Err-taken-clause-memory : goal.returns-in-Err-taken-clause-memory
 returns-in-Err-taken-clause-memory g c = λ _ before input r.
-    Wrote-block before (g.W.ScriptOut.calls c.send.new.writer).taken input c.args.piece.now c.loop-at.at
+    Wrote-block before (g.W.ScriptOut.calls c.send.new.writer).taken input c.args.piece.now c.take_lines-taken.new.self.session c.loop-at.at
     (Wrote-first before (g.W.ScriptOut.calls c.loop-at.writer).taken (g.W.ScriptOut.calls c.send.new.writer).taken
-    c.loop-at.self.session c.loop-at.self.line (input ++ take c.loop-at.at c.args.piece.now) _ _
+    c.loop-at.self.session c.take_lines-taken.new.self.session c.loop-at.self.line (input ++ take c.loop-at.at c.args.piece.now) _ _
     c.in-Err-taken.ensures.err c.in-Ok.ensures.ok
     (c.loop-at.invariant.reached before input r))
 
 pub returns-in-Err-taken-clause-err : goal.returns-in-Err-taken-clause-err
 returns-in-Err-taken-clause-err g c = (λ before input r.
     Wrote-begins before (g.W.ScriptOut.calls c.send.new.writer).taken (input ++ c.args.piece.now) (length c.args.piece.now)
-    (Wrote-stopped before (g.W.ScriptOut.calls c.send.new.writer).taken (input ++ c.args.piece.now) (length c.args.piece.now)
-    (Wrote-block before (g.W.ScriptOut.calls c.send.new.writer).taken input c.args.piece.now c.loop-at.at
+    (Wrote-stopped before (g.W.ScriptOut.calls c.send.new.writer).taken (input ++ c.args.piece.now) c.take_lines-taken.new.self.session
+    (length c.args.piece.now)
+    (Wrote-block before (g.W.ScriptOut.calls c.send.new.writer).taken input c.args.piece.now c.take_lines-taken.new.self.session c.loop-at.at
     (Wrote-first before (g.W.ScriptOut.calls c.loop-at.writer).taken (g.W.ScriptOut.calls c.send.new.writer).taken
-    c.loop-at.self.session c.loop-at.self.line (input ++ take c.loop-at.at c.args.piece.now) _ _
+    c.loop-at.self.session c.take_lines-taken.new.self.session c.loop-at.self.line (input ++ take c.loop-at.at c.args.piece.now) _ _
     c.in-Err-taken.ensures.err c.in-Ok.ensures.ok
     (c.loop-at.invariant.reached before input r)))))
 

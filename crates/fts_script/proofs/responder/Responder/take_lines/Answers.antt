@@ -1,5 +1,6 @@
 use Rattle.std.proofs.Common.{[], ◌++◌, take, drop, subst, sym, arith, string_bytes, take-append-drop}
 use Rattle.std.proofs.lemmas.List.{take_rest}
+use Rattle.fts_script.specs.session.Outputs.{SessionValue}
 use Rattle.fts_script.specs.session.Text.{lines_of}
 use Rattle.fts_script.specs.Stops.{IsWritten}
 use Rattle.fts_script.specs.Responders.{Advances, AdvancesToStop}
@@ -11,11 +12,14 @@ returns-in_err-at-clause-err g c =
     let bytes = c.args.bytes.now in
     let at = c.loop-at.at in
     on_err c.from_residual.result _
-    (subst (λ v. AdvancesToStop c.args.self.now.session c.args.self.now.line bytes [] v) (sym c.in_err-at.ensures.err)
-    (subst (λ v. AdvancesToStop c.args.self.now.session c.args.self.now.line v [] (string_bytes c.loop-at.self.replies)) (take-append-drop at bytes)
+    (subst (λ (t : SessionValue). AdvancesToStop c.args.self.now.session t c.args.self.now.line bytes [] (string_bytes c.take_line.new.self.replies))
+    (sym c.in_err-at.ensures.kept)
+    (subst (λ v. AdvancesToStop c.args.self.now.session c.loop-at.self.session c.args.self.now.line bytes [] v) (sym c.in_err-at.ensures.err)
+    (subst (λ v. AdvancesToStop c.args.self.now.session c.loop-at.self.session c.args.self.now.line v [] (string_bytes c.loop-at.self.replies))
+    (take-append-drop at bytes)
     (AdvancesToStop-leads c.args.self.now.session c.loop-at.self.session c.args.self.now.line c.loop-at.self.line (take at bytes) (drop at bytes) [] _
     c.loop-at.invariant.leads
-    (λ line held none. subst (λ v. IsWritten (lines_of (line ++ v))) (take_rest bytes at) (c.in_err-at.ensures.not_blank line held none)))))
+    (λ line held none. subst (λ v. IsWritten (lines_of (line ++ v))) (take_rest bytes at) (c.in_err-at.ensures.not_blank line held none))))))
 
 pub loop-at-preserved : goal.loop-at-preserved
 loop-at-preserved g c =
