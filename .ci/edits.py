@@ -6,8 +6,8 @@
 
 An edit of .ci/edits/CRATE/ is applied to a copy of its crate. The prover then checks one function, with what that
 calls, over the libraries below. The edit is refused if this function isn't proved and its first error is the goal of
-its row, which is false under the edit. Before that a control proves the functions that the crate's rows name, without
-an edit; the edits are tried over what the control leaves. Crates go side by side, as many as the kit's lanes hold.
+its row, which is false under the edit. Before that a control proves one function that the crate's rows name, without an
+edit; the edits are tried over what the control leaves. Crates go side by side, as many as the kit's lanes hold.
 
 A check costs more to begin than to end. So edits that each change the body of their row's own function alone are tried
 some at a time, in one copy: no function is checked against the body of another. An edit that isn't refused there as its
@@ -208,15 +208,16 @@ class Trials:
         return ran.returncode, ran.stdout.splitlines()
 
     def control(self, jobs: int) -> bool:
-        """Whether the functions are proved without an edit."""
+        """Whether a function is proved without an edit."""
         self.proved.mkdir()
         if not self.functions:
             return True
-        status, lines = self.check({}, self.functions, self.proved, jobs)
+        function = self.functions[0]
+        status, lines = self.check({}, [function], self.proved, jobs)
         if status:
-            say(f"{self.crate.name}: without an edit its functions aren't proved (status {status})", *lines[:9])
+            say(f"{self.crate.name}: without an edit {function} isn't proved (status {status})", *lines[:9])
         else:
-            say(f"{self.crate.name}: its functions are proved without an edit")
+            say(f"{self.crate.name}: {function} is proved without an edit")
         return status == 0
 
     def attempt(self, edits: list[Edit], is_sound: bool) -> list[bool]:
@@ -233,7 +234,7 @@ class Trials:
         """Whether an edit is refused as its row says, and says so."""
         try:
             if not is_sound:
-                raise NotRefused("isn't tried, since its crate's functions aren't proved without it")
+                raise NotRefused("isn't tried, since its crate's control isn't proved")
             self.refuse(edit)
             self.say_refused(edit)
             return True
@@ -317,7 +318,7 @@ def build_below(crate: Any, just_proved: bool) -> None:
 
 
 def try_here(edits: list[Edit], just_proved: bool) -> list[tuple[str, bool]]:
-    """The crate of each edit and each control, and whether it is refused as its row says, or proves its functions."""
+    """The crate of each edit and each control, and whether it is refused as its row says, or proves its function."""
     rt = kit.module("rt")
     all_crates = kit.crates(rt.rtlib)
     # Its first call sets a signal's handler, which only the main thread may.
