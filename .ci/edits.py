@@ -123,6 +123,8 @@ def judge(edit: Edit, status: int, lines: list[str], is_unread: Callable[[str], 
     """Raises NotRefused unless a check of an edit's function says what the edit's row says."""
     if status == 0:
         raise NotRefused(f"isn't refused: {edit.function} is proved with it")
+    # The prover begins another line with these words if the name before them is long.
+    lines = re.sub(r"\n +(?=has no field\b)", " ", "\n".join(lines)).split("\n")
     if status != 1 or not lines[-1].startswith("only="):
         raise NotRefused(f"is bad, since it doesn't reach the prover (status {status})", *lines[:6])
     unread = [line for line in lines if is_unread(line)]
