@@ -52,6 +52,9 @@ ITEM = re.compile(r"\b(?:fn|struct|enum|impl|trait|use|mod|const|static)\b")
 PLACED = re.compile(r"(?:note: )?\S+:\d+:\d+:")
 LOST_NAME = re.compile(r"(?:note: )?(?:\./)?proofs/.*(?:has no field|is not in scope|has no `|was not admitted)")
 
+# The prover begins another line with these words if the name before them is long.
+SECOND_LINE = re.compile(r"\n +(?=has no field\b)")
+
 # The most memory that a check of one function was seen to take, in bytes.
 MEMORY = 2_400_000_000
 
@@ -205,7 +208,7 @@ class Trials:
         if ran.returncode == -signal.SIGKILL:
             # Most likely the machine ran out of memory.
             ran = self.rt.checked(self.crate, texts, flags, str(folder))
-        return ran.returncode, ran.stdout.splitlines()
+        return ran.returncode, SECOND_LINE.sub(" ", ran.stdout).splitlines()
 
     def control(self, jobs: int) -> bool:
         """Whether a function is proved without an edit."""
