@@ -74,7 +74,7 @@ def in_c():
     header = HERE / "c/dilforec.h"
     step("C, the header alone", CC, "-std=c99", *STRICTLY, "-fsyntax-only", "-include", header, "-x", "c", "/dev/null")
     step("C, handles", compiled("handles"), counts=COUNTS)
-    step("C, blocks, pairs, chosen fields and merges, each growth refused", compiled("calls", refuse), counts=COUNTS)
+    step("C, blocks, pairs, chosen fields, groups and merges, each growth refused", compiled("calls", refuse), counts=COUNTS)
     step("C, closing frees", compiled("closes", "-Wl,--wrap=malloc,--wrap=realloc,--wrap=free"), counts=COUNTS)
     step("C, the deepest lines in a stack of 512 KiB", compiled("stack"), counts=COUNTS)
     step("C, eight threads", compiled("threads"))

@@ -40,7 +40,7 @@ OF_A_SUBJECT = {
     "fts_postings": {"bytes", "marks", "posting", "stretch", "window_bits"},
     "fts_query": {"depth", "error", "parser", "reader"},
     "fts_scan": {"answers", "matcher", "operations", "terms"},
-    "fts_script": {"session/commands", "session/cut_search", "streams"},
+    "fts_script": {"session/commands", "session/cut_search", "session/group_search", "streams"},
     "fts_segment": {"binary_search", "dictionary_merge", "segment_join", "term_merge", "token_log"},
     "fts_snapshots": {"entries/ids"},
     "fts_text": {"case_fold", "characters", "tokenizer"},

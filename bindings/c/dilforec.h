@@ -94,6 +94,10 @@ int32_t dilforec_replace(dilforec_t *index, const uint8_t *delete_line, size_t d
 int32_t dilforec_execute_fields(dilforec_t *index, const uint8_t *line, size_t length,
                                 const uint8_t *names, size_t names_length);
 
+/* Answers a search of the last commit as dilforec_execute does, but that its groups, if it asks for some, are at most
+ * `limit`: the most frequent ones, those of equal counts by their values. Otherwise as dilforec_execute_fields. */
+int32_t dilforec_execute_groups(dilforec_t *index, const uint8_t *line, size_t length, size_t limit);
+
 /* The length of the last call's reply, its LF included; 0 after a blank line, or after a code other than DILFOREC_OK
  * (but see dilforec_execute_lines). The reply is copied to `out` if it fits into `room` bytes; otherwise `out` stays as
  * it was. The reply stays until the next line, so a call with a room of 0 tells how much is needed. DILFOREC_NO_REPLY
@@ -139,6 +143,9 @@ int32_t dilforec_search(dilforec_searcher_t *searcher, const uint8_t *line, size
 /* Answers a search whose documents have the fields alone that `names` lists, as dilforec_execute_fields does. */
 int32_t dilforec_search_fields(dilforec_searcher_t *searcher, const uint8_t *line, size_t length,
                                const uint8_t *names, size_t names_length);
+
+/* Answers a search with at most `limit` groups, the most frequent ones, as dilforec_execute_groups does. */
+int32_t dilforec_search_groups(dilforec_searcher_t *searcher, const uint8_t *line, size_t length, size_t limit);
 
 /* The reply to the last search, as by dilforec_reply. */
 size_t dilforec_searcher_reply(dilforec_searcher_t *searcher, uint8_t *out, size_t room);

@@ -1,5 +1,5 @@
-/* Blocks of lines, two lines as one, searches with chosen fields, and merges: what they reply, and what refused growths
- * leave.
+/* Blocks of lines, two lines as one, searches with chosen fields or the most frequent groups, and merges: what they
+ * reply, and what refused growths leave.
  *
  * Each call is made with its first growth refused, then with its second, and so on until it takes place; a block goes
  * on after the lines that were done. Documents are counted at the end.
@@ -55,6 +55,12 @@ static int32_t replace(dilforec_t *index, const char *delete_line, const char *a
 static int32_t fields(dilforec_t *index, const char *line, const char *names) {
     int32_t code;
     AGAIN(code, dilforec_execute_fields(index, bytes(line), strlen(line), bytes(names), strlen(names)));
+    return code;
+}
+
+static int32_t groups(dilforec_t *index, const char *line, size_t limit) {
+    int32_t code;
+    AGAIN(code, dilforec_execute_groups(index, bytes(line), strlen(line), limit));
     return code;
 }
 
@@ -180,6 +186,44 @@ static void chosen(void) {
     dilforec_close(&index);
 }
 
+/* The groups that most hits have. */
+static void frequent(void) {
+    static const char *FIND = "{\"search\":{\"query\":\"*\",\"groups\":\"isbn\"}}";
+    const char *numbers = "5 3 3 9 5 1 3 7 9";
+    dilforec_t index = {0};
+    dilforec_searcher_t searcher = {0};
+    uint8_t reply[256];
+    char line[64];
+    int32_t code;
+    dilforec_open(&index);
+    expect(groups(&index, FIND, 1) == DILFOREC_OK && replies(&index, "{\"error\":\"NoSchema\",\"line\":1}\n"),
+           "there is no schema");
+    execute(&index, SCHEMA);
+    for (const char *number = numbers; *number; number += number[1] ? 2 : 1) {
+        sprintf(line, "{\"add\":{\"isbn\":%c}}", *number);
+        execute(&index, line);
+    }
+    execute(&index, "{\"commit\":true}");
+    expect(groups(&index, FIND, 0) == DILFOREC_OK && replies(&index, "{\"count\":9,\"groups\":[]}\n"), "no group");
+    expect(groups(&index, FIND, 2) == DILFOREC_OK && replies(&index, "{\"count\":9,\"groups\":[[3,3],[5,2]]}\n"),
+           "the most frequent first, those as frequent by their values");
+    const char *all = "{\"count\":9,\"groups\":[[3,3],[5,2],[9,2],[1,1],[7,1]]}\n";
+    expect(groups(&index, FIND, SIZE_MAX) == DILFOREC_OK && replies(&index, all), "all of them");
+    expect(groups(&index, "{\"search\":{\"query\":\"*\"}}", 2) == DILFOREC_OK && replies(&index, "{\"count\":9}\n"),
+           "a search without groups");
+    expect(groups(&index, "{\"search\":{\"query\":\"*\",\"groups\":\"title\"}}", 2) == DILFOREC_OK
+               && replies(&index, "{\"error\":\"NotANumberField\",\"line\":12}\n"), "groups of a text field are refused");
+    expect(groups(&index, "{\"commit\":true}", 2) == DILFOREC_OK
+               && replies(&index, "{\"error\":\"BadCommand\",\"line\":12}\n"), "and another command");
+    expect(groups(&index, " ", 2) == DILFOREC_OK && replies(&index, ""), "a blank line has an empty reply");
+    expect(dilforec_searcher(&index, &searcher) == DILFOREC_OK, "a searcher");
+    AGAIN(code, dilforec_search_groups(&searcher, bytes(FIND), strlen(FIND), 5));
+    expect(code == DILFOREC_OK && dilforec_searcher_reply(&searcher, reply, sizeof reply) == strlen(all)
+               && memcmp(reply, all, strlen(all)) == 0, "replies the same");
+    dilforec_searcher_close(&searcher);
+    dilforec_close(&index);
+}
+
 static int syntax(const char *query, size_t wanted) {
     int32_t code;
     size_t at = 7777;
@@ -295,6 +339,7 @@ int main(void) {
     blocks();
     pairs();
     chosen();
+    frequent();
     merges();
     printf("%d passed, %d failed\n", passed, failed);
     printf("%ld refusals\n", refusals);

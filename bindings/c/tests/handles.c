@@ -50,6 +50,7 @@ static void closed(void) {
            "nor a block");
     expect(dilforec_replace(&index, bytes(ADD), strlen(ADD), bytes(ADD), strlen(ADD)) == DILFOREC_CLOSED, "nor two");
     expect(dilforec_execute_fields(&index, bytes(ADD), strlen(ADD), bytes("[]"), 2) == DILFOREC_CLOSED, "nor a search");
+    expect(dilforec_execute_groups(&index, bytes(ADD), strlen(ADD), 1) == DILFOREC_CLOSED, "nor one with few groups");
     expect(dilforec_reply(&index, &byte, 1) == DILFOREC_NO_REPLY && byte == 7, "a closed index has no reply");
     expect(dilforec_stats(&index, &stats) == DILFOREC_CLOSED && are(stats, 7, 7, 7), "nor a size");
     expect(dilforec_close(&index) == DILFOREC_CLOSED && !index.at, "a closed index isn't closed again");
@@ -82,6 +83,7 @@ static void searchers(void) {
     expect(search(&searcher, FIND) == DILFOREC_CLOSED, "a closed searcher takes no search");
     expect(dilforec_search_fields(&searcher, bytes(FIND), strlen(FIND), bytes("[]"), 2) == DILFOREC_CLOSED,
            "nor one with chosen fields");
+    expect(dilforec_search_groups(&searcher, bytes(FIND), strlen(FIND), 1) == DILFOREC_CLOSED, "nor with few groups");
     expect(dilforec_searcher_reply(&searcher, &byte, 1) == DILFOREC_NO_REPLY && byte == 7, "and has no reply");
     expect(dilforec_searcher_stats(&searcher, &stats) == DILFOREC_CLOSED && are(stats, 7, 7, 7), "and no size");
     expect(dilforec_searcher_close(&searcher) == DILFOREC_CLOSED, "a closed searcher isn't closed again");

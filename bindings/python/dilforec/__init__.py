@@ -24,7 +24,7 @@ from dilforec.refusals import (
     SchemaTwice, SomeRefused, Syntax, TextTooLong, TooDeep, TooLarge, TooLong, TooManyFields, TooManyTexts,
     Unfinished, UnknownField, WrongKind,
 )
-from dilforec.values import Answer, Field, Hit, Stats, Top, i64, keyword, quoted, text, u64
+from dilforec.values import Answer, Field, Groups, Hit, Stats, Top, i64, keyword, quoted, text, u64
 
 __version__ = "0.2.0"
 
@@ -34,7 +34,7 @@ if TYPE_CHECKING:
 
 __all__ = [
     "AllNegative", "Answer", "BadCommand", "BadDefault", "BadJson", "BadLimit", "BadName", "BadNumber", "Busy",
-    "Closed", "Field", "Hit", "Index", "KeywordTooLong", "LaneFull", "LineTooLong", "Merge", "NameTwice", "NoDefaultField",
+    "Closed", "Field", "Groups", "Hit", "Index", "KeywordTooLong", "LaneFull", "LineTooLong", "Merge", "NameTwice", "NoDefaultField",
     "NoFields", "NoSchema", "NotANumberField", "NotAnObject", "RangeOnText", "Refused", "SchemaTwice", "Searcher",
     "SomeRefused", "Stats", "Syntax", "TextTooLong", "TooDeep", "TooLarge", "TooLong", "TooManyFields", "TooManyTexts", "Top",
     "Unfinished", "UnknownField", "UsedUp", "WrongKind", "__version__", "i64", "keyword", "quoted", "text", "u64",

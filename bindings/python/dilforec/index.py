@@ -12,7 +12,7 @@ from dilforec.library import (
     LINE_TOO_LONG, MEMORY, NO_LIMIT, OK, Asking, Channel, Closed, MergeHandle, NothingToMerge, fault, syntax_at,
 )
 from dilforec.refusals import LineTooLong, NoSchema, Refused, SomeRefused, Syntax, TooDeep, TooLong, Unfinished, refused
-from dilforec.values import Answer, Field, Groups, Hit, Order, Stats, Top, as_json
+from dilforec.values import Answer, Field, GroupCounts, Groups, Hit, Order, Stats, Top, as_json
 
 S = TypeVar("S", bound="Searching")
 
@@ -43,28 +43,44 @@ def to_line(command: Any) -> bytes:
     return ENCODE(command).encode("utf-8", "surrogatepass")
 
 
+GroupsBy = Union[str, Groups]
+
+
 class SearchLines:
     """The lines of a search: one for each field that it counts groups by, but one if there are none.
 
-    The first asks for the top list. `names` says as JSON which fields its documents have.
+    The first asks for the top list, and `limits` has for each line how many groups are wanted, None for all. `names`
+    says as JSON which fields the documents have: if the first groups have a limit, a line without groups comes before,
+    since a call has one or the other.
     """
 
-    __slots__ = ("query", "top", "fields", "names", "by", "is_list", "lines")
+    __slots__ = ("query", "top", "fields", "names", "by", "is_list", "lines", "limits")
 
-    def __init__(self, query: str, groups: Union[str, list[str], tuple[str, ...], None], top: Optional[Top],
+    def __init__(self, query: str, groups: Union[GroupsBy, Sequence[GroupsBy], None], top: Optional[Top],
                  fields: Optional[Sequence[str]]) -> None:
-        _expect(groups, (str, list, tuple, type(None)), "groups are by the name of a field, or a list of names")
+        _expect(groups, (str, Groups, list, tuple, type(None)),
+                "groups are by the name of a field, dilforec.Groups, or a list of these")
         _expect(query, str, "a query is a str")
         _expect(top, (Top, type(None)), "a top list is a dilforec.Top")
         self.query, self.top, self.fields = query, top, list(fields or [])
         self.names = None if fields is None else _names(fields)
-        self.by = [groups] if isinstance(groups, str) else list(groups or [])
-        self.is_list = groups is not None and not isinstance(groups, str)
+        wanted = [groups] if isinstance(groups, (str, Groups)) else list(groups or [])
+        self.by = [each.field if isinstance(each, Groups) else each for each in wanted]
+        self.limits = [each.limit if isinstance(each, Groups) else None for each in wanted] or [None]
+        self.is_list = isinstance(groups, (list, tuple))
         search: dict[str, Any] = {"query": query}
         asked: list[dict[str, Any]] = [{**search, "groups": field} for field in self.by] or [search]
+        if self.names is not None and self.limits[0] is not None:
+            asked.insert(0, search)
+            self.limits.insert(0, None)
         if top is not None:
-            asked[0]["top"] = as_json(top)
+            asked[0] = {**asked[0], "top": as_json(top)}
         self.lines = [to_line({"search": each}) for each in asked]
+
+    def expect_all_groups(self) -> None:
+        """Raises TypeError if groups have a limit: only an index and its searchers cut them."""
+        if self.limits.count(None) < len(self.limits):
+            raise TypeError("a cluster has all groups: name the field")
 
 
 class Searching:
@@ -106,28 +122,30 @@ class Searching:
         return self._channel.ask(bytes(line))
 
     @overload
-    def search(self, query: str, *, groups: Optional[str] = None, top: Optional[Top] = None,
-               fields: Optional[Sequence[str]] = None) -> Answer[Groups]: ...
+    def search(self, query: str, *, groups: Union[str, Groups, None] = None, top: Optional[Top] = None,
+               fields: Optional[Sequence[str]] = None) -> Answer[GroupCounts]: ...
 
     @overload
-    def search(self, query: str, *, groups: Union[list[str], tuple[str, ...]], top: Optional[Top] = None,
-               fields: Optional[Sequence[str]] = None) -> Answer[dict[str, Groups]]: ...
+    def search(self, query: str, *, groups: Union[list[str], list[Groups], list[GroupsBy], tuple[GroupsBy, ...]],
+               top: Optional[Top] = None, fields: Optional[Sequence[str]] = None) -> Answer[dict[str, GroupCounts]]: ...
 
-    def search(self, query: str, *, groups: Union[str, list[str], tuple[str, ...], None] = None,
+    def search(self, query: str, *, groups: Union[GroupsBy, Sequence[GroupsBy], None] = None,
                top: Optional[Top] = None, fields: Optional[Sequence[str]] = None) -> Answer[Any]:
         """How many documents a query finds, how many of each value of a field, and the first of them by another.
 
         The hits of an answer are those of `top`: without it there are none. `groups` is the name of a keyword or number
-        field, or a list of names: then `answer.groups` has a dict for each, of one commit. `fields` names the fields
-        that the documents of the hits are to have; without it they are whole, which takes time if texts are long.
+        field, `Groups` for its most frequent values alone, or a list of these: then `answer.groups` has a dict for each,
+        of one commit. `fields` names the fields that the documents of the hits are to have; without it they are whole,
+        which takes time if texts are long.
 
         TypeError if the query isn't a str; Refused if the index refuses it, as Syntax or UnknownField.
         """
         asked = SearchLines(query, groups, top, fields)
         return self._answered(asked, self._replies_to(asked))
 
-    def _replies(self, query: str, by: Sequence[str], top: Optional[Top], fields: Optional[Sequence[str]]) -> list[bytes]:
-        """The replies to a search with the groups of some fields, one for each of them, but one if there are none.
+    def _replies(self, query: str, by: Sequence[GroupsBy], top: Optional[Top],
+                 fields: Optional[Sequence[str]]) -> list[bytes]:
+        """The replies to a search with the groups of some fields: the last of them, one for each field, have the groups.
 
         They are of one commit, and the first has the top list.
         """
@@ -135,6 +153,10 @@ class Searching:
         return self._checked(asked, self._replies_to(asked))
 
     def _replies_to(self, asked: SearchLines) -> list[bytes]:
+        if not isinstance(self._channel, Channel):
+            asked.expect_all_groups()
+        elif asked.limits != [None]:
+            return self._channel.ask_each(asked.lines, asked.names, asked.limits)
         if len(asked.lines) == 1 and asked.names is None:
             return [self._channel.ask(asked.lines[0])]
         return self._channel.ask_each(asked.lines, asked.names)
@@ -150,7 +172,8 @@ class Searching:
     def _answered(self, asked: SearchLines, replies: list[bytes]) -> Answer[Any]:
         """The answer that the replies to a search are, or the exception of a refusal."""
         read = [json.loads(reply.decode()) for reply in self._checked(asked, replies)]
-        counted = [{value: count for value, count in reply.get("groups", [])} for reply in read]
+        with_groups = read[len(read) - max(1, len(asked.by)):]
+        counted = [{value: count for value, count in reply.get("groups", [])} for reply in with_groups]
         hits = tuple(Hit(hit["value"], hit["stamp"], hit["doc"], hit.get("source")) for hit in read[0].get("top", []))
         return Answer(read[0]["count"], dict(zip(asked.by, counted)) if asked.is_list else counted[0], hits)
 

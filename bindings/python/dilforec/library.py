@@ -69,6 +69,7 @@ def load(kind: type[ctypes.CDLL]) -> ctypes.CDLL:
         "dilforec_execute": ([at, text, size], code),
         "dilforec_execute_lines": ([at, text, size, at], code),
         "dilforec_execute_fields": ([at, text, size, text, size], code),
+        "dilforec_execute_groups": ([at, text, size, size], code),
         "dilforec_replace": ([at, text, size, text, size], code),
         "dilforec_reply": ([at, at, size], size),
         "dilforec_stats": ([at, at], code),
@@ -78,6 +79,7 @@ def load(kind: type[ctypes.CDLL]) -> ctypes.CDLL:
         "dilforec_searcher_again": ([at, at], code),
         "dilforec_search": ([at, text, size], code),
         "dilforec_search_fields": ([at, text, size, text, size], code),
+        "dilforec_search_groups": ([at, text, size, size], code),
         "dilforec_searcher_reply": ([at, at, size], size),
         "dilforec_searcher_stats": ([at, at], code),
         "dilforec_searcher_close": ([at], code),
@@ -217,9 +219,9 @@ class MergeHandle(Owner):
 class Channel(Owner):
     """Lines in and replies out, over one handle."""
 
-    _ask, _ask_fields, _reply, _fork, _measure = (
-        LIBRARY.dilforec_execute, LIBRARY.dilforec_execute_fields, BRIEF.dilforec_reply, BRIEF.dilforec_searcher,
-        BRIEF.dilforec_stats,
+    _ask, _ask_fields, _ask_groups, _reply, _fork, _measure = (
+        LIBRARY.dilforec_execute, LIBRARY.dilforec_execute_fields, LIBRARY.dilforec_execute_groups, BRIEF.dilforec_reply,
+        BRIEF.dilforec_searcher, BRIEF.dilforec_stats,
     )
 
     def __init__(self, opened: Callable[[int], int] = LIBRARY.dilforec_open) -> None:
@@ -247,17 +249,25 @@ class Channel(Owner):
             finally:
                 self._busy = False
 
-    def ask_each(self, lines: Sequence[bytes], names: Optional[bytes]) -> list[bytes]:
-        """The replies to several searches, between which no other thread comes; the first one's with chosen fields."""
+    def ask_each(self, lines: Sequence[bytes], names: Optional[bytes],
+                 limits: Sequence[Optional[int]] = ()) -> list[bytes]:
+        """The replies to several searches, between which no other thread comes.
+
+        The first has chosen fields, if there are names; one that has a limit has as many groups at most, and no names.
+        """
         with self.lock:
             self._check()
             try:
                 self._busy = True
                 told = []
                 for place, line in enumerate(lines):
-                    cut = names is not None and place == 0
-                    code = (self._ask_fields(self._at, line, len(line), names, len(names or b"")) if cut
-                            else self._ask(self._at, line, len(line)))
+                    limit = limits[place] if limits else None
+                    if limit is not None:
+                        code = self._ask_groups(self._at, line, len(line), limit)
+                    elif names is not None and place == 0:
+                        code = self._ask_fields(self._at, line, len(line), names, len(names))
+                    else:
+                        code = self._ask(self._at, line, len(line))
                     if code:
                         raise fault(code)
                     told.append(self._read())
@@ -359,9 +369,9 @@ class Channel(Owner):
 class Searches(Channel):
     """Searches in and replies out, over one commit. Each of them counts as the first line of a script."""
 
-    _ask, _ask_fields, _reply, _fork, _measure = (
-        LIBRARY.dilforec_search, LIBRARY.dilforec_search_fields, BRIEF.dilforec_searcher_reply,
-        BRIEF.dilforec_searcher_again, BRIEF.dilforec_searcher_stats,
+    _ask, _ask_fields, _ask_groups, _reply, _fork, _measure = (
+        LIBRARY.dilforec_search, LIBRARY.dilforec_search_fields, LIBRARY.dilforec_search_groups,
+        BRIEF.dilforec_searcher_reply, BRIEF.dilforec_searcher_again, BRIEF.dilforec_searcher_stats,
     )
     _close = LIBRARY.dilforec_searcher_close
 

@@ -9,8 +9,8 @@ Kind = Literal["text", "keyword", "u64", "i64"]
 Order = Literal["rising", "falling"]
 Value = Union[str, int, "list[str]", None]
 GroupValue = Union[str, int]
-Groups = Dict[GroupValue, int]
-G = TypeVar("G", Groups, Dict[str, Groups])
+GroupCounts = Dict[GroupValue, int]
+G = TypeVar("G", GroupCounts, Dict[str, GroupCounts])
 
 
 @dataclass(frozen=True)
@@ -51,6 +51,25 @@ class Top:
             raise ValueError(f"the order of a top list is 'rising' or 'falling', not {self.order!r}")
 
 
+@dataclass(frozen=True)
+class Groups:
+    """The values of a keyword or number field that most hits have, at most `limit`; of equal counts the lesser value.
+
+    TypeError or ValueError if the name isn't a str, or `limit` no int of at least 0.
+    """
+
+    field: str
+    limit: int
+
+    def __post_init__(self) -> None:
+        if not isinstance(self.field, str):
+            raise TypeError(f"groups are by the name of a field, not by {type(self.field).__name__}")
+        if not isinstance(self.limit, int) or isinstance(self.limit, bool):
+            raise TypeError(f"the number of groups is an int, not {type(self.limit).__name__}")
+        if not 0 <= self.limit < 1 << 64:
+            raise ValueError("the number of groups is at least 0, and less than 2**64")
+
+
 class Hit(NamedTuple):
     """A document that was found: the value that it was ordered by, its stamp, and its fields that have a value.
 
@@ -78,7 +97,8 @@ class Stats(NamedTuple):
 class Answer(Generic[G]):
     """What a search found: how many documents, how many of each group in the order of the values, and the top list.
 
-    `groups` has the number of documents by value, and, if a list of fields was asked for, such a dict for each field.
+    `groups` has the number of documents by value, and, if a list of fields was asked for, such a dict for each field;
+    with a limit, the most frequent values in the order of their counts.
     Iterating over an answer gives its hits, of which there are none without a top list.
     """
 

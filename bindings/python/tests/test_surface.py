@@ -196,6 +196,25 @@ class Calls(unittest.TestCase):
                 self.assertEqual((answer.count, list(answer)), (3, [dilforec.Hit(1, 1, {"shelf": "a"})]))
                 self.assertEqual(each.search("*", groups=[]).groups, {})
 
+    def test_most_frequent(self):
+        """Groups with a limit are the most frequent values, those of equal counts by their order."""
+        books = [{"shelf": shelf, "year": year} for shelf, year in [("b", 1), ("a", 2), ("c", 2), ("a", 3), ("b", 4)]]
+        few, top = dilforec.Groups("shelf", limit=2), dilforec.Top("year", 1)
+        with opened(*books) as index:
+            for each in index, index.searcher():
+                for limit, wanted in [(0, []), (1, [("a", 2)]), (2, [("a", 2), ("b", 2)]), (9, [("a", 2), ("b", 2), ("c", 1)])]:
+                    found = each.search("*", groups=dilforec.Groups("shelf", limit), top=top)
+                    self.assertEqual((list(found.groups.items()), found.hits[0].document), (wanted, books[0]))
+                for fields, document in [(None, books[0]), (["year"], {"year": 1})]:
+                    found = each.search("*", groups=[few, "year", dilforec.Groups("year", 1)], top=top, fields=fields)
+                    self.assertEqual((found.groups["shelf"], found.groups["year"]), ({"a": 2, "b": 2}, {2: 2}))
+                    self.assertEqual((found.count, found.hits[0].document), (5, document))
+                self.assertEqual(each.search("*", groups=few, fields=["year"]).groups, {"a": 2, "b": 2})
+                self.assertRaises(dilforec.NotANumberField, each.search, "*", groups=dilforec.Groups("title", 1))
+        self.assertRaises(TypeError, dilforec.Groups, 7, 1)
+        self.assertRaises(TypeError, dilforec.Groups, "shelf", "few")
+        self.assertRaises(ValueError, dilforec.Groups, "shelf", -1)
+
     def test_fields(self):
         """Documents have the chosen fields alone."""
         book = {"title": ["Left", "Hand"], "shelf": "a", "year": 1}

@@ -187,15 +187,22 @@ impl Index {
     /// ```
     pub fn search<'a>(&mut self, search: impl Into<Search<'a>>) -> Result<Answer, Error> {
         let search = search.into();
+        if let Some((groups, rest)) = search.apart() {
+            let groups = self.search(groups)?.groups;
+            return Ok(Answer { groups, ..self.search(rest)? });
+        }
         let (line, names) = lines_of(&search)?;
         let reply = self.reply_after(|raw| {
             let first = &line.bytes;
             // SAFETY: the handle is open until `self` is dropped, and the lines are as long as is said.
-            match &names {
-                None => unsafe { sys::dilforec_execute(raw, first.as_ptr(), first.len()) },
-                Some(Line { bytes }) => unsafe {
+            match (&names, search.limit) {
+                (Some(Line { bytes }), _) => unsafe {
                     sys::dilforec_execute_fields(raw, first.as_ptr(), first.len(), bytes.as_ptr(), bytes.len())
                 },
+                (None, Some(limit)) => unsafe {
+                    sys::dilforec_execute_groups(raw, first.as_ptr(), first.len(), limit)
+                },
+                (None, None) => unsafe { sys::dilforec_execute(raw, first.as_ptr(), first.len()) },
             }
         })?;
         Reader::new(Error::of_reply(reply).map_err(|error| error.of_query(&search.query))?).answer()
@@ -312,16 +319,21 @@ impl Searcher {
     /// Searches its commit. Refusals are of line 1.
     pub fn search<'a>(&mut self, search: impl Into<Search<'a>>) -> Result<Answer, Error> {
         let search = search.into();
+        if let Some((groups, rest)) = search.apart() {
+            let groups = self.search(groups)?.groups;
+            return Ok(Answer { groups, ..self.search(rest)? });
+        }
         let (line, names) = lines_of(&search)?;
         let first = &line.bytes;
         sys::make_room(&mut self.reply, 1)?;
         let raw = &mut self.raw;
         // SAFETY: the handle is open until `self` is dropped, and the lines are as long as is said.
-        Error::of(match &names {
-            None => unsafe { sys::dilforec_search(raw, first.as_ptr(), first.len()) },
-            Some(Line { bytes }) => unsafe {
+        Error::of(match (&names, search.limit) {
+            (Some(Line { bytes }), _) => unsafe {
                 sys::dilforec_search_fields(raw, first.as_ptr(), first.len(), bytes.as_ptr(), bytes.len())
             },
+            (None, Some(limit)) => unsafe { sys::dilforec_search_groups(raw, first.as_ptr(), first.len(), limit) },
+            (None, None) => unsafe { sys::dilforec_search(raw, first.as_ptr(), first.len()) },
         })?;
         // SAFETY: as above, of the buffer.
         let reply = sys::read(&mut self.reply, |to, room| unsafe { sys::dilforec_searcher_reply(raw, to, room) })?;

@@ -26,6 +26,7 @@ extern "C" {
         names: *const u8,
         names_length: usize,
     ) -> i32;
+    pub fn dilforec_execute_groups(index: *mut Raw, line: *const u8, length: usize, limit: usize) -> i32;
     pub fn dilforec_replace(
         index: *mut Raw,
         delete: *const u8,
@@ -47,6 +48,7 @@ extern "C" {
         names: *const u8,
         names_length: usize,
     ) -> i32;
+    pub fn dilforec_search_groups(searcher: *mut Raw, line: *const u8, length: usize, limit: usize) -> i32;
     pub fn dilforec_searcher_reply(searcher: *mut Raw, out: *mut u8, room: usize) -> usize;
     pub fn dilforec_searcher_stats(searcher: *mut Raw, stats: *mut Stats) -> i32;
     pub fn dilforec_searcher_close(searcher: *mut Raw) -> i32;

@@ -162,6 +162,8 @@ pub enum Order {
 pub struct Search<'a> {
     pub(crate) query: Cow<'a, str>,
     pub(crate) groups: Option<&'a str>,
+    /// How many of the groups are wanted at most, if not all.
+    pub(crate) limit: Option<usize>,
     pub(crate) top: Option<(&'a str, u64, Order)>,
     pub(crate) fields: Option<&'a [&'a str]>,
 }
@@ -169,12 +171,18 @@ pub struct Search<'a> {
 impl<'a> Search<'a> {
     /// How many documents a query finds. A user's words go into it by [`quoted`].
     pub fn new(query: impl Into<Cow<'a, str>>) -> Search<'a> {
-        Search { query: query.into(), groups: None, top: None, fields: None }
+        Search { query: query.into(), groups: None, limit: None, top: None, fields: None }
     }
 
     /// And how many of each value of a keyword or number field.
     pub fn groups(self, field: &'a str) -> Search<'a> {
-        Search { groups: Some(field), ..self }
+        Search { groups: Some(field), limit: None, ..self }
+    }
+
+    /// And how many of each of the values of a keyword or number field that most of them have, at most `limit` values:
+    /// the most frequent first, and of those that are as frequent the lesser.
+    pub fn most_frequent(self, field: &'a str, limit: usize) -> Search<'a> {
+        Search { groups: Some(field), limit: Some(limit), ..self }
     }
 
     /// And the first `k` of them by a number field, 1 to 10,000.
@@ -185,6 +193,16 @@ impl<'a> Search<'a> {
     /// With these fields of their documents alone.
     pub fn fields(self, names: &'a [&'a str]) -> Search<'a> {
         Search { fields: Some(names), ..self }
+    }
+
+    /// The search for groups alone and the one without groups, if one call can't do both: it has chosen fields or a
+    /// limit.
+    pub(crate) fn apart(&self) -> Option<(Search<'_>, Search<'_>)> {
+        if self.limit.is_none() || self.fields.is_none() {
+            return None;
+        }
+        let without = Search { groups: None, limit: None, top: self.top, fields: self.fields, query: (&*self.query).into() };
+        Some((Search { groups: self.groups, limit: self.limit, ..Search::new(&*self.query) }, without))
     }
 }
 
@@ -220,7 +238,7 @@ pub struct Stats {
 pub struct Answer {
     /// How many documents.
     pub count: u64,
-    /// How many of each group, in the order of the values.
+    /// How many of each group, in the order of the values; with a limit, in the order of how many.
     pub groups: Vec<(Value<'static>, u64)>,
     /// The top list.
     pub hits: Vec<Hit>,

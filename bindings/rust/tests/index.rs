@@ -259,3 +259,27 @@ fn the_deepest_query_fits_into_512_kib() -> Result<(), Error> {
     assert_eq!(thread.join().expect("no panic"), Ok(1));
     Ok(())
 }
+
+#[test]
+fn groups_may_have_a_limit() -> Result<(), Error> {
+    let mut index = Index::with_schema(&fields())?;
+    for (shelf, year) in [("b", 1), ("a", 2), ("c", 2), ("a", 3), ("b", 4)] {
+        index.add(&Document::new().with("shelf", shelf).with("year", year))?;
+    }
+    index.commit()?;
+    let mut searcher = index.searcher()?;
+    let all = [(Value::from("a"), 2), (Value::from("b"), 2), (Value::from("c"), 1)];
+    for limit in 0..4 {
+        let search = Search::new("*").most_frequent("shelf", limit).top("year", 1, Order::Rising);
+        let cut = search.clone().fields(&["year"]);
+        for answer in [index.search(search.clone())?, searcher.search(search)?] {
+            assert_eq!((answer.count, &answer.groups[..]), (5, &all[..limit]));
+            assert_eq!(answer.hits[0].document, Document::new().with("shelf", "b").with("year", 1));
+        }
+        for answer in [index.search(cut.clone())?, searcher.search(cut)?] {
+            assert_eq!((answer.count, &answer.groups[..]), (5, &all[..limit]));
+            assert_eq!(answer.hits[0].document, Document::new().with("year", 1));
+        }
+    }
+    Ok(())
+}

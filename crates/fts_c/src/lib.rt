@@ -5,9 +5,9 @@
 //! a session of its own over the last commit of another, which another thread may have, and which takes only searches.
 //! So is a merge, which another thread runs while its index goes on.
 //! A caller owes a handle that was opened or is null, and true lengths. What each call leaves, and which code it
-//! returns, is a definition of `specs/Calls.antt`, `Blocks`, `Pairs`, `CutSearches` or `Merges`, for a place that is
-//! open, and of `specs/Open.antt` or `StatsOf` for one that may be closed. One call needs no handle: it returns the
-//! byte at which a query can't be read any further (`specs/Syntaxes.antt`).
+//! returns, is a definition of `specs/Calls.antt`, `Blocks`, `Pairs`, `CutSearches`, `GroupSearches` or `Merges`, for a
+//! place that is open, and of `specs/Open.antt` or `StatsOf` for one that may be closed. One call needs no handle: it
+//! returns the byte at which a query can't be read any further (`specs/Syntaxes.antt`).
 #![tactic(auto)]
 
 ghost use Rattle.std.specs.Prelude.{◌≡◌, Option, Some, None, IfOk, MatchOption, MatchResult};
@@ -20,6 +20,7 @@ ghost use Rattle.fts_c.specs.Blocks.{ExecutesLines};
 ghost use Rattle.fts_c.specs.CutSearches.{SearchesFields};
 ghost use Rattle.fts_c.specs.Pairs.{Replaces};
 ghost use Rattle.fts_c.specs.Calls.{copied, Executes, Opens, Searches};
+ghost use Rattle.fts_c.specs.GroupSearches.{SearchesGroups};
 ghost use Rattle.fts_c.specs.Held.{held};
 ghost use Rattle.fts_c.specs.Merges.{BeginsMerge, EndsMerge, LimitsMerges, RunsMerge};
 ghost use Rattle.fts_c.specs.Open.{Closes, IfOpen, OpensSearcher, TellsIfOpen};
@@ -274,6 +275,22 @@ pub extern "C" fn dilforec_execute_fields(
     answer(slot, alloc, Call::SearchFields(line, names))
 }
 
+/// Answers a search of the last commit, with the most frequent groups alone, at most `limit`: those of the greatest
+/// counts first, those of equal counts by their values. Another command is refused as `BadCommand`. The line isn't
+/// counted. The codes are those of `dilforec_execute`.
+#[unsafe(no_mangle)]
+pub extern "C" fn dilforec_execute_groups(
+    slot: &mut Slot,
+    alloc: Global,
+    line: &[u8],
+    limit: usize,
+) -> i32
+    ensures { IfOpen slot.old.state slot.new.state result
+        (λ old new. SearchesGroups old line.now limit new result) }
+{
+    answer(slot, alloc, Call::SearchGroups(line, limit))
+}
+
 /// Copies bytes if they fit.
 fn copy(bytes: &[u8], out: &mut [u8])
     ensures { out.new ≡ copied bytes.now out.old }
@@ -504,6 +521,20 @@ pub extern "C" fn dilforec_search_fields(
         (λ old new. SearchesFields old line.now names.now new result) }
 {
     answer(searcher, alloc, Call::SearchFields(line, names))
+}
+
+/// Answers a search with the most frequent groups alone, as `dilforec_execute_groups` does, over the searcher's commit.
+#[unsafe(no_mangle)]
+pub extern "C" fn dilforec_search_groups(
+    searcher: &mut Slot,
+    alloc: Global,
+    line: &[u8],
+    limit: usize,
+) -> i32
+    ensures { IfOpen searcher.old.state searcher.new.state result
+        (λ old new. SearchesGroups old line.now limit new result) }
+{
+    answer(searcher, alloc, Call::SearchGroups(line, limit))
 }
 
 /// The reply to the last search, as by `dilforec_reply`.

@@ -4,6 +4,7 @@ ghost use Rattle.fts_c.specs.Blocks.{ExecutesLines, ExecutesNext};
 ghost use Rattle.fts_c.specs.Answers.{Answers};
 ghost use Rattle.fts_c.specs.Calls.{Executes, Searches};
 ghost use Rattle.fts_c.specs.CutSearches.{SearchesFields};
+ghost use Rattle.fts_c.specs.GroupSearches.{SearchesGroups};
 ghost use Rattle.fts_c.specs.Codes.{IsFault, IsTried};
 ghost use Rattle.fts_c.specs.Merges.{EndsMerge, LimitsMerges, NotBegun, RunsMerge};
 ghost use Rattle.fts_c.specs.Pairs.{AreTried, IsFaultOfTwo, Replaces};
@@ -43,6 +44,8 @@ pub(crate) enum Call<'a> {
     Search(&'a [u8]),
     /// Answers a search, cut to the fields that another line lists.
     SearchFields(&'a [u8], &'a [u8]),
+    /// Answers a search with so many groups at most, the most frequent ones.
+    SearchGroups(&'a [u8], usize),
     /// Limits what commits merge.
     LimitMerges(Option<u32>),
     /// Runs the merge that is here.
@@ -185,6 +188,23 @@ impl State {
         code_of(found)
     }
 
+    /// Answers a search with the most frequent groups alone.
+    pub(crate) fn search_groups(&mut self, alloc: Global, line: &[u8], limit: usize) -> i32
+        ensures { SearchesGroups self.old line.now limit self.new result }
+    {
+        self.forget();
+        if let Err(code) = self.check(line) {
+            return code;
+        }
+        if is_blank(line) {
+            return OK;
+        }
+        let found = self
+            .session
+            .find_frequent(&((), alloc), line, limit, &mut self.reply);
+        code_of(found)
+    }
+
     /// The size of the index.
     pub(crate) fn stats(&self) -> Stats
         ensures { AreStatsOf self.now.session.index result }
@@ -279,6 +299,7 @@ impl State {
             Call::Replace(delete, add) => self.replace(alloc, delete, add),
             Call::Search(line) => self.search(alloc, line),
             Call::SearchFields(line, names) => self.search_fields(alloc, line, names),
+            Call::SearchGroups(line, limit) => self.search_groups(alloc, line, limit),
             Call::LimitMerges(limit) => self.limit_merges(limit),
             Call::RunMerge => self.run_merge(alloc),
             Call::EndMerge => self.end_merge(),

@@ -8,4 +8,5 @@ pub mod HistoryLemmas
 pub mod LineLemmas
 pub mod ReplaceLemmas
 pub mod ResultLemmas
+pub mod SortLemmas
 pub mod WhiteLemmas

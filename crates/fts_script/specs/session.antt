@@ -1,5 +1,6 @@
 pub mod CutSearches
 pub mod Finds
+pub mod GroupSearches
 pub mod KeptLines
 pub mod Outputs
 pub mod Replaces

@@ -6,6 +6,7 @@
 mod blank;
 mod commands;
 mod cut_search;
+mod group_search;
 pub mod laws;
 mod maintenance;
 mod replace;

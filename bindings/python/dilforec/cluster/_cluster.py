@@ -24,7 +24,7 @@ from dilforec.cluster._searches import Joined
 from dilforec.cluster._sources import JsonLines, Source
 from dilforec.index import Searcher, Searching, SearchLines
 from dilforec.library import Closed
-from dilforec.values import Answer, Field, Groups, Top
+from dilforec.values import Answer, Field, GroupCounts, Top
 
 # Seconds between the tries to have all workers answer searches.
 PAUSES = (0.1, 0.5, 2.0)
@@ -47,7 +47,9 @@ class Search:
     fields: Optional[Sequence[str]] = None
 
     def lines(self) -> SearchLines:
-        return SearchLines(self.query, self.groups, self.top, self.fields)
+        asked = SearchLines(self.query, self.groups, self.top, self.fields)
+        asked.expect_all_groups()
+        return asked
 
 
 class Cluster(Searching):
@@ -139,13 +141,13 @@ class Cluster(Searching):
 
     @overload
     def search(self, query: str, *, groups: Optional[str] = None, top: Optional[Top] = None,
-               fields: Optional[Sequence[str]] = None, timeout: Optional[float] = None) -> Answer[Groups]: ...
+               fields: Optional[Sequence[str]] = None, timeout: Optional[float] = None) -> Answer[GroupCounts]: ...
 
     @overload
     def search(
         self, query: str, *, groups: Union[list[str], tuple[str, ...]], top: Optional[Top] = None,
         fields: Optional[Sequence[str]] = None, timeout: Optional[float] = None,
-    ) -> Answer[dict[str, Groups]]: ...
+    ) -> Answer[dict[str, GroupCounts]]: ...
 
     def search(self, query: str, *, groups: Union[str, list[str], tuple[str, ...], None] = None,
                top: Optional[Top] = None, fields: Optional[Sequence[str]] = None,

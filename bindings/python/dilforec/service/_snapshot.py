@@ -8,11 +8,10 @@ from typing import Any, NamedTuple, Optional
 
 from dilforec import values
 from dilforec.index import Searcher, to_line
-from dilforec.service._groups import most_frequent
 from dilforec.service._lines import Key
 from dilforec.service._lookups import key_query
 from dilforec.service._top import After, TopList
-from dilforec.values import Field, Groups, Stats, Top
+from dilforec.values import Field, GroupCounts, Groups, Stats, Top
 
 
 class Hit(NamedTuple):
@@ -32,7 +31,7 @@ class Answer:
     """
 
     count: int
-    groups: "dict[str, Groups]"
+    groups: "dict[str, GroupCounts]"
     hits: "tuple[Hit, ...]"
     commit: int
 
@@ -99,12 +98,10 @@ class Snapshot:
         """
         wanted, groups = self._top_list(query, groups, top, fields, after), list(dict.fromkeys(groups))
         asked = wanted.asked if after is None else None
-        replies = [_taken_apart(it) for it in self._searcher._replies(query, groups, asked, wanted.fields)]
-        told = [
-            most_frequent(reply.groups, most[name]) if most and name in most else reply.groups
-            for name, reply in zip(groups, replies)
-        ]
-        counted = b",".join(to_line(name) + b":" + each for name, each in zip(groups, told))
+        by = [Groups(name, most[name]) if most and name in most else name for name in groups]
+        replies = [_taken_apart(it) for it in self._searcher._replies(query, by, asked, wanted.fields)]
+        told = replies[len(replies) - len(groups):]
+        counted = b",".join(to_line(name) + b":" + each.groups for name, each in zip(groups, told))
         hits = wanted.first(replies[0].found_hits()) if after is None else wanted.rest(after)
         return b'{"count":%b,"groups":{%b},"hits":%b,"commit":%d}\n' % (
             replies[0].found, counted, to_line([_hit(hit, fields)._asdict() for hit in hits]), self.commit,

@@ -7,12 +7,14 @@ ghost use Rattle.fts_script.specs.session.Outputs.{start, after_line, reply_to};
 ghost use Rattle.fts_script.specs.command.Commands.{longest};
 ghost use Rattle.fts_script.specs.session.CutSearches.{reply_to_cut_search};
 ghost use Rattle.fts_script.specs.session.Replaces.{after_replace, reply_to_replace};
+ghost use Rattle.fts_script.specs.session.GroupSearches.{reply_to_group_search};
 ghost use Rattle.fts_script.specs.session.KeptLines.{TooLong, after_kept, reply_to_kept};
 ghost use Rattle.fts_script.specs.session.Sessions.{Appends, ChangesAtMost, IsAnswerable};
 
 use crate::session::blank::is_blank;
 use crate::session::commands::{answer_find, answer_whole};
 use crate::session::cut_search::answer_find_cut;
+use crate::session::group_search::answer_find_frequent;
 use crate::session::maintenance::Maintenance;
 use crate::session::replace::answer_replace;
 use crate::session::reply::Reply;
@@ -179,6 +181,25 @@ impl<E: Engine> Session<E> {
             (reply_to_cut_search self.old line.now names.now) }
     {
         answer_find_cut(rt, &mut self.index, self.number + 1, line, names, out)
+    }
+
+    /// Replies to a search as `find` does, with the most frequent groups alone, at most so many: those of the greatest
+    /// counts first, those of equal counts by their values.
+    pub fn find_frequent<R: AllocGlobal + Sync>(
+        &mut self,
+        rt: &R,
+        line: &[u8],
+        limit: usize,
+        out: &mut String,
+    ) -> Result<(), AllocError>
+    where
+        E: EngineOver<R>,
+        requires { IsAnswerable self.old line.now }
+        ensures same { self.new ≡ self.old }
+        ensures reply { Appends result (string_bytes out.old) (string_bytes out.new)
+            (reply_to_group_search self.old line.now limit) }
+    {
+        answer_find_frequent(rt, &mut self.index, self.number + 1, line, limit, out)
     }
 
     /// A session before its first line, over a fork of the index at its last commit.
