@@ -22,9 +22,9 @@ from dilforec.cluster._responder import ResponderPlugin
 from dilforec.cluster._rounds import Rounds
 from dilforec.cluster._searches import Joined
 from dilforec.cluster._sources import JsonLines, Source
-from dilforec.index import Searcher, Searching, SearchLines
+from dilforec.index import GroupsBy, Searcher, Searching, SearchLines
 from dilforec.library import Closed
-from dilforec.values import Answer, Field, GroupCounts, Top
+from dilforec.values import Answer, Field, GroupCounts, Groups, Top
 
 # Seconds between the tries to have all workers answer searches.
 PAUSES = (0.1, 0.5, 2.0)
@@ -42,7 +42,7 @@ class Search:
     """One of the searches of `Cluster.search_many`, with what `Cluster.search` takes."""
 
     query: str
-    groups: Union[str, list[str], tuple[str, ...], None] = None
+    groups: Union[GroupsBy, Sequence[GroupsBy], None] = None
     top: Optional[Top] = None
     fields: Optional[Sequence[str]] = None
 
@@ -140,19 +140,22 @@ class Cluster(Searching):
         return [refusal for each in summaries if each for refusal in each.refusals]
 
     @overload
-    def search(self, query: str, *, groups: Optional[str] = None, top: Optional[Top] = None,
+    def search(self, query: str, *, groups: Union[str, Groups, None] = None, top: Optional[Top] = None,
                fields: Optional[Sequence[str]] = None, timeout: Optional[float] = None) -> Answer[GroupCounts]: ...
 
     @overload
     def search(
-        self, query: str, *, groups: Union[list[str], tuple[str, ...]], top: Optional[Top] = None,
-        fields: Optional[Sequence[str]] = None, timeout: Optional[float] = None,
+        self, query: str, *, groups: Union[list[str], list[Groups], list[GroupsBy], tuple[GroupsBy, ...]],
+        top: Optional[Top] = None, fields: Optional[Sequence[str]] = None, timeout: Optional[float] = None,
     ) -> Answer[dict[str, GroupCounts]]: ...
 
-    def search(self, query: str, *, groups: Union[str, list[str], tuple[str, ...], None] = None,
+    def search(self, query: str, *, groups: Union[GroupsBy, Sequence[GroupsBy], None] = None,
                top: Optional[Top] = None, fields: Optional[Sequence[str]] = None,
                timeout: Optional[float] = None) -> Answer[Any]:
-        """As an index's `search`. TimeoutError if it isn't answered within `timeout` seconds."""
+        """As an index's `search`, with all groups of a field: TypeError for `Groups` with a limit.
+
+        TimeoutError if it isn't answered within `timeout` seconds.
+        """
         return self.search_many([Search(query, groups, top, fields)], timeout=timeout)[0]
 
     def search_many(
