@@ -2,6 +2,7 @@
 """Times searches of `fts run` beside hand-written loops, CRoaring, FTS5, Lucene, Xapian and Groonga, with and without deleted documents.
 
     python3 bench/floor.py [--documents N] [--searches N] [--only NAMES] [--instructions] [--picture FILE]
+    python3 bench/floor.py --before PROGRAM [--documents N] [--searches N] [--passes N]
 
 Build the program first (README.md), or name it in $FTS; this builds bench/peers by g++ and javac. What isn't installed is left out with a
 sentence, and counted. All programs are in one run: for each kind of search each is asked in turn, in several passes over all kinds, and its
@@ -9,6 +10,9 @@ least time counts. Every answer is compared with that of the others. Prints micr
 `fts run` and Groonga, with all documents live and again with a tenth of them deleted; then their ratios to the loops and to CRoaring beside
 the goals, and which fall short. With --instructions it runs `fts run` and the loops under Valgrind's callgrind instead, and prints thousands of
 instructions a search, which other work on the machine doesn't change. With --picture it draws the times by matplotlib as an SVG.
+
+With --before it compares two builds of `fts` alone, by turns: the one above and an earlier one. Its table ends with how many times as long a search
+of each kind takes as before.
 
 bench/report.py writes the same into docs/MEASURED.md. bench/corpus.py describes the documents, bench/searches.py the searches.
 """
@@ -23,7 +27,7 @@ import corpus
 import floor_instructions
 import indexes
 import searches
-from floor_table import HOW, draw, shown
+from floor_table import HOW, beside_before, draw, shown
 from indexes import Index
 from searches import Search
 
@@ -65,24 +69,28 @@ class Comparison:
         self.compared += len(answers)
 
 
-def compared(asked: Sequence[Index], drawn: dict[str, list[Search]]) -> Comparison:
+def compared(asked: Sequence[Index], drawn: dict[str, list[Search]], passes: int) -> Comparison:
     comparison = Comparison(asked, drawn)
-    for _ in range(PASSES):
+    for _ in range(passes):
         comparison.one_pass()
     return comparison
 
 
-def measure(count: int = 100_000, each: int = 200, names: Sequence[str] = indexes.NAMES) -> dict[str, Any]:
-    """The raw results, which `floor_table` shows: microseconds a search by condition, kind and program, and what is told beside."""
+def measure(count: int = 100_000, each: int = 200, names: Sequence[str] = indexes.NAMES, before: pathlib.Path | None = None,
+            passes: int = PASSES) -> dict[str, Any]:
+    """The raw results, which `floor_table` shows: microseconds a search by condition, kind and program, and what is told beside. With an earlier
+    build of `fts`, it is asked beside the others."""
     documents = list(corpus.documents(count))
     prices, numbers = corpus.doomed(documents)
     drawn = searches.drawn(count, each)
     with tempfile.TemporaryDirectory(dir=indexes.SHARED) as folder:
         asked, left_out = indexes.gathered(documents, folder, names)
-        live = compared(asked, drawn)
+        if before:
+            asked.append(indexes.Fts(documents, name=indexes.BEFORE, program=before))
+        live = compared(asked, drawn, passes)
         for index in asked:
             index.delete(prices, numbers)
-        deleted = compared(asked, drawn)
+        deleted = compared(asked, drawn, passes)
         for index in asked:
             index.end()
     return {
@@ -100,7 +108,12 @@ def main() -> None:
     arguments.add_argument("--only", default=",".join(indexes.NAMES), help="names of programs, with commas between")
     arguments.add_argument("--instructions", action="store_true")
     arguments.add_argument("--picture", type=pathlib.Path)
+    arguments.add_argument("--before", type=pathlib.Path, metavar="PROGRAM", help="an earlier build of fts")
+    arguments.add_argument("--passes", type=int, default=PASSES)
     given = arguments.parse_args()
+    if given.before:
+        print(beside_before(measure(given.documents, given.searches, (indexes.FTS,), given.before, given.passes)))
+        return
     if given.instructions:
         print(floor_instructions.shown(floor_instructions.measure(given.documents, given.searches)))
         return

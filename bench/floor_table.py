@@ -2,10 +2,11 @@
 from __future__ import annotations
 
 import pathlib
+import statistics
 from typing import Any, NamedTuple
 
 import picture
-from indexes import BITMAPS, FTS, PACKED, PLAIN
+from indexes import BEFORE, BITMAPS, FTS, PACKED, PLAIN
 
 Rows = dict[str, dict[str, float]]
 
@@ -105,7 +106,8 @@ PROGRAMS = """|program|what it is|
 |packed lists|the same loops over lists that are packed in blocks, as ours are|
 |CRoaring|compressed bitmaps, one for each word; they have no positions, so no phrases|
 |FTS5|the full-text index of SQLite, through Python|
-|Lucene|with a heap of its own in Java; its query cache and its shortcut for counts are off|
+|Lucene|in Java, with a heap of its own; each search is carried out|
+|Lucene as shipped|with its query cache, which holds what was asked before, and its shortcut for counts|
 |Xapian, Groonga|full-text engines in C and C++|"""
 
 DIFFERENT = """Some kinds of search have more than one number in the appendix, since not the same is measured:
@@ -139,6 +141,16 @@ def shown(raw: dict[str, Any]) -> str:
             "To build and commit the documents took `fts run` {seconds:.2f} s of processor time and left {committed:.0f} MB resident, and "
             "{merged:.0f} MB after a merge into one segment.".format(**raw["built"]))
     return "\n\n".join(parts)
+
+
+def beside_before(raw: dict[str, Any]) -> str:
+    """A table of the times of two builds and their ratios, with a row of the ratios' geometric mean for each condition."""
+    rows = []
+    for condition, heading in HEADINGS.items():
+        ratios = {kind: row[FTS] / row[BEFORE] for kind, row in raw[condition].items()}
+        rows += [[heading, kind, number(row[BEFORE]), number(row[FTS]), f"{ratios[kind]:.3f}"] for kind, row in raw[condition].items()]
+        rows.append([heading, "all kinds", "–", "–", f"{statistics.geometric_mean(ratios.values()):.3f}"])
+    return table(["", "microseconds a search", "before", "now", "times"], rows)
 
 
 def draw(raw: dict[str, Any], file: pathlib.Path) -> None:

@@ -10,6 +10,7 @@ import pathlib
 import re
 import shutil
 import sqlite3
+from functools import partial
 from typing import Callable, Iterable, NamedTuple, Sequence
 
 import corpus
@@ -27,7 +28,8 @@ JARS = [*glob.glob("/usr/share/java/lucene-core-*.jar"), *glob.glob("/usr/share/
 # compiled as it runs, so it has more.
 ROUNDS, MORE_ROUNDS, SECONDS = 2, 10, 0.3
 
-FTS, PLAIN, PACKED, BITMAPS = "fts", "plain arrays", "packed lists", "CRoaring"
+FTS, BEFORE, PLAIN, PACKED, BITMAPS = "fts", "fts before", "plain arrays", "packed lists", "CRoaring"
+LUCENE, SHIPPED = "Lucene", "Lucene as shipped"
 
 
 class Index:
@@ -80,12 +82,12 @@ def documents_as_lines(documents: Iterable[corpus.Document]) -> list[str]:
 
 class Fts(Index):
     """`fts run`, with the documents in one segment. What it took to get there is in `built`."""
-    name = FTS
     lacks = frozenset()
     end_of_batch: list[str] = []
 
-    def __init__(self, documents: Iterable[corpus.Document], *guard: str) -> None:
-        self.session = Session(*guard, PROGRAM, "run")
+    def __init__(self, documents: Iterable[corpus.Document], *guard: str, name: str = FTS, program: pathlib.Path = PROGRAM) -> None:
+        self.name = name
+        self.session = Session(*guard, program, "run")
         lines = documents_as_lines(documents)
         micros = self.session.ask(lines, len(lines))[1]
         committed = self.session.resident()
@@ -138,12 +140,14 @@ class Fts5(Index):
 
 
 class Lucene(Index):
-    name = "Lucene"
+    """Lucene: each search carried out, or as it is shipped, with its query cache and its shortcut for counts."""
 
-    def __init__(self, documents: Iterable[corpus.Document], folder: str) -> None:
+    def __init__(self, name: str, documents: Iterable[corpus.Document], folder: str) -> None:
+        self.name = name
         self.version = re.findall(r"[\d.]+\d", pathlib.Path(JARS[0]).stem)[-1]
         run("javac", "-cp", ":".join(JARS), "-d", folder, PEERS / "Lucene.java")
-        super().__init__(documents, "java", "-Xmx6g", "-cp", ":".join([folder, *JARS]), "Lucene", str(MORE_ROUNDS), str(SECONDS))
+        form = "shipped" if name == SHIPPED else "plain"
+        super().__init__(documents, "java", "-Xmx6g", "-cp", ":".join([folder, *JARS]), "Lucene", str(MORE_ROUNDS), str(SECONDS), form)
 
     def line(self, search: Search) -> str:
         return searches.tabbed(search)
@@ -193,6 +197,10 @@ def has_bitmaps() -> bool:
     return succeeds("g++", "-fsyntax-only", "-x", "c++", "-include", "roaring/roaring.h", "/dev/null")
 
 
+def has_lucene() -> bool:
+    return bool(shutil.which("javac")) and len(JARS) == 2
+
+
 def loops(folder: str) -> str:
     """The program of the loops, with CRoaring if that is installed."""
     program = f"{folder}/loops"
@@ -211,7 +219,7 @@ WANTED = (
     Wanted(PACKED, lambda: bool(shutil.which("g++")), "there is no g++", looped(PACKED)),
     Wanted(BITMAPS, has_bitmaps, "it isn't installed (Debian: libroaring-dev, and g++)", looped(BITMAPS)),
     Wanted("FTS5", fts5.is_there, "Python's SQLite has none", lambda documents, folder: Fts5(documents)),
-    Wanted("Lucene", lambda: bool(shutil.which("javac")) and len(JARS) == 2, "it isn't installed (Debian: liblucene8-java and a JDK)", Lucene),
+    *(Wanted(name, has_lucene, "it isn't installed (Debian: liblucene8-java and a JDK)", partial(Lucene, name)) for name in (LUCENE, SHIPPED)),
     Wanted("Xapian", lambda: succeeds("xapian-config", "--version"), "it isn't installed (Debian: libxapian-dev, and g++)", Xapian),
     Wanted("Groonga", lambda: succeeds("pkg-config", "--exists", "groonga"), "it isn't installed (Debian: libgroonga-dev, pkg-config and g++)", Groonga),
 )

@@ -158,14 +158,21 @@ public class Lucene {
         return all.build();
     }
 
-    private static void answer(IndexSearcher searcher, String line, StringBuilder out) throws java.io.IOException {
+    private static int count(IndexSearcher searcher, Query query, boolean isShipped) throws java.io.IOException {
+        if (isShipped) {
+            return searcher.count(query);
+        }
+        TotalHitCountCollector count = new TotalHitCountCollector();
+        searcher.search(query, count);
+        return count.getTotalHits();
+    }
+
+    private static void answer(IndexSearcher searcher, String line, boolean isShipped, StringBuilder out) throws java.io.IOException {
         String[] parts = line.split("\t", -1);
         Query query = query(parts[0], parts[2].split(" "));
         String[] asked = parts[1].split(" ");
         if (asked[0].equals("count")) {
-            TotalHitCountCollector count = new TotalHitCountCollector();
-            searcher.search(query, count);
-            out.append(count.getTotalHits());
+            out.append(count(searcher, query, isShipped));
         } else if (asked[0].equals("groups")) {
             Groups groups = asked[1].equals("temp") ? new Temps() : new Tags();
             searcher.search(query, groups);
@@ -186,15 +193,18 @@ public class Lucene {
         return new IndexWriterConfig(new WhitespaceAnalyzer()).setRAMBufferSizeMB(512);
     }
 
-    /** What is there now. Each search is carried out, as each of `fts` is. */
-    private static IndexSearcher searcher(Directory directory) throws java.io.IOException {
+    /** What is there now. Unless Lucene is to be as it is shipped, each search is carried out, as each of `fts` is. */
+    private static IndexSearcher searcher(Directory directory, boolean isShipped) throws java.io.IOException {
         IndexSearcher searcher = new IndexSearcher(DirectoryReader.open(directory));
-        searcher.setQueryCache(null);
+        if (!isShipped) {
+            searcher.setQueryCache(null);
+        }
         return searcher;
     }
 
     /** Answers the searches and tells the least nanoseconds of processor time of several rounds, as many as `seconds` leave time for. */
-    private static void ask(IndexSearcher searcher, List<String> searches, int rounds, double seconds) throws java.io.IOException {
+    private static void ask(IndexSearcher searcher, List<String> searches, boolean isShipped, int rounds, double seconds)
+            throws java.io.IOException {
         var threads = ManagementFactory.getThreadMXBean();
         long least = Long.MAX_VALUE;
         long all = 0;
@@ -203,7 +213,7 @@ public class Lucene {
             out.setLength(0);
             long from = threads.getCurrentThreadCpuTime();
             for (String search : searches) {
-                answer(searcher, search, out);
+                answer(searcher, search, isShipped, out);
             }
             long took = threads.getCurrentThreadCpuTime() - from;
             least = Math.min(least, took);
@@ -217,6 +227,7 @@ public class Lucene {
     public static void main(String[] arguments) throws Exception {
         int rounds = Integer.parseInt(arguments[0]);
         double seconds = Double.parseDouble(arguments[1]);
+        boolean isShipped = arguments[2].equals("shipped");
         var directory = new ByteBuffersDirectory();
         var writer = new IndexWriter(directory, config());
         IndexSearcher searcher = null;
@@ -242,9 +253,9 @@ public class Lucene {
                     }
                     writer.close();
                     writer = null;
-                    searcher = searcher(directory);
+                    searcher = searcher(directory, isShipped);
                 }
-                ask(searcher, searches, rounds, seconds);
+                ask(searcher, searches, isShipped, rounds, seconds);
                 searches.clear();
             }
         }
