@@ -131,7 +131,8 @@ def shown(raw: dict[str, Any]) -> str:
         parts += [f"**{heading}**", times(raw[condition], list(raw["programs"]))]
         if FTS in raw["programs"]:
             parts.append(ratios(raw[condition], GOALS[condition]))
-    if raw["built"]:
+    # Of 100,000 documents the part `builds` has this.
+    if raw["built"] and raw["documents"] > 100_000:
         parts.append(
             "To build and commit the documents took `fts run` {seconds:.2f} s of processor time and left {committed:.0f} MB resident, and "
             "{merged:.0f} MB after a merge into one segment.".format(**raw["built"]))
