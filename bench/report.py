@@ -196,15 +196,18 @@ def section(part: Part) -> str:
 def conditions(there: list[Part]) -> str:
     """How each part was measured, as a table; and what isn't as usual."""
     rows = []
-    others = []
+    others: dict[str, list[str]] = {}
     for part in there:
         told = kept(part)
         program = told["program"].split()[0] if told["program"] else "–"
         anchor = re.sub(r"[^\w\- ]", "", part.title.lower()).replace(" ", "-")
         rows.append([f"[{part.name}](#{anchor})", told["commit"], program, told["date"].replace(" UTC", "").replace(" ", "T"), str(told["seconds"]),
                      f"{told['load'][0]:.1f}"])
-        others += [f"{part.name} {each}" for each in where(part).split("; ") if each not in usual().split("; ")]
-    unusual = f"\n\nElsewhere: {'; '.join(others)}." if others else ""
+        for each in where(part).split("; "):
+            if each not in usual().split("; "):
+                others.setdefault(each, []).append(part.name)
+    places = "; ".join(f"{', '.join(names)} {each}" for each, names in others.items())
+    unusual = f"\n\nElsewhere: {places}." if others else ""
     return floor_table.table(["part", "commit", "program", "UTC", "seconds", "load"], rows) + unusual
 
 
