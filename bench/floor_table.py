@@ -94,30 +94,27 @@ def ratios(rows: Rows, goals: dict[str, Goal]) -> str:
 
 
 HOW = (
-    "Microseconds of processor time a search: the least of several rounds, in which each program has its turn. The index is one segment. `fts run`, "
-    "the loops, CRoaring, Xapian and Groonga take lines of JSON by a pipe, and the time is that of the whole process; `fts run` and Groonga answer in "
-    "JSON. FTS5 is called through Python, and its top lists come without the number of hits. Lucene's time is that of the thread that searches, once "
-    "its code is compiled. A goal is a ratio that was set beforehand: what `fts run` was to take, by what the column took then. A ratio over its goal is bold.")
+    "A time is the microseconds of processor time of a search: the least of several rounds, in which each program has its turn. The index is one "
+    "segment. `fts run`, the loops, CRoaring, Xapian and Groonga take lines of JSON by a pipe, and the time is that of the whole process; `fts run` "
+    "and Groonga answer in JSON. FTS5 is called through Python, and its top lists come without the number of hits. Lucene's time is that of the thread "
+    "that searches, once its code is compiled. A goal is a ratio that was set beforehand; a ratio over its goal is bold.")
 
 PROGRAMS = """|program|what it is|
 |---|---|
 |fts|`fts run`, or the library where a table says so|
-|plain arrays|loops in C++ over each word's list of documents, as 32-bit numbers: what could be had at best without packing|
-|packed lists|the same loops over lists that are packed in blocks, as ours are|
+|plain arrays|loops in C++ over each word's list of documents, as 32-bit numbers: the best that could be had without packing|
+|packed lists|loops over lists that are packed in blocks, as ours are|
 |CRoaring|compressed bitmaps, one for each word; they have no positions, so no phrases|
-|FTS5|the full-text index of SQLite, through Python|
+|FTS5|the full-text index of SQLite|
 |Lucene|in Java, with a heap of its own; each search is carried out|
 |Lucene as shipped|with its query cache, which holds what was asked before, and its shortcut for counts|
 |Xapian, Groonga|full-text engines in C and C++|"""
 
-DIFFERENT = """Some kinds of search have more than one number in the appendix, since not the same is measured:
-
-|where|a term, µs|what differs|
-|---|---|---|
-|[searches](MEASURED-ALL.md#searches-of-100000-documents)|{searches}|each of the 200 most frequent words as often, one segment, the least of several rounds|
-|[inside another program](MEASURED-ALL.md#inside-another-program)|{embedding}|words as often as documents have them, so mostly the most frequent; two segments|
-|[without a script](MEASURED-ALL.md#searches-without-a-script)|{collecting}|words as often as documents have them; by the clock, and every block is opened|
-|[scripts, by the clock](MEASURED-ALL.md#scripts-by-the-clock)|{scripts}|words as often as documents have them; by the clock, with the waits for the pipe|"""
+DIFFERENT = (
+    "Some kinds of search have several numbers in the appendix. [Searches](MEASURED-ALL.md#searches-of-100000-documents) ask for each of the 200 "
+    "most frequent words as often. [Inside another program](MEASURED-ALL.md#inside-another-program) words come as often as documents have them, so "
+    "mostly the most frequent, from two segments. [Without a script](MEASURED-ALL.md#searches-without-a-script) and "
+    "[in scripts](MEASURED-ALL.md#scripts-by-the-clock) the time is by the clock; the one opens every block, the other waits for the pipe.")
 
 
 def opening(raw: dict[str, Any]) -> str:
@@ -136,7 +133,8 @@ def shown(raw: dict[str, Any]) -> str:
         parts += [f"**{heading}**", times(raw[condition], list(raw["programs"]))]
         if FTS in raw["programs"]:
             parts.append(ratios(raw[condition], GOALS[condition]))
-    if raw["built"]:
+    # Of 100,000 documents the part `builds` has this.
+    if raw["built"] and raw["documents"] > 100_000:
         parts.append(
             "To build and commit the documents took `fts run` {seconds:.2f} s of processor time and left {committed:.0f} MB resident, and "
             "{merged:.0f} MB after a merge into one segment.".format(**raw["built"]))

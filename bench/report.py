@@ -46,6 +46,8 @@ WIDTH = 140
 QUIET = 1.0
 # Of the scripts that were made to be slow, those are shown that take more than so many times as long as a plain one.
 SLOW = 4
+# Rows with these words are left out, since another part measures them.
+ADDS = " commits of one add"
 
 
 class Part(NamedTuple):
@@ -74,12 +76,13 @@ def printed(name: str, title: str, *command: str, asks_program: bool = True, sho
 
 
 def slow(told: str) -> str:
-    """Of a table whose last column says how many times as long something takes, the rows with more than SLOW."""
-    lines = told.strip().splitlines()
+    """The rows with more than SLOW of a table whose last column says how many times as long something takes, without those of ADDS."""
+    lines = [line for line in told.strip().splitlines() if ADDS not in line]
     rows = [line for line in lines if re.search(r"\|[\d.]+( \([^|]*\))?\|$", line)]
     fast = [row for row in rows if float(row.split("|")[-2].split()[0]) <= SLOW]
     left = [line for line in lines if line not in fast]
-    return "\n".join(left) + f"\n\n{len(fast)} more scripts take at most {SLOW} times as long as what is beside them."
+    rest = f"{len(fast)} more scripts take at most {SLOW} times as long as what is beside them."
+    return "\n".join(left) + f"\n\n{rest} Commits of one add are measured with [updates by a key](#updates-by-a-key)."
 
 
 LOOPS = ("fts", "plain arrays", "packed lists", "CRoaring")
@@ -193,15 +196,18 @@ def section(part: Part) -> str:
 def conditions(there: list[Part]) -> str:
     """How each part was measured, as a table; and what isn't as usual."""
     rows = []
-    others = []
+    others: dict[str, list[str]] = {}
     for part in there:
         told = kept(part)
         program = told["program"].split()[0] if told["program"] else "–"
         anchor = re.sub(r"[^\w\- ]", "", part.title.lower()).replace(" ", "-")
         rows.append([f"[{part.name}](#{anchor})", told["commit"], program, told["date"].replace(" UTC", "").replace(" ", "T"), str(told["seconds"]),
                      f"{told['load'][0]:.1f}"])
-        others += [f"{part.name} {each}" for each in where(part).split("; ") if each not in usual().split("; ")]
-    unusual = f"\n\nElsewhere: {'; '.join(others)}." if others else ""
+        for each in where(part).split("; "):
+            if each not in usual().split("; "):
+                others.setdefault(each, []).append(part.name)
+    places = "; ".join(f"{', '.join(names)} {each}" for each, names in others.items())
+    unusual = f"\n\nElsewhere: {places}." if others else ""
     return floor_table.table(["part", "commit", "program", "UTC", "seconds", "load"], rows) + unusual
 
 
@@ -211,7 +217,7 @@ def introduction() -> str:
     return f"""# What was measured
 
 For those who choose an index or plan a machine: how fast Dilforec is and how much memory it takes, beside SQLite's FTS5 and Lucene. `python3
-bench/report.py` measures all this and writes the page; [every table](MEASURED-ALL.md) is in the appendix.
+bench/report.py` writes this page, and [every table](MEASURED-ALL.md) in the appendix.
 
 {summary.shown(kept_by_name)}
 
@@ -221,8 +227,8 @@ Lower is better, except in the first row and the last two. Unless a part says ot
 
 {summary.meanings(kept_by_name)}
 
-A µs is a millionth of a second of processor time: one thread makes 100,000 searches of 10 µs a second. A load is how many processes ran or waited to run in the minute before. From 1 on, times are longer than on a quiet machine,
-and a ratio of two columns says more than either.
+A µs is a millionth of a second of processor time. A load is how many processes ran or waited to run in the minute before. From 1 on, times are
+longer than on a quiet machine, and a ratio of two columns says more than either.
 
 ## The documents
 
@@ -242,20 +248,7 @@ and a ratio of two columns says more than either.
 
 ## One search, several numbers
 
-{floor_table.DIFFERENT.format(**of_a_term())}"""
-
-
-def of_a_term() -> dict[str, str]:
-    """Microseconds of a term, as the parts that measure it differently have them."""
-    raw = {name: kept_by_name(name).get("raw") for name in ("floor", "embedding", "collecting", "scripts")}
-    embedded = re.search(r"^\|a term\|([\d.]+)\|", str(raw["embedding"]), re.MULTILINE)
-    nanos = raw["collecting"] and raw["collecting"]["kinds"]["term"][0] / raw["collecting"]["searches"]
-    return {
-        "searches": floor_table.number(raw["floor"] and raw["floor"]["live"]["term"]["fts"]),
-        "embedding": floor_table.number(float(embedded[1]) if embedded else None),
-        "collecting": floor_table.number(nanos and nanos / 1e3),
-        "scripts": floor_table.number(raw["scripts"] and raw["scripts"]["kinds"]["term"][0] * 1e3),
-    }
+{floor_table.DIFFERENT}"""
 
 
 def kept_by_name(name: str) -> dict[str, Any]:
@@ -283,8 +276,8 @@ def appendix() -> str:
     closing = [f"## Not measured yet\n\n{missing[0].upper()}{missing[1:]}."] if missing else []
     head = (
         "# Every table\n\nFor those who look closer: all that `python3 bench/report.py` measures, part by part; `--only` measures one anew. "
-        "[MEASURED](MEASURED.md) has the documents, the kinds of search and the programs. A dash means that a program has nothing for the search. "
-        "What was measured under a load of 1 or more wasn't measured on a quiet machine. A program is named by its SHA-256.")
+        "[MEASURED](MEASURED.md) has the documents, the kinds of search, the programs, and what a load is. A dash means that a program has nothing for the "
+        "search. A program is named by its SHA-256.")
     return of_paragraphs("\n\n".join([head, conditions(there), *map(section, there), *closing]))
 
 

@@ -119,29 +119,29 @@ def kinds(documents: int) -> dict[str, Callable[[random.Random], Search]]:
 
 # What each kind of `kinds` asks, as docs/MEASURED.md says it.
 ASKED = {
-    "term": "how many documents have one of the 200 most frequent words",
+    "term": "one of the 200 most frequent words",
     "absent term": "a word that no document has",
     "rare term": "a word that about ten documents have",
     "keyword": "one of the 1,000 keywords",
     "`+a +b`": "one of the 20 most frequent words and one of the next 480 (AND)",
-    "AND of four": "all of four of the 30 most frequent words",
-    "`+a -b`": "a word of the 100 most frequent, without one of the 20 most frequent",
+    "AND of four": "four of the 30 most frequent words",
+    "`+a -b`": "a word of the 100 most frequent, and not one of the 20 most frequent",
     "`a b`": "either of two of the 100 most frequent words (OR)",
     "OR of ten": "any of ten of the 500 most frequent words",
     "phrase": "`\"a b\"`, two of the ten most frequent words side by side",
-    "range": "numbers between two bounds: a tenth of the documents, or ten of them",
-    "keyword range": "keywords between two bounds: a tenth of the documents",
-    "groups": "how many documents of one of the 20 most frequent words have each value of the `i64` (facets)",
-    "groups by keyword": "the same by the keyword",
-    "top 10": "one of the 20 most frequent words, and the ten hits with the greatest `u64`",
-    "top 10 over a range": "a range, and the ten hits with the least `i64`",
-    "top 10 over everything": "all documents, and the ten with the least or greatest `u64`",
+    "range": "a number between two bounds: a tenth of the documents, or ten of them",
+    "keyword range": "a keyword between two bounds: a tenth of the documents",
+    "groups": "one of the 20 most frequent words, by the value of the `i64` (facets)",
+    "groups by keyword": "one of these words, by the keyword",
+    "top 10": "one of these words, and the ten with the greatest `u64`",
+    "top 10 over a range": "a number in a range, and the ten with the least `i64`",
+    "top 10 over everything": "anything, and the ten with the least or greatest `u64`",
 }
 
 
 def table_of_kinds() -> str:
     """`ASKED` as Markdown."""
-    return "\n".join(["|kind|what is asked|", "|---|---|", *(f"|{kind}|{asked}|" for kind, asked in ASKED.items())])
+    return "\n".join(["|kind|how many documents have|", "|---|---|", *(f"|{kind}|{asked}|" for kind, asked in ASKED.items())])
 
 
 def drawn(documents: int, count: int, seed: int = 3) -> dict[str, list[Search]]:

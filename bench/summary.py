@@ -48,22 +48,22 @@ def of_service(kind: str) -> Callable[[Any], Found]:
 
 ROWS = (
     Row("build: documents a second", "builds", documents_a_second,
-        "How fast an index is made anew, as at each start: one thread adds and commits 100,000 documents of 30 words."),
+        "An index made anew, as at each start, by one thread."),
     Row("memory: MB for 100,000 documents", "builds", of_builds("resident"),
-        "What must fit into memory. All three are in memory here; of Lucene it is what its Java machine has."),
-    Row("count of a word, µs", "floor", of_floor("term"), "How many documents have a frequent word, as a box for searches asks."),
+        "What must fit into memory. All three are in memory here; Lucene's is that of its Java machine."),
+    Row("count of a word, µs", "floor", of_floor("term"), "How many documents have a frequent word."),
     Row("two words, both (AND), µs", "floor", of_floor("`+a +b`"), "The usual query of two or more words."),
     Row("a phrase, µs", "floor", of_floor("phrase"),
-        "Two frequent words side by side. This is the slowest kind: each document that has both is looked at."),
+        "Two frequent words side by side. This is the slowest kind: it looks at each document that has both."),
     Row("a range of numbers, µs", "floor", of_floor("range, a tenth"), "A filter by price or date that admits a tenth of the documents."),
     Row("facets, µs", "floor", of_floor("groups"), "A count for each value of a number field among the hits of a word."),
     Row("top 10 by a number, µs", "floor", of_floor("top 10"), "The first page of hits, newest or cheapest first, and how many there are."),
     Row("an update by key and its commit, µs", "updates", updates,
-        "What a change of one document costs if each is committed at once, within a program and without a sync to a disk."),
+        "A change of one document within a program, committed at once, without a sync to a disk."),
     Row("the service: searches a second, 16 clients", "service", of_service("search"),
-        "Requests over HTTP that one process answers, with facets and hits. The second column is a server of the same form over FTS5."),
+        "Requests over HTTP that one process answers, with facets and hits; in the second column, over FTS5."),
     Row("the service: posts a second, 16 clients", "service", of_service("post"),
-        "Documents that are added over HTTP, each synced to the disk before it is answered."),
+        "Documents added over HTTP, each on disk before it is answered."),
 )
 
 

@@ -268,7 +268,7 @@ def shown(raw: dict[str, Any]) -> str:
             looked = [ends(told[name]) for told in programs.values()]
             rows += [[f"{name}, {word}", *(number(pair[place]) for pair in looked)] for place, word in enumerate(("the most", "at the end"))]
         rows.append(["memory before the updates", *(number(told["memory"][0]) for told in programs.values())])
-        parts.append(f"### {each} updates a commit\n\n" + table(["", *programs], rows))
+        parts.append(f"### {each} update{'s' if int(each) > 1 else ''} a commit\n\n" + table(["", *programs], rows))
     runs = raw["adds"]
     parts.append("### Commits of one add\n\nSeconds of processor time of a whole run of `fts run`.\n\n" + table(
         ["commits", *(f"`--merge {policy}`" for policy in runs)], [[f"{int(count):,}", *(number(runs[policy][count]) for policy in runs)]

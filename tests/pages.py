@@ -413,6 +413,10 @@ def served(place: Place, script: str) -> subprocess.Popen[str] | None:
     return None
 
 
+# What the tutorial's lines need, by a word in them.
+NEEDED = {"grep-dctrl": "grep-dctrl", "own.json": "jq"}
+
+
 def tutorial(place: Place) -> None:
     """Runs the tutorial's blocks in a folder, with the list of packages that ships."""
     folder = place.folder / "tutorial"
@@ -437,8 +441,8 @@ def tutorial(place: Place) -> None:
             skip(block.name, "the package isn't linked (bindings/build.sh)")
         elif of_service and not serves:
             skip(block.name, "the package isn't linked, or uvicorn isn't there")
-        elif "grep-dctrl" in script and not shutil.which("grep-dctrl"):
-            skip(block.name, "there is no grep-dctrl")
+        elif lacking := next((tool for word, tool in NEEDED.items() if word in script and not shutil.which(tool)), ""):
+            skip(block.name, f"there is no {lacking}")
         elif "-m dilforec serve" in script:
             running = served(place, script)
             check(block.name, running, "it ended")
