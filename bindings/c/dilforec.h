@@ -81,6 +81,16 @@ int32_t dilforec_execute(dilforec_t *index, const uint8_t *line, size_t length);
  * the block from line `done` on. */
 int32_t dilforec_execute_lines(dilforec_t *index, const uint8_t *block, size_t length, size_t *done);
 
+/* Does what the lines of a block say, all of them or none. Each is an {"add":..}, a {"delete":..} or
+ * {"delete_all":true}, and they are taken as by dilforec_execute_lines, one after the other, with a stamp each. If all
+ * were done, DILFOREC_OK is answered, `done` is how many they are, and the reply is theirs, one after the other.
+ *
+ * Otherwise `done` is how many lines are before the first that can't be done, and everything is as it was. Either that
+ * line was refused: then the code is DILFOREC_OK, and the reply is its refusal alone, as a line after the last. Any
+ * other command is refused as BadCommand, and a blank line as BadJson. Or it has another code, that of
+ * dilforec_execute, and there is no reply. The lines after it aren't looked at. Lines are counted if all are done. */
+int32_t dilforec_transaction(dilforec_t *index, const uint8_t *block, size_t length, size_t *done);
+
 /* Does what a delete's line and an add's say, or neither: {"delete":..} and {"add":..}. Both are read and checked
  * before anything is done. At DILFOREC_OK the reply is the add's, and both lines are counted, or it is the refusal of
  * the one that was refused first, and neither is. DILFOREC_USED_UP also if one line more is all that is left. */

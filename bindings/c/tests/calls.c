@@ -1,4 +1,4 @@
-/* Blocks of lines, two lines as one, searches with chosen fields or the most frequent groups, and merges: what they
+/* Blocks of lines, blocks that are done whole or not, two lines as one, searches with chosen fields or the most frequent groups, and merges: what they
  * reply, and what refused growths leave.
  *
  * Each call is made with its first growth refused, then with its second, and so on until it takes place; a block goes
@@ -149,6 +149,61 @@ static void pairs(void) {
     expect(replies(&index, "{\"count\":1}\n"), "the last one is there");
     execute(&index, "{\"search\":{\"query\":\"*\"}}");
     expect(replies(&index, "{\"count\":1}\n"), "and alone");
+    dilforec_close(&index);
+}
+
+static int32_t transaction(dilforec_t *index, const char *block, size_t *done) {
+    int32_t code;
+    AGAIN(code, dilforec_transaction(index, bytes(block), strlen(block), done));
+    return code;
+}
+
+static void whole(void) {
+    static char block[64 * DOCUMENTS], wanted[64 * DOCUMENTS];
+    dilforec_t index = {0};
+    size_t done = 7;
+    int in = 0, out = 0;
+    dilforec_open(&index);
+    expect(transaction(&index, "{\"add\":{}}", &done) == DILFOREC_OK && done == 0
+               && replies(&index, "{\"error\":\"NoSchema\",\"line\":1}\n"), "there is no schema");
+    execute(&index, SCHEMA);
+    for (int i = 1; i <= DOCUMENTS; i++) {
+        in += sprintf(block + in, "{\"add\":{\"title\":\"rust %d\",\"isbn\":%d}}\n", i, i);
+        out += sprintf(wanted + out, "{\"stamp\":%d}\n", i);
+    }
+    expect(transaction(&index, block, &done) == DILFOREC_OK && done == DOCUMENTS && replies(&index, wanted),
+           "a block is done whole, and each line has its stamp");
+    expect(transaction(&index, "{\"delete\":{\"isbn\":7}}\n{\"delete_all\":true}\n{\"add\":{}}", &done) == DILFOREC_OK
+               && done == 3 && replies(&index, "{\"stamp\":201}\n{\"stamp\":202}\n{\"stamp\":203}\n"), "deletes are, too");
+    expect(transaction(&index, "", &done) == DILFOREC_OK && done == 0 && replies(&index, ""), "an empty one has no line");
+    const char *bad[][2] = {
+        {"{\"add\":{\"isbn\":\"late\"}}", "{\"error\":\"WrongKind\",\"line\":205}\n"},
+        {"{\"delete\":{\"none\":1}}", "{\"error\":\"UnknownField\",\"line\":205}\n"},
+        {"{\"commit\":true}", "{\"error\":\"BadCommand\",\"line\":205}\n"},
+        {"{\"rollback\":true}", "{\"error\":\"BadCommand\",\"line\":205}\n"},
+        {"{\"search\":{\"query\":\"rust\"}}", "{\"error\":\"BadCommand\",\"line\":205}\n"},
+        {"{\"schema\":[]}", "{\"error\":\"BadCommand\",\"line\":205}\n"},
+        {" ", "{\"error\":\"BadJson\",\"line\":205}\n"},
+        {"nonsense", "{\"error\":\"BadJson\",\"line\":205}\n"},
+    };
+    for (size_t i = 0; i < sizeof bad / sizeof *bad; i++) {
+        snprintf(block, sizeof block, "{\"add\":{}}\n{\"delete_all\":true}\n%s\n{\"add\":1}\n", bad[i][0]);
+        expect(transaction(&index, block, &done) == DILFOREC_OK && done == 2 && replies(&index, bad[i][1]),
+               "the first refused line is told, and nothing is done");
+    }
+    char *longest = malloc(DILFOREC_LONGEST_LINE + 16);
+    if (!longest) abort();
+    memset(longest, ' ', DILFOREC_LONGEST_LINE + 16);
+    memcpy(longest, "{\"add\":{}}\n", 11);
+    expect(dilforec_transaction(&index, bytes(longest), DILFOREC_LONGEST_LINE + 16, &done) == DILFOREC_LINE_TOO_LONG
+               && done == 1 && replies(&index, ""), "a line over the limit has no reply");
+    free(longest);
+    execute(&index, "{\"commit\":true}");
+    expect(replies(&index, "{\"commit\":204}\n"), "what wasn't done drew no stamp");
+    execute(&index, "{\"search\":{\"query\":\"*\"}}");
+    expect(replies(&index, "{\"count\":1}\n"), "and the last document is there");
+    execute(&index, "nonsense");
+    expect(replies(&index, "{\"error\":\"BadJson\",\"line\":207}\n"), "and only lines that were done are counted");
     dilforec_close(&index);
 }
 
@@ -337,6 +392,7 @@ static void merges(void) {
 int main(void) {
     syntaxes();
     blocks();
+    whole();
     pairs();
     chosen();
     frequent();

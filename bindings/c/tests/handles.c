@@ -48,6 +48,8 @@ static void closed(void) {
     expect(execute(&index, ADD) == DILFOREC_CLOSED, "a closed index takes no line");
     expect(dilforec_execute_lines(&index, bytes(ADD), strlen(ADD), &done) == DILFOREC_CLOSED && done == 0,
            "nor a block");
+    done = 7;
+    expect(dilforec_transaction(&index, bytes(ADD), strlen(ADD), &done) == DILFOREC_CLOSED && done == 0, "nor a whole one");
     expect(dilforec_replace(&index, bytes(ADD), strlen(ADD), bytes(ADD), strlen(ADD)) == DILFOREC_CLOSED, "nor two");
     expect(dilforec_execute_fields(&index, bytes(ADD), strlen(ADD), bytes("[]"), 2) == DILFOREC_CLOSED, "nor a search");
     expect(dilforec_execute_groups(&index, bytes(ADD), strlen(ADD), 1) == DILFOREC_CLOSED, "nor one with few groups");

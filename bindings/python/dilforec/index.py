@@ -324,6 +324,34 @@ class Index(Searching):
         delete = to_line({"delete": {field: value}})
         return self._stamp(self._channel.replace(delete, _add(document)), b'{"stamp":', document)
 
+    def execute_all(self, commands: Iterable[Mapping[str, Any]]) -> list[int]:
+        """Does what commands say, one after the other, all of them or none, and returns their stamps.
+
+            index.execute_all([{"delete": {"shelf": "lent"}}, {"add": {"title": "Programming Pearls"}}])
+
+        Each is `{"add": document}`, `{"delete": {field: value}}` or `{"delete_all": True}`; BadCommand is any other. The
+        exception of the first that is refused tells its number, from 1. Searches see them after the next commit.
+        """
+        given = list(commands)
+        lines = [to_line(command) for command in given]
+        code, done, told = self._channel.transact(b"\n".join(lines), len(lines), has_replies=True)
+        if code == LINE_TOO_LONG:
+            raise LineTooLong("LineTooLong", None, f"command {done + 1} has more than {LONGEST_LINE:,} bytes")
+        if code:
+            raise fault(code)
+        if done < len(lines):
+            raise self._refused_command(told, done + 1, given[done])
+        return [int(reply[1]) for reply in REPLY.finditer(told)]
+
+    def _refused_command(self, reply: bytes, number: int, command: Mapping[str, Any]) -> Exception:
+        if not reply:
+            return MemoryError("the index had no memory; nothing changed")
+        told = json.loads(reply.decode())
+        given = next(iter(command.values()), None) if isinstance(command, Mapping) else None
+        why = refused(told["error"], None, sentences.of_document(told["error"], self._schema, given)
+                      if isinstance(given, Mapping) else "")
+        return refused(told["error"], told["line"], f"command {number}: {why}")
+
     def delete(self, field: str, value: Union[str, int]) -> int:
         """Deletes the documents of smaller stamps that have a value: a whole keyword, a number, or a word of a text."""
         given = {field: value}

@@ -26,6 +26,8 @@ KEPT_ROOM = 1 << 20
 FIRST_ROOM = 4096
 # The most bytes of the reply to a line other than a search.
 REPLY_TO_CHANGE = 128
+# A transaction of at most as many bytes takes less time than to wait for one's turn among the threads.
+BRIEF_TRANSACTION = 1 << 14
 # How often replies that are there are taken, if memory is short.
 TRIES = 3
 
@@ -70,6 +72,7 @@ def load(kind: type[ctypes.CDLL]) -> ctypes.CDLL:
         "dilforec_execute_lines": ([at, text, size, at], code),
         "dilforec_execute_fields": ([at, text, size, text, size], code),
         "dilforec_execute_groups": ([at, text, size, size], code),
+        "dilforec_transaction": ([at, text, size, at], code),
         "dilforec_replace": ([at, text, size, text, size], code),
         "dilforec_reply": ([at, at, size], size),
         "dilforec_stats": ([at, at], code),
@@ -307,6 +310,29 @@ class Channel(Owner):
                         take(self._view[:self._reply(self._at, self._room_at, self._room_size)])
                         break
                 return code, done.value
+            finally:
+                self._busy = False
+
+    def transact(self, block: bytes, lines: int, *, has_replies: bool) -> tuple[int, int, bytes]:
+        """Has the lines of a block, which are as many, done, all or none. The code, how many lines are before the first
+        that can't be done, and the reply: the refusal, or, if replies are wanted, those to all lines.
+
+        A MemoryError is of what comes before the lines are done; if there is none for the reply then, it is empty.
+        """
+        with self.lock:
+            self._check()
+            try:
+                self._busy = True
+                if has_replies and self._room_size < lines * REPLY_TO_CHANGE:
+                    self._make_room(lines * REPLY_TO_CHANGE)
+                done, told = ctypes.c_size_t(), b""
+                library = BRIEF if len(block) <= BRIEF_TRANSACTION else LIBRARY
+                code = library.dilforec_transaction(self._at, block, len(block), ctypes.addressof(done))
+                for _ in range(TRIES if code == OK and (has_replies or done.value < lines) else 0):
+                    with contextlib.suppress(MemoryError):
+                        told = self._read()
+                        break
+                return code, done.value, told
             finally:
                 self._busy = False
 

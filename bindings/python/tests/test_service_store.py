@@ -132,7 +132,7 @@ class Calls(Stored):
         self.assertEqual(read_json('{"a":[0,-1,"-0",18446744073709551616]}'), {"a": [0, -1, "-0", 1 << 64]})
 
     def test_long(self):
-        """A transaction that is executed in several blocks: all of it, or the number of the one that is refused."""
+        """A transaction of some megabytes: all of it, or the number of the one that is refused."""
         store = self.opened()
         for late in (None, 2, 30):
             try:
@@ -508,22 +508,22 @@ class Threads(Stored):
         self.assertEqual((told["again"], self.all(store)), (None, {2: {"title": "b"}}))
 
     def test_many_refused(self):
-        """Refused transactions among those that wait together: no line is executed more than twice, by one sync."""
+        """Refused transactions among those that wait together: each line is executed once, by one sync."""
         disk = Failing()
         store, executed = self.opened(disk=disk), []
-        ask_block = Channel.ask_block
+        transact = Channel.transact
 
-        def counted(channel, lines, take):
-            executed.append(len(lines))
-            return ask_block(channel, lines, take)
+        def counted(channel, block, lines, **given):
+            executed.append(lines)
+            return transact(channel, block, lines, **given)
 
         wait = [store.new_transaction() for _ in range(800)]
         for number, each in enumerate(wait):
             each.add({"title": "first", "year": number})
             each.add({"title": "second", "year": "late" if number % 2 else number})
-        with mock.patch.object(Channel, "ask_block", counted):
+        with mock.patch.object(Channel, "transact", counted), mock.patch.object(Channel, "ask_block", None):
             store.do(*wait)
-        self.assertLessEqual(sum(executed), 2 * 1600)
+        self.assertEqual(executed, [2] * 800)
         self.assertEqual((disk.calls.count("write"), store.commits), (2, 1))
         self.assertEqual([type(each.error) for each in wait], [type(None), TransactionRefused] * 400)
         self.assertEqual({(each.error.number, each.error.refusal.name) for each in wait[1::2]}, {(2, "WrongKind")})
@@ -534,27 +534,27 @@ class Threads(Stored):
         self.assertEqual(self.all(self.opened()), there)
 
     def test_no_memory_in_a_group(self):
-        """If memory runs out within a group, what was executed before is done, and the others have an error."""
+        """A transaction for which there is no memory has an error, and the others of its group are done."""
         store = self.opened()
-        ask_block = Channel.ask_block
-        for refusals in 1, 2:
+        transact = Channel.transact
+        for refusals in 1, 4:
             left = [refusals]
 
-            def short(channel, lines, take):
+            def short(channel, block, lines, **given):
                 if not left[0]:  # noqa: B023
-                    return ask_block(channel, lines, take)
+                    return transact(channel, block, lines, **given)
                 left[0] -= 1  # noqa: B023
-                return MEMORY, ask_block(channel, lines[:3], take)[1]
+                return MEMORY, 1, b""
 
             wait = [store.new_transaction() for _ in range(4)]
             for each in wait:
                 each.add({"title": "first"})
                 each.add({"title": "second"})
-            with mock.patch.object(Channel, "ask_block", short):
+            with mock.patch.object(Channel, "transact", short):
                 store.do(*wait)
             kinds = [type(each.error) for each in wait]
-            self.assertEqual(kinds, [[type(None), NotWritten, NotWritten, NotWritten], [NotWritten] * 4][refusals - 1])
-            self.assertEqual((len(store), store.writable), (2, True))
+            self.assertEqual(kinds, [NotWritten] * refusals + [type(None)] * (4 - refusals))
+            self.assertEqual((len(store), store.writable), (6, True))
 
     def test_no_memory_to_look(self):
         """If there is no memory to look for a document, that change isn't done, and the others are."""

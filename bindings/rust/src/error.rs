@@ -58,6 +58,23 @@ impl fmt::Display for NotAll {
 
 impl std::error::Error for NotAll {}
 
+/// The first line of [`Index::execute_all`](crate::Index::execute_all) that can't be done. No line was done.
+#[derive(Clone, Debug, PartialEq, Eq)]
+pub struct NotOne {
+    /// The number of the line, from 0.
+    pub line: usize,
+    /// Why it can't be done.
+    pub error: Error,
+}
+
+impl fmt::Display for NotOne {
+    fn fmt(&self, out: &mut fmt::Formatter<'_>) -> fmt::Result {
+        write!(out, "line {} of those that are done together: {}", self.line, self.error)
+    }
+}
+
+impl std::error::Error for NotOne {}
+
 /// The names of all refusals.
 const NAMES: [&str; 28] = [
     "Memory",

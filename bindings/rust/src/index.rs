@@ -2,7 +2,7 @@
 use crate::json::{Line, Reader};
 use crate::sys::{self, Raw};
 use crate::values::{Answer, Document, Field, Search, Stats, Value};
-use crate::{Error, NotAll};
+use crate::{Error, NotAll, NotOne};
 
 /// A block of lines is handed over once it has as many, or as many bytes.
 const BLOCK_LINES: usize = 1000;
@@ -158,6 +158,45 @@ impl Index {
             unsafe { sys::dilforec_replace(raw, first.as_ptr(), first.len(), second.as_ptr(), second.len()) }
         })?;
         Reader::new(Error::of_reply(reply)?).only("stamp")
+    }
+
+    /// Does what lines say, one after the other, all of them or none, and gives their stamps.
+    ///
+    /// Each is an `add`, a `delete` or a `delete_all` of a script, without its LF. At an error nothing was done, and
+    /// `NotOne` has the number of the first line that can't be, from 0.
+    ///
+    /// ```
+    /// # fn main() -> Result<(), dilforec::Error> {
+    /// # use dilforec::{Field, Index};
+    /// # let mut index = Index::with_schema(&[Field::text("title").default(), Field::u64("year")])?;
+    /// let lines = [r#"{"delete":{"year":1986}}"#, r#"{"add":{"title":"Programming Pearls","year":1999}}"#];
+    /// assert_eq!(index.execute_all(&lines), Ok(vec![1, 2]));
+    /// let none = index.execute_all(&[lines[0], r#"{"add":{"year":"late"}}"#]).expect_err("the year is no number");
+    /// assert_eq!(none.line, 1);
+    /// # Ok(())
+    /// # }
+    /// ```
+    pub fn execute_all(&mut self, lines: &[impl AsRef<[u8]>]) -> Result<Vec<u64>, NotOne> {
+        let (mut block, mut stamps) = (Vec::new(), Vec::new());
+        let bytes = lines.iter().map(|line| line.as_ref().len() + 1).sum();
+        let room = block.try_reserve(bytes).and_then(|()| stamps.try_reserve(lines.len()));
+        room.map_err(|_| NotOne { line: 0, error: Error::Memory })?;
+        for line in lines {
+            block.extend_from_slice(line.as_ref());
+            block.push(b'\n');
+        }
+        sys::make_room(&mut self.reply, lines.len()).map_err(|error| NotOne { line: 0, error })?;
+        let (raw, mut done) = (&mut self.raw, 0);
+        // SAFETY: the handle is open until `self` is dropped, and the block is as long as is said.
+        let code = unsafe { sys::dilforec_transaction(raw, block.as_ptr(), block.len(), &mut done) };
+        Error::of(code).map_err(|error| NotOne { line: done, error })?;
+        // SAFETY: as above, of the buffer, which has room for the replies to all lines.
+        let replies = sys::read(&mut self.reply, |to, room| unsafe { sys::dilforec_reply(raw, to, room) });
+        for reply in replies.map_err(|error| NotOne { line: done, error })?.lines() {
+            let stamp = Error::of_reply(reply).and_then(|reply| Reader::new(reply).only("stamp"));
+            stamps.push(stamp.map_err(|error| NotOne { line: done, error })?);
+        }
+        Ok(stamps)
     }
 
     /// Makes what was added and deleted visible, at once, and gives the commit's stamp.

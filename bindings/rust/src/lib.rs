@@ -22,7 +22,7 @@ mod json;
 mod sys;
 mod values;
 
-pub use error::{Error, NotAll, Refusal};
+pub use error::{Error, NotAll, NotOne, Refusal};
 pub use index::{Index, Merge, Searcher};
 pub use values::{quoted, Answer, Document, Field, Hit, Kind, Order, Search, Stats, Value};
 

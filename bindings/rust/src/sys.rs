@@ -27,6 +27,7 @@ extern "C" {
         names_length: usize,
     ) -> i32;
     pub fn dilforec_execute_groups(index: *mut Raw, line: *const u8, length: usize, limit: usize) -> i32;
+    pub fn dilforec_transaction(index: *mut Raw, block: *const u8, length: usize, done: *mut usize) -> i32;
     pub fn dilforec_replace(
         index: *mut Raw,
         delete: *const u8,

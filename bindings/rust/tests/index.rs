@@ -1,5 +1,5 @@
 //! The crate over the worked scripts, in threads, and at its edges.
-use dilforec::{quoted, Document, Error, Field, Index, NotAll, Order, Refusal, Search, Searcher, Stats, Value};
+use dilforec::{quoted, Document, Error, Field, Index, NotAll, NotOne, Order, Refusal, Search, Searcher, Stats, Value};
 use std::fs;
 use std::path::Path;
 use std::thread;
@@ -90,6 +90,23 @@ fn operations_answer_their_stamps() -> Result<(), Error> {
     assert_eq!(index.replace("shelf", &late), Err(refused("WrongKind", 12)));
     assert_eq!(index.commit()?, 8);
     assert_eq!((index.search("old")?.count, index.search("new")?.count, index.search("*")?.count), (0, 1, 2));
+    Ok(())
+}
+
+#[test]
+fn lines_are_done_together_or_not_at_all() -> Result<(), Error> {
+    let mut index = Index::with_schema(&fields())?;
+    let (add, late) = (r#"{"add":{"title":"rust"}}"#, r#"{"add":{"year":"late"}}"#);
+    let no_line: [&str; 0] = [];
+    assert_eq!(index.execute_all(&[add, r#"{"delete_all":true}"#, add]), Ok(vec![1, 2, 3]));
+    assert_eq!(index.execute_all(&no_line), Ok(vec![]));
+    assert_eq!(index.execute_all(&[add, late]), Err(NotOne { line: 1, error: refused("WrongKind", 5) }));
+    let commit = r#"{"commit":true}"#;
+    assert_eq!(index.execute_all(&[add, add, commit]), Err(NotOne { line: 2, error: refused("BadCommand", 5) }));
+    assert_eq!(index.execute_all(&[" "]), Err(NotOne { line: 0, error: refused("BadJson", 5) }));
+    let long = "x".repeat(4_194_305);
+    assert_eq!(index.execute_all(&[add, &long]), Err(NotOne { line: 1, error: Error::LineTooLong }));
+    assert_eq!((index.commit()?, index.search("rust")?.count), (4, 1));
     Ok(())
 }
 

@@ -15,18 +15,18 @@ replies-push s (x ∷ xs) line =
     ap (λ r. reply_to s x ++ r) (replies-push (after_line s x) xs line)
     ∙ sym (append_assoc (reply_to s x) (replies (after_line s x) xs) (reply_to (after_lines (after_line s x) xs) line))
 
-after_lines-push : (s : SessionValue) (xs : List (List ℕ)) (line : List ℕ) → after_lines s (xs ++ line ∷ []) ≡ after_line (after_lines s xs) line
+pub after_lines-push : (s : SessionValue) (xs : List (List ℕ)) (line : List ℕ) → after_lines s (xs ++ line ∷ []) ≡ after_line (after_lines s xs) line
 after_lines-push s [] line = refl
 after_lines-push s (x ∷ xs) line = after_lines-push (after_line s x) xs line
 
 -- the next of a list after its first n
-record IsNext (xs : List (List ℕ)) (n : ℕ) (y : List ℕ) (ys : List (List ℕ)) : Type 0 where
-  within : n < length xs
-  at : get_or xs n [] ≡ y
-  left : drop (n + 1) xs ≡ ys
-  taken : take (n + 1) xs ≡ take n xs ++ y ∷ []
+pub record IsNext (xs : List (List ℕ)) (n : ℕ) (y : List ℕ) (ys : List (List ℕ)) : Type 0 where
+  pub within : n < length xs
+  pub at : get_or xs n [] ≡ y
+  pub left : drop (n + 1) xs ≡ ys
+  pub taken : take (n + 1) xs ≡ take n xs ++ y ∷ []
 
-next_of : (xs : List (List ℕ)) (n : ℕ) (y : List ℕ) (ys : List (List ℕ)) → drop n xs ≡ y ∷ ys → IsNext xs n y ys
+pub next_of : (xs : List (List ℕ)) (n : ℕ) (y : List ℕ) (ys : List (List ℕ)) → drop n xs ≡ y ∷ ys → IsNext xs n y ys
 next_of xs n y ys e =
     let within : n < length xs = omega (arith, ap length e, length-drop n xs) in
     let both : get_or xs n [] ∷ drop (n + 1) xs ≡ y ∷ ys = sym (drop_more xs n [] within) ∙ e in

@@ -5,9 +5,9 @@
 //! a session of its own over the last commit of another, which another thread may have, and which takes only searches.
 //! So is a merge, which another thread runs while its index goes on.
 //! A caller owes a handle that was opened or is null, and true lengths. What each call leaves, and which code it
-//! returns, is a definition of `specs/Calls.antt`, `Blocks`, `Pairs`, `CutSearches`, `GroupSearches` or `Merges`, for a
-//! place that is open, and of `specs/Open.antt` or `StatsOf` for one that may be closed. One call needs no handle: it
-//! returns the byte at which a query can't be read any further (`specs/Syntaxes.antt`).
+//! returns, is a definition of `specs/Calls.antt`, `Blocks`, `Transactions`, `Pairs`, `CutSearches`, `GroupSearches` or
+//! `Merges`, for a place that is open, and of `specs/Open.antt` or `StatsOf` for one that may be closed. One call needs
+//! no handle: it returns the byte at which a query can't be read any further (`specs/Syntaxes.antt`).
 #![tactic(auto)]
 
 ghost use Rattle.std.specs.Prelude.{◌≡◌, Option, Some, None, IfOk, MatchOption, MatchResult};
@@ -26,6 +26,7 @@ ghost use Rattle.fts_c.specs.Merges.{BeginsMerge, EndsMerge, LimitsMerges, RunsM
 ghost use Rattle.fts_c.specs.Open.{Closes, IfOpen, OpensSearcher, TellsIfOpen};
 ghost use Rattle.fts_c.specs.StatsOf.{TellsStats};
 ghost use Rattle.fts_c.specs.Syntaxes.{IsSyntaxAt, TellsSyntaxAt};
+ghost use Rattle.fts_c.specs.Transactions.{Transacts};
 ghost use Rattle.fts_script.specs.session.Outputs.{start};
 
 mod codes;
@@ -238,6 +239,36 @@ pub extern "C" fn dilforec_execute_lines(
         Some(handle) => {
             let mut state = unwrap(handle);
             let told = state.execute_lines(alloc, block);
+            *slot = Slot::full(wrap(state));
+            *done = told.1;
+            told.0
+        }
+        None => {
+            *done = 0;
+            CLOSED
+        }
+    }
+}
+
+/// Executes the lines of a block, each an addition or a deletion, as one: all are done, or none. At 0 the reply is their
+/// replies, one after the other, or the refusal of the first line that is refused; at another code, which is that of
+/// the first line that has one, there is no reply. `done` is set to the number of lines before that one, and to the
+/// number of all lines if they were done.
+#[unsafe(no_mangle)]
+pub extern "C" fn dilforec_transaction(
+    slot: &mut Slot,
+    alloc: Global,
+    block: &[u8],
+    done: &mut usize,
+) -> i32
+    ensures lines { IfOpen slot.old.state slot.new.state result
+        (λ old new. Transacts old block.now new result done.new) }
+    ensures none { slot.old.state ≡ None → done.new ≡ 0 }
+{
+    match take(slot, alloc) {
+        Some(handle) => {
+            let mut state = unwrap(handle);
+            let told = state.transaction(alloc, block);
             *slot = Slot::full(wrap(state));
             *done = told.1;
             told.0

@@ -1,5 +1,5 @@
 // A session and its last reply, or a merge.
-ghost use Rattle.std.specs.Prelude.{◌≡◌, ◌≢◌, [], None, MatchResult, string_bytes};
+ghost use Rattle.std.specs.Prelude.{◌≡◌, ◌≢◌, ◌+◌, ◌≤◌, [], None, MatchResult, string_bytes};
 ghost use Rattle.fts_c.specs.Blocks.{ExecutesLines, ExecutesNext};
 ghost use Rattle.fts_c.specs.Answers.{Answers};
 ghost use Rattle.fts_c.specs.Calls.{Executes, Searches};
@@ -9,13 +9,14 @@ ghost use Rattle.fts_c.specs.Codes.{IsFault, IsTried};
 ghost use Rattle.fts_c.specs.Merges.{EndsMerge, LimitsMerges, NotBegun, RunsMerge};
 ghost use Rattle.fts_c.specs.Pairs.{AreTried, IsFaultOfTwo, Replaces};
 ghost use Rattle.fts_c.specs.StatsOf.{AreStatsOf};
+ghost use Rattle.fts_c.specs.Transactions.{Operates, Transacts};
 
 use crate::codes::{GONE, LINE_TOO_LONG, MEMORY, NOTHING, OK, USED_UP};
 use crate::maintenance::{BeginMerge, EndMerge, LimitMerges};
 use fts_engine_local::{BegunMerge, LocalEngine, Stats};
 use fts_model::Refusal;
 use fts_script::LONGEST;
-use fts_script::session::{MOST_LINES, Maintenance, Session, first_line, is_blank};
+use fts_script::session::{MOST_LINES, Maintenance, Savepoint, Session, first_line, is_blank};
 use std::alloc::{AllocError, Global};
 
 /// The size of an index that has no schema.
@@ -120,6 +121,55 @@ impl State {
             let code = self.execute_next(alloc, line);
             if code != OK {
                 return (code, done);
+            }
+            done += 1;
+            rest = after;
+        }
+        (OK, done)
+    }
+
+    /// Executes the next line of a transaction that began at a savepoint, and returns whether it was taken.
+    fn operate_next(
+        &mut self,
+        alloc: Global,
+        begun: Savepoint,
+        line: &[u8],
+    ) -> Result<bool, i32>
+        requires { begun.number ≤ self.old.session.number }
+        ensures { Operates self.old (begun.number + 1) line.now self.new result }
+    {
+        self.check(line)?;
+        match self
+            .session
+            .operate(&((), alloc), begun, line, &mut self.reply)
+        {
+            Ok(taken) => Ok(taken),
+            Err(AllocError) => Err(MEMORY),
+        }
+    }
+
+    /// Executes the lines of a block, all or none. Returns 0, or the code of the first line that has another one, and
+    /// how many lines are before it, or before the first that was refused.
+    pub(crate) fn transaction(&mut self, alloc: Global, block: &[u8]) -> (i32, usize)
+        ensures { Transacts self.old block.now self.new result.0 result.1 }
+    {
+        self.forget();
+        let begun = self.session.savepoint();
+        let mut rest = block;
+        let mut done = 0;
+        while !rest.is_empty() {
+            let (line, after) = first_line(rest);
+            match self.operate_next(alloc, begun, line) {
+                Ok(true) => {}
+                Ok(false) => {
+                    self.session.roll_back_to(begun);
+                    return (OK, done);
+                }
+                Err(fault) => {
+                    self.forget();
+                    self.session.roll_back_to(begun);
+                    return (fault, done);
+                }
             }
             done += 1;
             rest = after;

@@ -5,5 +5,5 @@ pub mod Indexes
 pub mod Limits
 pub mod ListIndexes
 pub mod Operations
-pub mod SubmitTwo
 pub mod Steps
+pub mod TakeBack

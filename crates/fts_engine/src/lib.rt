@@ -9,10 +9,10 @@ mod engine;
 mod fork;
 mod list_engine;
 mod options;
-mod submit_two;
+mod take_back;
 
 pub use engine::{Engine, EngineOver, MOST_UNCOMMITTED};
 pub use fork::Fork;
 pub use list_engine::ListEngine;
 pub use options::{Cut, Merge, Options};
-pub use submit_two::SubmitTwo;
+pub use take_back::TakeBack;

@@ -1,9 +1,8 @@
 -- What stays true of an engine of one thread from call to call.
-use Rattle.std.proofs.Common.{◌≡◌, ◌+◌, ◌<◌, ◌≤◌, ℕ, true, Option, None, Result, Ok, nat_lt, List, [], ◌∷◌, ◌++◌, length, filter, not, refl, sym, ap, subst, ◌∙◌, arith}
+use Rattle.std.proofs.Common.{◌≡◌, ◌+◌, ◌≤◌, ℕ, zero, suc, cond, true, false, Option, None, Some, List, [], ◌∷◌, ◌++◌, length, take, filter, not, refl, sym, ap, subst, ◌∙◌, arith}
 use Rattle.std.specs.List.{range_with_len}
 use Rattle.std.specs.Option.{ForSome}
-use Rattle.std.proofs.lemmas.Bool.Decides.{nat_tests}
-use Rattle.std.proofs.lemmas.List.{length-append}
+use Rattle.std.proofs.lemmas.List.{length-append, length-take}
 use Rattle.std.proofs.lemmas.List.Sums.{length-filter, count_by-le-length}
 use Rattle.fts_model.specs.declared.operation.Op.{Op}
 use Rattle.fts_model.specs.declared.operation.Stamped.{Stamped}
@@ -20,11 +19,8 @@ use Rattle.fts_snapshots.proofs.FollowLemmas.{fits_further}
 use Rattle.fts_snapshots.specs.Successors.{follows_further}
 use Rattle.fts_model.specs.Operations.{stamps_of}
 use Rattle.fts_model.proofs.StampLemmas.{numbered-push}
-use Rattle.fts_engine.specs.Indexes.{Index, indexes}
-use Rattle.fts_engine.specs.SubmitTwo.{submit_two}
-use Rattle.fts_engine.specs.Steps.{submit}
-use Rattle.fts_base.specs.declared.refusal.Refusal.{Refusal}
-use Rattle.fts_base.specs.Results.{result_and_then}
+use Rattle.fts_base.specs.declared.refusal.Refusal.TheVariants.{OtherSchema}
+use Rattle.fts_model.specs.declared.schema.Field.{Field}
 use Rattle.fts_snapshots.specs.Commits.{misfit}
 use Rattle.fts_snapshots.specs.declared.commit_point.CommitPoint.{CommitPoint}
 use Rattle.fts_snapshots.specs.CountedSnapshots.{IsCounted}
@@ -50,39 +46,40 @@ local_submitted commit uncommitted cut calls begun stamp op i at fits =
       counted = counted_submitted commit.stamp commit.snapshot uncommitted one calls i.counted fits;
     }
 
--- two more
-pub local_submitted_two : (commit : CommitPoint) (uncommitted : List (Stamped Op)) (cut : Cut) (calls : ℕ) (begun : Option (List EntryValue)) (stamp : ℕ)
-    (first second : Op) → IsLocalEngine commit uncommitted cut calls begun → stamp ≡ commit.stamp + length uncommitted + 1 →
-    op_fits commit.snapshot.schema first ≡ true → op_fits commit.snapshot.schema second ≡ true →
-    IsLocalEngine commit (uncommitted ++ record { stamp = stamp; value = first } ∷ [] ++ record { stamp = stamp + 1; value = second } ∷ []) cut (calls + 2) begun
-local_submitted_two commit uncommitted cut calls begun stamp first second i at fits_first fits_second =
-    let one : Stamped Op = record { stamp = stamp; value = first } in
-    let more : length (uncommitted ++ one ∷ []) ≡ length uncommitted + 1 = length-append uncommitted (one ∷ []) in
-    let first_in = local_submitted commit uncommitted cut calls begun stamp first i at fits_first in
-    let two : calls + 1 + 1 ≡ calls + 2 = omega arith in
-    subst (λ n. IsLocalEngine commit (uncommitted ++ one ∷ [] ++ record { stamp = stamp + 1; value = second } ∷ []) cut n begun) two
-    (local_submitted commit (uncommitted ++ one ∷ []) cut (calls + 1) begun (stamp + 1) second first_in (omega (arith, at, more)) fits_second)
+-- the first operations have the same stamps
+numbered-take : (first n : ℕ) (ops : List (Stamped Op)) → stamps_of ops ≡ range_with_len first (length ops) →
+    stamps_of (take n ops) ≡ range_with_len first (length (take n ops))
+numbered-take first zero ops run = refl
+numbered-take first (suc n) [] run = refl
+numbered-take first (suc n) (op ∷ ops) run =
+    let head : op.stamp ≡ first = cc in
+    let tail : stamps_of ops ≡ range_with_len (first + 1) (length ops) = cc in
+    let later = numbered-take (first + 1) n ops tail in λ i. head i ∷ later i
 
--- what two more make of an index
-pub submitted_two : (i : Index) (first second : Op) (stamp : ℕ) → length i.uncommitted + 1 < 1000000 → stamp ≡ i.commit_stamp + length i.uncommitted + 1 →
-    submit_two indexes first second i
-    ≡ Ok (
-      record i { uncommitted = i.uncommitted ++ record { stamp = stamp; value = first } ∷ [] ++ record { stamp = stamp + 1; value = second } ∷ [] },
-      stamp + 1,
-    )
-submitted_two i first second stamp few at =
-    let one : Stamped Op = record { stamp = i.commit_stamp + length i.uncommitted + 1; value = first } in
-    let more : length (i.uncommitted ++ one ∷ []) ≡ length i.uncommitted + 1 = length-append i.uncommitted (one ∷ []) in
-    let below : nat_lt (length i.uncommitted) 1000000 ≡ true = grind (arith, nat_tests) in
-    let below_two : nat_lt (length (i.uncommitted ++ one ∷ [])) 1000000 ≡ true = grind (arith, nat_tests) in
-    let next : i.commit_stamp + length (i.uncommitted ++ one ∷ []) + 1 ≡ stamp + 1 = omega (arith, at, more) in
-    let left : ℕ → ℕ → Result (Index × ℕ) Refusal =
-    λ a b. Ok (record i { uncommitted = i.uncommitted ++ record { stamp = a; value = first } ∷ [] ++ record { stamp = b; value = second } ∷ [] }, b) in
-    let last : submit indexes second (indexes.submitted first i) ≡ left (i.commit_stamp + length i.uncommitted + 1)
-    (i.commit_stamp + length (i.uncommitted ++ one ∷ []) + 1) = rw below_two refl in
-    let taken : submit indexes first i ≡ Ok (indexes.submitted first i, i.commit_stamp + length i.uncommitted + 1) = rw below refl in
-    ap (result_and_then (λ (t : Index × ℕ). submit indexes second t.0)) taken ∙ last
-    ∙ ap (λ b. left (i.commit_stamp + length i.uncommitted + 1) b) next ∙ ap (λ a. left a (stamp + 1)) (sym at)
+-- the first of operations that fit
+misfit-take : (schema : List Field) (n : ℕ) (ops : List (Stamped Op)) → misfit schema ops ≡ None → misfit schema (take n ops) ≡ None
+misfit-take schema zero ops fit = refl
+misfit-take schema (suc n) [] fit = refl
+misfit-take schema (suc n) (op ∷ ops) fit =
+    elim (op_fits schema op.value) as (λ b. cond b (misfit schema ops) (Some (OtherSchema op.stamp)) ≡ None → cond b (misfit schema (take n ops))
+    (Some (OtherSchema op.stamp)) ≡ None)
+    [ true ↦ λ k. misfit-take schema n ops k | false ↦ λ k. k ] fit
+
+-- the uncommitted operations but the first are taken back
+pub local_taken_back : (commit : CommitPoint) (uncommitted : List (Stamped Op)) (cut : Cut) (calls : ℕ) (begun : Option (List EntryValue)) (count : ℕ) →
+    IsLocalEngine commit uncommitted cut calls begun → IsLocalEngine commit (take count uncommitted) cut calls begun
+local_taken_back commit uncommitted cut calls begun count i =
+    let fewer : length (take count uncommitted) ≤ length uncommitted = omega (arith, length-take count uncommitted) in
+    record {
+      fits = i.fits;
+      cuts = i.cuts;
+      numbered = numbered-take (commit.stamp + 1) count uncommitted i.numbered;
+      counted = record {
+        fit = misfit-take commit.snapshot.schema count uncommitted i.counted.fit;
+        stamps = omega (arith, fewer, i.counted.stamps);
+        segments = omega (arith, fewer, i.counted.segments);
+      };
+    }
 
 -- the uncommitted operations are committed, and segments merged after it
 pub local_committed : (old mid new : CommitPoint) (uncommitted : List (Stamped Op)) (cut : Cut) (calls : ℕ) (begun : Option (List EntryValue)) →

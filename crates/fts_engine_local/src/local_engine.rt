@@ -1,12 +1,12 @@
 // An index over segments that needs nothing but memory: no other thread, and nothing to wait for.
-ghost use Rattle.std.specs.Prelude.{◌≡◌, ◌+◌, ◌^◌, ◌<◌, ◌++◌, ◌∷◌, [], OnOk, OnErr};
+ghost use Rattle.std.specs.Prelude.{◌≡◌, []};
 
 use crate::begun_merge::{BegunMerge, MergeSlot, begun, ended, is_memory};
 use crate::local_policy::policy_after;
 use crate::next_commit::next_commit;
 use crate::stats::{Stats, stats_of};
 use fts_collect::search_alone;
-use fts_engine::{Engine, EngineOver, Fork, MOST_UNCOMMITTED, Merge, Options, SubmitTwo};
+use fts_engine::{Engine, EngineOver, Fork, MOST_UNCOMMITTED, Merge, Options, TakeBack};
 use fts_model::{Answer, Cut, Op, Query, Refusal, Request, Schema, Stamp, Stamped};
 use fts_snapshots::{CommitPoint, Snapshot, merge_all, merge_planned};
 use std::alloc::{AllocError, Global};
@@ -25,36 +25,6 @@ fn let_go(ops: &mut Vec<Stamped<Op>>)
 {
     ops.clear();
     ops.shrink_to(MOST_KEPT);
-}
-
-/// Appends two operations with stamps from this one on, or neither.
-fn push_two(
-    ops: &mut Vec<Stamped<Op>>,
-    stamp: Stamp,
-    first: Op,
-    second: Op,
-) -> Result<(), AllocError>
-    requires { stamp < 2 ^ 63 }
-    ensures ok { OnOk result (ops.new.items ≡ ops.old.items
-        ++ record { stamp = stamp; value = first } ∷ [] ++ record { stamp = stamp + 1; value = second } ∷ []) }
-    ensures err { OnErr result (ops.new.items ≡ ops.old.items) }
-{
-    let len = ops.len();
-    ops.push(Stamped {
-        stamp,
-        value: first,
-    })?;
-    let stamp = stamp + 1;
-    match ops.push(Stamped {
-        stamp,
-        value: second,
-    }) {
-        Ok(()) => Ok(()),
-        Err(_) => {
-            ops.truncate(len);
-            Err(AllocError)
-        }
-    }
 }
 
 /// The last commit, which forks share, and the operations since.
@@ -226,20 +196,13 @@ impl Engine for LocalEngine {
     }
 }
 
-impl SubmitTwo for LocalEngine {
-    fn second_stamp(&self) -> Stamp {
-        self.commit.stamp + self.uncommitted.len() as u64 + 2
+impl TakeBack for LocalEngine {
+    fn uncommitted(&self) -> usize {
+        self.uncommitted.len()
     }
 
-    fn submit_two(&mut self, first: Op, second: Op) -> Result<Stamp, Refusal> {
-        self.calls += 2;
-        let taken = self.uncommitted.len();
-        if taken + 1 >= MOST_UNCOMMITTED {
-            return Err(Refusal::LaneFull);
-        }
-        let stamp = self.commit.stamp + taken as u64 + 1;
-        push_two(&mut self.uncommitted, stamp, first, second)?;
-        Ok(stamp + 1)
+    fn keep_first(&mut self, count: usize) {
+        self.uncommitted.truncate(count);
     }
 }
 

@@ -10,3 +10,4 @@ pub mod ReplaceLemmas
 pub mod ResultLemmas
 pub mod SortLemmas
 pub mod WhiteLemmas
+pub mod TransactionLemmas

@@ -34,14 +34,14 @@ command-not_blank : (line : List ℕ) (c : Command) → command line ≡ Ok c �
 command-not_blank line c e = false_from_ne_true (is_blank line) (λ blank. unread (ltb longest (length line)) line c (json_in-none line blank) e)
 
 -- what a command leaves that is done, and its reply
-after_done : (s : SessionValue) (line : List ℕ) (c : Command) (d : Outcome Index) → command line ≡ Ok c → execute indexes s.index c ≡ Ok d →
+pub after_done : (s : SessionValue) (line : List ℕ) (c : Command) (d : Outcome Index) → command line ≡ Ok c → execute indexes s.index c ≡ Ok d →
     after_line s line ≡ record { number = s.number + 1; index = d.index }
 unfolding carried_over
 after_done s line c d e f =
     let whole : execute_line indexes s.index line ≡ Ok d = ap (result_and_then (execute indexes s.index)) e ∙ f in
     rw (command-not_blank line c e, whole) refl
 
-reply_done : (s : SessionValue) (line : List ℕ) (c : Command) (d : Outcome Index) → command line ≡ Ok c → execute indexes s.index c ≡ Ok d →
+pub reply_done : (s : SessionValue) (line : List ℕ) (c : Command) (d : Outcome Index) → command line ≡ Ok c → execute indexes s.index c ≡ Ok d →
     reply_to s line ≡ line_of d.reply
 unfolding reply_on
 reply_done s line c d e f =

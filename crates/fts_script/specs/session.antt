@@ -7,3 +7,4 @@ pub mod Replaces
 pub mod Replies
 pub mod Sessions
 pub mod Text
+pub mod Transactions

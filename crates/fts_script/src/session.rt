@@ -11,8 +11,10 @@ pub mod laws;
 mod maintenance;
 mod replace;
 mod reply;
+mod savepoint;
 mod session;
 
 pub use blank::{first_line, is_blank, is_white};
 pub use maintenance::Maintenance;
+pub use savepoint::Savepoint;
 pub use session::{MOST_LINES, Session};

@@ -41,12 +41,13 @@ class Group:
 
     def __init__(self, index: Index, key: Optional[Field], last_id: int) -> None:
         self.members: "list[Transaction]" = []
-        self.last_id = self._first_id = last_id
+        self.last_id = self._first_id = self._last_before = last_id
         self._lookups, self._key = Lookups(index, key), key
         self._changed, self._by_value, self._operations = _Subjects(), False, 0
 
     def take(self, transaction: Transaction) -> bool:
         """Takes the next transaction, unless it has to wait for the commit of those before it."""
+        self._last_before = self.last_id
         if self.members and self._operations + len(transaction) > _MOST_OPERATIONS:
             return False
         if transaction.is_plain:
@@ -63,14 +64,10 @@ class Group:
             self._give(draft, transaction)
         return True
 
-    def number_again(self) -> None:
-        """Leaves out the members that have an error, and numbers the documents of the others without gaps."""
-        members, self.members, self.last_id = self.members, [], self._first_id
-        for each in members:
-            if each.error is None and each.is_plain:
-                self._give_plain(each)
-            elif each.error is None:
-                self._give(self._drafted(each), each)
+    def leave_out(self) -> None:
+        """Leaves out the member that was taken last. The next one gets its numbers."""
+        self.members.pop()
+        self.last_id = self._last_before
 
     @property
     def block(self) -> bytes:

@@ -3,7 +3,7 @@ from __future__ import annotations
 
 import json
 from collections.abc import Iterator
-from typing import NamedTuple
+from typing import NamedTuple, Optional
 
 from dilforec import sentences
 from dilforec.index import Index
@@ -59,6 +59,28 @@ def execute_lines(index: Index, lines: bytes) -> Executed:
                 raise fault(code)
             before, rest = before + done, rest[done:]
     return Executed(before, refusals)
+
+
+def execute_together(index: Index, lines: bytes) -> "Optional[Refusal]":
+    """Executes lines, each of which ends with its LF and isn't blank, all or none.
+
+    If one is refused, the first of these is returned, and nothing was done; nor was it if MemoryError is raised.
+    """
+    count = lines.count(b"\n")
+    code, done, told = index._channel.transact(lines, count, has_replies=False)
+    if code == LINE_TOO_LONG:
+        return Refusal(done, "LineTooLong", _line(lines, done))
+    if code != OK:
+        raise fault(code)
+    if done == count:
+        return None
+    if not told:
+        raise MemoryError("there is no memory for a refusal")
+    return Refusal(done, json.loads(told)["error"], _line(lines, done))
+
+
+def _line(lines: bytes, place: int) -> bytes:
+    return lines.split(b"\n", place + 1)[place]
 
 
 def _blocks(lines: bytes) -> "Iterator[bytes]":

@@ -80,7 +80,7 @@ fn submit<E: Engine>(
 }
 
 /// The document that a value is.
-pub(crate) fn document_in<E: Engine>(
+fn document_in<E: Engine>(
     alloc: Global,
     engine: &E,
     json: &Value,
@@ -93,7 +93,7 @@ pub(crate) fn document_in<E: Engine>(
 }
 
 /// Adds a document.
-fn add<E: Engine>(
+pub(crate) fn add<E: Engine>(
     alloc: Global,
     engine: &mut E,
     json: &Value,
@@ -111,7 +111,7 @@ fn add<E: Engine>(
 }
 
 /// The term that a value is in the field of a name.
-pub(crate) fn term_in<E: Engine>(
+fn term_in<E: Engine>(
     alloc: Global,
     engine: &E,
     name: &str,
@@ -125,7 +125,7 @@ pub(crate) fn term_in<E: Engine>(
 }
 
 /// Deletes the documents with a term.
-fn delete<E: Engine>(
+pub(crate) fn delete<E: Engine>(
     alloc: Global,
     engine: &mut E,
     name: &str,
@@ -262,7 +262,7 @@ fn execute_open<R: AllocGlobal + Sync, E: EngineOver<R>>(
 }
 
 /// Executes a command.
-fn execute<R: AllocGlobal + Sync, E: EngineOver<R>>(
+pub(crate) fn execute<R: AllocGlobal + Sync, E: EngineOver<R>>(
     rt: &R,
     options: Options,
     index: &mut Option<E>,

@@ -1,25 +1,21 @@
 // A deletion and the addition after it, both or neither.
 ghost use Rattle.std.specs.Prelude.{◌≡◌, ◌+◌, ◌-◌, ◌^◌, ◌<◌, ◌≤◌, ◌++◌, ℕ, Option, Some, None, Ok, Err, true};
 ghost use Rattle.std.specs.Prelude.{IfOk, OnOk, OnErr, length, string_bytes, string_capacity, string_len, option_map};
-ghost use Rattle.std.specs.Prelude.{codes, not, nat_lt, if◌then◌else◌};
+ghost use Rattle.std.specs.Prelude.{if◌then◌else◌};
 ghost use Rattle.serde_json.specs.View.{view};
 ghost use Rattle.std.specs.Option.{ok_or};
 ghost use Rattle.fts_base.specs.Results.{Gives, result_and_then};
-ghost use Rattle.fts_model.specs.Operations.{op_fits, term_fits};
-ghost use Rattle.fts_model.specs.Documents.{fits};
 ghost use Rattle.fts_script.specs.command.Commands.{longest, Add, Delete, command_in};
 ghost use Rattle.fts_engine.specs.Indexes.{indexes};
-ghost use Rattle.fts_engine.specs.SubmitTwo.{submit_two};
-ghost use Rattle.fts_engine.specs.Steps.{most_uncommitted};
 ghost use Rattle.fts_script.specs.session.Replaces.{addition, deletion, execute_two, lines_done, replace};
-ghost use Rattle.fts_script.specs.session.Replies.{replied, number_reply, text_of, index_after};
+ghost use Rattle.fts_script.specs.session.Replies.{text_of, index_after};
 ghost use Rattle.fts_script.specs.session.Sessions.{Executes, ChangesAtMost};
 
 use crate::command::{Command, command_of};
-use crate::session::commands::{document_in, json_of, replied_line, term_in};
+use crate::session::commands::{add, delete, json_of, replied_line};
 use crate::session::reply::Reply;
-use fts_engine::{Engine, EngineOver, MOST_UNCOMMITTED, SubmitTwo};
-use fts_model::{Document, Op, Refusal, Term};
+use fts_engine::{EngineOver, TakeBack};
+use fts_model::Refusal;
 use serde_json::Value;
 use std::alloc::{AllocError, Global};
 
@@ -45,39 +41,8 @@ fn addition_in(alloc: Global, json: &Value) -> Result<&Value, Refusal>
     }
 }
 
-/// Whether as many operations are uncommitted as there may be.
-fn is_full<E: Engine>(engine: &E) -> bool
-    requires { E.changes engine.now ≤ 2 ^ 61 }
-    ensures { result ≡ not (nat_lt (length (E.index engine.now).uncommitted) most_uncommitted) }
-{
-    engine.next_stamp() - engine.commit_stamp() > MOST_UNCOMMITTED as u64
-}
-
-/// Takes two operations.
-fn submit_two<E: SubmitTwo>(
-    alloc: Global,
-    engine: &mut E,
-    first: Op,
-    second: Op,
-    out: &mut String,
-) -> Result<Reply, Refusal>
-    requires changes { E.changes engine.old < 2 ^ 61 }
-    requires fits_first { op_fits (E.index engine.old).schema first ≡ true }
-    requires fits_second { op_fits (E.index engine.old).schema second ≡ true }
-    ensures executes { Executes
-        (replied (number_reply (codes "stamp")) (submit_two indexes first second (E.index engine.old)))
-        (Some (E.index engine.old)) (Some (E.index engine.new)) result }
-    ensures out { string_bytes out.new ≡ string_bytes out.old }
-    ensures room { IfOk result (λ reply. string_len out.new + string_len reply.line ≤ string_capacity out.new) }
-    ensures changes { E.changes engine.new ≤ E.changes engine.old + 2 }
-{
-    let reply = Reply::of_number(alloc, "stamp", engine.second_stamp(), out)?;
-    engine.submit_two(first, second)?;
-    Ok(reply)
-}
-
-/// Deletes the documents with a term, and adds one: the document is read before anything is taken.
-fn replace<E: SubmitTwo>(
+/// Deletes the documents with a term, and adds one. If it can't be added, the deletion is taken back.
+fn replace<E: TakeBack>(
     alloc: Global,
     engine: &mut E,
     name: &str,
@@ -93,16 +58,19 @@ fn replace<E: SubmitTwo>(
     ensures room { IfOk result (λ reply. string_len out.new + string_len reply.line ≤ string_capacity out.new) }
     ensures changes { E.changes engine.new ≤ E.changes engine.old + 2 }
 {
-    let term = term_in(alloc, engine, name, json)?;
-    if is_full(engine) {
-        return Err(Refusal::LaneFull);
+    let before = engine.uncommitted();
+    delete(alloc, engine, name, json, out)?;
+    match add(alloc, engine, document, out) {
+        Ok(reply) => Ok(reply),
+        Err(refusal) => {
+            engine.keep_first(before);
+            Err(refusal)
+        }
     }
-    let document = document_in(alloc, engine, document)?;
-    submit_two(alloc, engine, Op::Delete(term), Op::Add(document), out)
 }
 
 /// The outcome of a line that deletes and a line that adds.
-fn replace_whole<E: SubmitTwo>(
+fn replace_whole<E: TakeBack>(
     alloc: Global,
     index: &mut Option<E>,
     delete: &[u8],
@@ -136,7 +104,7 @@ fn lines_of(done: bool) -> u64
 }
 
 /// Replies to a line that deletes and a line that adds, as one, and returns how many lines were done: 2 or 0.
-pub(crate) fn answer_replace<R: AllocGlobal + Sync, E: EngineOver<R> + SubmitTwo>(
+pub(crate) fn answer_replace<R: AllocGlobal + Sync, E: EngineOver<R> + TakeBack>(
     rt: &R,
     index: &mut Option<E>,
     number: u64,

@@ -1,6 +1,6 @@
 // A script, line by line: its state, and its replies.
-ghost use Rattle.std.specs.Prelude.{◌≡◌, ◌+◌, ◌^◌, ◌<◌, ◌≤◌, false, length, IfOk, OnOk, OnErr, is_none, option_map};
-ghost use Rattle.std.specs.Prelude.{string_bytes};
+ghost use Rattle.std.specs.Prelude.{◌≡◌, ◌+◌, ◌^◌, ◌<◌, ◌≤◌, false, ◌++◌, length, IfOk, OnOk, OnErr, is_none};
+ghost use Rattle.std.specs.Prelude.{option_map, string_bytes, if◌then◌else◌};
 ghost use Rattle.fts_script.specs.session.Text.{is_blank};
 ghost use Rattle.fts_script.specs.session.Finds.{at_commit, reply_to_search};
 ghost use Rattle.fts_script.specs.session.Outputs.{start, after_line, reply_to};
@@ -9,6 +9,9 @@ ghost use Rattle.fts_script.specs.session.CutSearches.{reply_to_cut_search};
 ghost use Rattle.fts_script.specs.session.Replaces.{after_replace, reply_to_replace};
 ghost use Rattle.fts_script.specs.session.GroupSearches.{reply_to_group_search};
 ghost use Rattle.fts_script.specs.session.KeptLines.{TooLong, after_kept, reply_to_kept};
+ghost use Rattle.fts_script.specs.session.Replies.{text_of};
+ghost use Rattle.fts_script.specs.session.Transactions.{is_taken, operate, rolled_back_to, savepoint_of};
+ghost use Rattle.fts_engine.specs.Indexes.{indexes};
 ghost use Rattle.fts_script.specs.session.Sessions.{Appends, ChangesAtMost, IsAnswerable};
 
 use crate::session::blank::is_blank;
@@ -18,7 +21,8 @@ use crate::session::group_search::answer_find_frequent;
 use crate::session::maintenance::Maintenance;
 use crate::session::replace::answer_replace;
 use crate::session::reply::Reply;
-use fts_engine::{Engine, EngineOver, Fork, Options, SubmitTwo};
+use crate::session::savepoint::{Savepoint, answer_operation, uncommitted_in};
+use fts_engine::{Engine, EngineOver, Fork, Options, TakeBack};
 use fts_model::Refusal;
 use std::alloc::{AllocError, Global};
 use std::marker::Model;
@@ -144,7 +148,7 @@ impl<E: Engine> Session<E> {
         out: &mut String,
     ) -> Result<(), AllocError>
     where
-        E: EngineOver<R> + SubmitTwo,
+        E: EngineOver<R> + TakeBack,
         requires line_number_fits { self.old.number < 2 ^ 61 }
         requires fits_delete { length delete.now ≤ longest }
         requires fits_add { length add.now ≤ longest }
@@ -162,6 +166,66 @@ impl<E: Engine> Session<E> {
         let done = answer_replace(rt, &mut self.index, number, delete, add, out)?;
         self.number += done;
         Ok(())
+    }
+
+    /// Where the script is, to go back to if a transaction isn't done.
+    pub fn savepoint(&self) -> Savepoint
+    where
+        E: TakeBack,
+        ensures { result ≡ savepoint_of self.now }
+    {
+        Savepoint {
+            number: self.number,
+            uncommitted: uncommitted_in(&self.index),
+        }
+    }
+
+    /// Replies to an operation in a transaction that began at a savepoint, and returns whether it was taken. A refusal
+    /// is the only reply then, in the line after the savepoint, and the script is as it was; any command other than an
+    /// operation is refused as `BadCommand`. There is an `Err` if memory runs out or 2^61 lines were tried.
+    pub fn operate<R: AllocGlobal + Sync>(
+        &mut self,
+        rt: &R,
+        begun: Savepoint,
+        line: &[u8],
+        out: &mut String,
+    ) -> Result<bool, AllocError>
+    where
+        E: EngineOver<R>,
+        requires answerable { IsAnswerable self.old line.now }
+        requires later { begun.number ≤ self.old.number }
+        ensures taken { IfOk result (λ taken. taken ≡ is_taken self.old line.now) }
+        ensures reply { IfOk result (λ taken. string_bytes out.new
+            ≡ (if taken then string_bytes out.old ++ reply_to self.old line.now
+            else text_of (begun.number + 1) (operate indexes self.old.index line.now))) }
+        ensures script { IfOk result (λ taken. self.new
+            ≡ (if taken then after_line self.old line.now else self.old)) }
+        ensures err { OnErr result (string_bytes out.new ≡ string_bytes out.old) }
+        ensures kept { OnErr result (self.new ≡ self.old) }
+        ensures lines_counted { self.new.number ≤ self.old.number + 1 }
+    {
+        if self.tries >= MOST_LINES {
+            return Err(AllocError);
+        }
+        self.tries += 1;
+        let number = begun.number + 1;
+        let taken = answer_operation(rt, self.options, &mut self.index, number, line, out)?;
+        if taken {
+            self.number += 1;
+        }
+        Ok(taken)
+    }
+
+    /// Takes back the operations since a savepoint.
+    pub fn roll_back_to(&mut self, begun: Savepoint)
+    where
+        E: TakeBack,
+        ensures { self.new ≡ rolled_back_to begun self.old }
+    {
+        self.number = begun.number;
+        if let Some(engine) = &mut self.index {
+            engine.keep_first(begun.uncommitted);
+        }
     }
 
     /// Replies to a search as `find` does, with the documents of its hits cut to the fields that another line lists. An
