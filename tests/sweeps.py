@@ -7,7 +7,7 @@ or made to be slow; and at the calls of the libraries, by tests that try again w
 10,000 damaged scripts, or SCRIPTS of them. `.ci/run` does this after the proofs, over the programs and the tests that these built; else build
 them first: fts (README.md), fts_list, which runs a script over a plain list of documents, by `rt run` in crates/fts_list, and by `rt test`
 the crates of tests that growths.py names. The sweeps in which calls fail need a C compiler; if there is none they are left out, which is
-said. The last line is 'N passed, M failed'.
+said of each. The last lines are 'N skipped', if any, and 'N passed, M failed'.
 """
 import concurrent.futures
 import errno
@@ -205,15 +205,20 @@ def main():
     sweep("damaged scripts, answered as over a list", damaged)
     sweep("random scripts in every way, answered as over a list", every_way)
     sweep("scripts made to be slow, within a bound", made_slow)
+    faulty = {
+        "growths refused in scripts, a byte per read": refused_by_bytes,
+        "growths refused in scripts, each in one block": refused_in_a_block,
+        "growths refused in tests that try again": tried_again,
+        "options that change how often memory is asked for": heeded,
+        "reads and writes that fail or come short": streams,
+    }
     if faults.compiler():
         with faults.shim() as shim:
-            sweep("growths refused in scripts, a byte per read", refused_by_bytes, shim)
-            sweep("growths refused in scripts, each in one block", refused_in_a_block, shim)
-            sweep("growths refused in tests that try again", tried_again, shim)
-            sweep("options that change how often memory is asked for", heeded, shim)
-            sweep("reads and writes that fail or come short", streams, shim)
+            for name, look in faulty.items():
+                sweep(name, look, shim)
     else:
-        counts.skip("growths that are refused, and reads and writes that fail", "there is no C compiler", 5)
+        for name in faulty:
+            counts.skip(name, "there is no C compiler")
     return counts.end()
 
 

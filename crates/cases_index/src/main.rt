@@ -1,4 +1,4 @@
-// Tries cases of an index of many segments: scripts, each over a list of documents and over segments under ten sets of
+// Tries cases of an index of many segments: scripts, each over a list of documents and over segments under 24 sets of
 // options, and walks, which are steps over a new writer.
 #![tactic(auto)]
 

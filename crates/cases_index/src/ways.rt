@@ -1,5 +1,5 @@
-// The ways of running a script: over a plain list of documents, and over segments under each kind of options. The
-// engines are chosen by `main`.
+// The ways of running a script: over a plain list of documents, and over segments under each kind of options, with
+// each cut crossed with each kind of merges and with one worker and three. The engines are chosen by `main`.
 use crate::script::Script;
 use dilforec::Cut;
 use dilforec::script::{EngineOver, Merge, Options, Plain, run_script};
@@ -8,18 +8,22 @@ use std::sync::Wait;
 use std::thread::Threads;
 use testing_cases::{Trial, Trouble};
 
-/// How segments are cut and merged, and by how many workers.
-static WAYS: [(usize, Cut, Merge); 10] = [
-    (1, Cut::Runs(1), Merge::Off),
-    (3, Cut::Runs(1), Merge::Policy),
-    (3, Cut::Runs(3), Merge::Off),
-    (1, Cut::Runs(3), Merge::Policy),
-    (1, Cut::Runs(65_536), Merge::Off),
-    (3, Cut::Runs(65_536), Merge::Policy),
-    (1, Cut::Deal(1), Merge::Off),
-    (3, Cut::Deal(2), Merge::Off),
-    (1, Cut::Deal(2), Merge::Policy),
-    (3, Cut::Deal(7), Merge::Policy),
+/// How segments are cut.
+static CUTS: [Cut; 6] = [
+    Cut::Runs(1),
+    Cut::Runs(3),
+    Cut::Runs(65_536),
+    Cut::Deal(1),
+    Cut::Deal(2),
+    Cut::Deal(7),
+];
+
+/// How many workers there are, and when segments are merged.
+static WORK: [(usize, Merge); 4] = [
+    (1, Merge::Off),
+    (3, Merge::Off),
+    (1, Merge::Policy),
+    (3, Merge::Policy),
 ];
 
 /// The first line that one text has and the other lacks at its place.
@@ -67,24 +71,51 @@ fn run<R: AllocGlobal + Threads + Wait + Sync, E: EngineOver<R>>(
     other(alloc, over, writer.into_inner(), wanted, options)
 }
 
-/// The wrong reply of the first way of running a script over segments that has one: over `S`, and over `O` in one
-/// thread. Half of the ways run it without its last LF.
+/// The wrong reply of a script under these options, if it has one: over `S`, and over `O` in one thread, which has no
+/// use for more workers.
+fn difference_by<R: AllocGlobal + Threads + Wait + Sync, S: EngineOver<R>, O: EngineOver<R>>(
+    rt: &R,
+    input: &str,
+    wanted: &str,
+    options: Options,
+) -> Result<Option<String>, AllocError> {
+    let other = run::<_, S>(rt, "segments", input, wanted, options)?;
+    if other.is_some() || options.workers > 1 {
+        return Ok(other);
+    }
+    run::<_, O>(rt, "segments in one thread", input, wanted, options)
+}
+
+/// The wrong reply of the first way of running a script over segments that are cut like this, if one has it. A script
+/// whose segments are merged by the policy lacks its last LF.
+fn difference_by_cut<R: AllocGlobal + Threads + Wait + Sync, S: EngineOver<R>, O: EngineOver<R>>(
+    rt: &R,
+    input: &str,
+    wanted: &str,
+    cut: Cut,
+) -> Result<Option<String>, AllocError> {
+    let unended = input.strip_suffix('\n').unwrap_or(input);
+    for (workers, merge) in &WORK {
+        let Some(options) = Options::new(*workers, cut, *merge) else {
+            return Ok(Some(String::from_str(rt.alloc(), "options beyond their limits")?));
+        };
+        let input = if *merge == Merge::Off { input } else { unended };
+        let other = difference_by::<_, S, O>(rt, input, wanted, options)?;
+        if other.is_some() {
+            return Ok(other);
+        }
+    }
+    Ok(None)
+}
+
+/// The wrong reply of the first way of running a script over segments that has one.
 fn difference_over_segments<
     R: AllocGlobal + Threads + Wait + Sync,
     S: EngineOver<R>,
     O: EngineOver<R>,
 >(rt: &R, input: &str, wanted: &str) -> Result<Option<String>, AllocError> {
-    let unended = input.strip_suffix('\n').unwrap_or(input);
-    for (i, (workers, cut, merge)) in WAYS.iter().enumerate() {
-        let Some(options) = Options::new(*workers, *cut, *merge) else {
-            return Ok(Some(String::from_str(rt.alloc(), "options beyond their limits")?));
-        };
-        let input = if i % 2 == 0 { input } else { unended };
-        let other = run::<_, S>(rt, "segments", input, wanted, options)?;
-        if other.is_some() {
-            return Ok(other);
-        }
-        let other = run::<_, O>(rt, "segments in one thread", input, wanted, options)?;
+    for cut in &CUTS {
+        let other = difference_by_cut::<_, S, O>(rt, input, wanted, *cut)?;
         if other.is_some() {
             return Ok(other);
         }

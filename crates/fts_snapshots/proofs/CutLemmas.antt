@@ -1,11 +1,11 @@
 -- Members divided among groups: these have the members in another order, and none has too many.
-use Rattle.std.proofs.Common.{◌≡◌, ◌<◌, ◌≤◌, ◌+◌, ◌*◌, ◌/◌, ◌%◌, ◌-◌, ℕ, zero, suc, List, [], ◌∷◌, ◌++◌, length, get_or, set, subst, refl, sym, ap, ◌∙◌}
+use Rattle.std.proofs.Common.{◌≡◌, ◌<◌, ◌≤◌, ◌+◌, ◌*◌, ◌/◌, ◌%◌, ◌-◌, ℕ, zero, suc, List, [], ◌∷◌, ◌++◌, length, get_or, set, take, subst, refl, sym, ap, ◌∙◌}
 use Rattle.std.proofs.Common.{append_assoc, arith, ⊎_elim}
 use Rattle.std.specs.List.{AllByRecursion}
 use Rattle.std.specs.List.Sorted.{IsPermutation}
 use Rattle.std.proofs.lemmas.Bool.{cases_lt}
 use Rattle.std.proofs.lemmas.Nat.{div-mul-add, mod-mul-add, mul-add-lt}
-use Rattle.std.proofs.lemmas.List.{append-nil, length-append}
+use Rattle.std.proofs.lemmas.List.{append-nil, length-append, length-take-le, take_more}
 use Rattle.std.proofs.lemmas.List.Sorted.{IsPermutation-refl, IsPermutation-trans, IsPermutation-to_front, IsPermutation-append_left}
 use Rattle.std.proofs.lemmas.List.Sorted.{IsPermutation-append_right}
 use Rattle.fts_model.specs.declared.cut.Cut.{Cut}
@@ -218,3 +218,43 @@ room_there most (v ∷ gs) (suc at) x g l e w = room_there most gs at x g (omega
 -- more adds are divided
 pub groups_of-append : {X : Type 0} (cut : Cut) (xs ys : List X) → dealt_from (place_of cut) (length xs) (groups_of cut xs) ys ≡ groups_of cut (xs ++ ys)
 groups_of-append cut xs ys = ap (λ n. dealt_from (place_of cut) n (groups_of cut xs) ys) (omega arith) ∙ sym (dealt_from-append (place_of cut) 0 [] xs ys)
+
+-- no group is new if a member is added to an existing one
+length-put_there : {X : Type 0} (at : ℕ) (x : X) (gs : List (List X)) → at < length gs → length (put_into at x gs) ≡ length gs
+length-put_there at x [] l = absurd (omega (arith, l))
+length-put_there zero x (g ∷ gs) l = omega arith
+length-put_there (suc at) x (g ∷ gs) l = omega (arith, length-put_there at x gs (omega (arith, l)))
+
+-- one group is new if a member is added beyond the existing ones
+length-put_beyond : {X : Type 0} (at : ℕ) (x : X) (gs : List (List X)) → length gs ≤ at → length (put_into at x gs) ≡ length gs + 1
+length-put_beyond at x [] l = omega arith
+length-put_beyond zero x (g ∷ gs) l = absurd (omega (arith, l))
+length-put_beyond (suc at) x (g ∷ gs) l = omega (arith, length-put_beyond at x gs (omega (arith, l)))
+
+-- the first members of a list, and the next one
+next_taken : {X : Type 0} (xs : List X) (j : ℕ) → j < length xs → (x : X) × (take (j + 1) xs ≡ take j xs ++ x ∷ [])
+next_taken [] j l = absurd (omega (arith, l))
+next_taken (x ∷ xs) j l = (get_or (x ∷ xs) j x, take_more (x ∷ xs) j x l)
+
+-- the next member is added to the groups of those before it
+put_taken : {X : Type 0} (cut : Cut) (xs : List X) (j : ℕ) → j < length xs →
+    (x : X) × (groups_of cut (take (j + 1) xs) ≡ put_into (place_of cut j) x (groups_of cut (take j xs)))
+put_taken cut xs j l =
+    let next = next_taken xs j l in
+    let before = take j xs in
+    let count : length before ≡ j = length-take-le j xs (omega (arith, l)) in
+    (next.0, ap (groups_of cut) next.1 ∙ sym (groups_of-append cut before (next.0 ∷ [])) ∙ ap (λ n. put_into (place_of cut n) next.0 (groups_of cut before)) count)
+
+-- how many groups there are with the next member, if it is added to an existing one
+pub groups_there : {X : Type 0} (cut : Cut) (xs : List X) (j : ℕ) → j < length xs → place_of cut j < length (groups_of cut (take j xs)) →
+    length (groups_of cut (take (j + 1) xs)) ≡ length (groups_of cut (take j xs))
+groups_there cut xs j l h =
+    let put = put_taken cut xs j l in
+    ap length put.1 ∙ length-put_there (place_of cut j) put.0 (groups_of cut (take j xs)) h
+
+-- how many groups there are with the next member, if it is added to a new one
+pub groups_beyond : {X : Type 0} (cut : Cut) (xs : List X) (j : ℕ) → j < length xs → length (groups_of cut (take j xs)) ≤ place_of cut j →
+    length (groups_of cut (take (j + 1) xs)) ≡ length (groups_of cut (take j xs)) + 1
+groups_beyond cut xs j l h =
+    let put = put_taken cut xs j l in
+    ap length put.1 ∙ length-put_beyond (place_of cut j) put.0 (groups_of cut (take j xs)) h

@@ -1,6 +1,6 @@
 -- The content of segments after operations; segments without a live document have none.
 use Rattle.std.proofs.Common.{◌≡◌, ◌<◌, ◌≤◌, ◌+◌, ℕ, Bool, true, false, cond, nat_lt, List, [], ◌∷◌, ◌++◌, length, get_or, take, map, filter, count_by}
-use Rattle.std.proofs.Common.{replicate, refl, sym, ap, ◌∙◌, arith}
+use Rattle.std.proofs.Common.{replicate, not, refl, sym, ap, ◌∙◌, arith}
 use Rattle.std.specs.List.{flat_map, list_any, AllByRecursion}
 use Rattle.std.proofs.lemmas.Bool.Decides.{nat_tests}
 use Rattle.std.proofs.lemmas.List.{length-map, length-append, length-take-le}
@@ -17,7 +17,7 @@ use Rattle.fts_segment.specs.Contents.{where_set}
 use Rattle.fts_merge.specs.Strikes.{bits_where}
 use Rattle.fts_segment.specs.Segments.{SegmentValue}
 use Rattle.fts_snapshots.specs.Entries.{EntryValue, IsEntry, live_in, has_live}
-use Rattle.fts_snapshots.specs.Commits.{struck, fresh, fresh_from}
+use Rattle.fts_snapshots.specs.Commits.{deletes, struck, fresh, fresh_from}
 use Rattle.fts_merge.proofs.BitsLemmas.{where_set-bits_where, length-bits_where}
 use Rattle.fts_model.proofs.OperationsByStamps.{added-push}
 use Rattle.fts_model.proofs.Lists.{taken}
@@ -133,6 +133,19 @@ length-added_by : (stamp : ℕ) (op : Op) → length (added_by stamp op) ≤ 1
 length-added_by stamp (Add document) = omega arith
 length-added_by stamp (Delete term) = omega arith
 length-added_by stamp DeleteAll = omega arith
+
+length-added_one : (stamp : ℕ) (op : Op) → length (added_by stamp op) ≡ cond (not (deletes op)) 1 0
+length-added_one stamp (Add document) = omega arith
+length-added_one stamp (Delete term) = omega arith
+length-added_one stamp DeleteAll = omega arith
+
+-- how many documents are added with one more operation
+pub length-added_more : (ops : List (Stamped Op)) (i : ℕ) (op : Stamped Op) (is_add : Bool) → i < length ops → op ≡ get_or ops i op →
+    not (deletes op.value) ≡ is_add → length (added (take (i + 1) ops)) ≡ length (added (take i ops)) + cond is_add 1 0
+length-added_more ops i op is_add l e h =
+    sym (ap length (added_more ops i op l e))
+    ∙ length-append (added (take i ops)) (added_by op.stamp op.value)
+    ∙ ap (λ n. length (added (take i ops)) + n) (length-added_one op.stamp op.value ∙ ap (λ b. cond b 1 0) h)
 
 -- no more is added than there are operations
 pub length-added : (ops : List (Stamped Op)) → length (added ops) ≤ length ops

@@ -1,6 +1,6 @@
 -- Following is transitive, a merged segment that fits a snapshot fits each that follows it, and commits and merges are
 -- followed.
-use Rattle.std.proofs.Common.{◌≡◌, ◌<◌, ◌≤◌, inl, inr, ℕ, zero, suc, Bool, true, not, Some, List, [], ◌∷◌, ◌++◌, map, filter, slice_get, subst, refl, sym, ap}
+use Rattle.std.proofs.Common.{◌≡◌, ◌≤◌, inl, inr, ℕ, zero, suc, Bool, true, not, Some, List, [], ◌∷◌, ◌++◌, map, filter, slice_get, subst, refl, sym, ap}
 use Rattle.std.proofs.Common.{◌∙◌, arith, Contains}
 use Rattle.std.proofs.lemmas.List.Elements.{All-contains, All-from_recursion, Contains-append_cases}
 use Rattle.std.proofs.lemmas.Bool.{and_parts}

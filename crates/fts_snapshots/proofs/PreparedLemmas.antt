@@ -1,5 +1,6 @@
 -- Prepared commits, and their finish.
-use Rattle.std.proofs.Common.{◌≡◌, ◌<◌, ◌+◌, ◌++◌, ◌^◌, ◌⊎◌, inl, inr, ℕ, true, Some, Ok, Err, List, Result, IfOk, IsOkUnless, length, sym, ap, ◌∙◌, arith}
+use Rattle.std.proofs.Common.{◌≡◌, ◌<◌, ◌+◌, ◌++◌, ◌^◌, inl, ℕ, true, Option, None, Ok, Err, List, Result, IfOk, IfSome, IsOkUnless}
+use Rattle.std.proofs.Common.{length, sym, ap, subst, ◌∙◌, arith}
 use Rattle.std.proofs.lemmas.List.Elements.{recursion_from_All}
 use Rattle.fts_base.specs.declared.refusal.Refusal.{Refusal}
 use Rattle.fts_base.specs.declared.refusal.Refusal.TheVariants.{Memory}
@@ -51,6 +52,10 @@ finished p i schema before jobs all next same old kept made number =
     same_snapshot schema s.schema all (left p).entries next (s.next_id + new_segments p.cut p.batch) same
     (made ∙ ap (λ es. spared_by p.batch es ++ jobs) old ∙ ap (λ es. spared_by p.batch s.entries ++ es) kept ∙ all_left p i) number
 
+-- anything holds of a fault that isn't there
+pub nothing_faulty : {X : Type 0} (fault : Option X) (P : X → Type 0) → fault ≡ None → IfSome fault P
+nothing_faulty fault P e = subst (λ f. IfSome f P) (sym e) tt
+
 -- finishing a prepared commit gives the result of the commit
 pub gives_commit : (cut : Cut) (batch : List (Stamped Op)) (s : SnapshotValue) (p : PreparedValue) (r : Result SnapshotValue Refusal) →
     ok_unless (commit_fault cut batch s) (prepared cut batch s) ≡ Ok p →
@@ -61,5 +66,12 @@ gives_commit cut batch s p (Ok new) is same holds memory =
     record {
       snapshot = ap (λ f. ok_unless f (after_commit cut batch s)) both.0 ∙ ap Ok (sym (same ∙ ap left both.1));
       content = holds ∙ ap (λ (q : PreparedValue). alive q.snapshot.schema (adds (content_of q.snapshot) ++ q.batch)) both.1;
+      fault = nothing_faulty (commit_fault cut batch s) (λ refusal. let made : Result SnapshotValue Refusal = Ok new in made ≡ Err refusal) both.0;
     }
-gives_commit cut batch s p (Err e) is same holds memory = record { snapshot = inl memory; content = tt }
+gives_commit cut batch s p (Err e) is same holds memory =
+    let both = unless_ok (commit_fault cut batch s) (prepared cut batch s) p is in
+    record {
+      snapshot = inl memory;
+      content = tt;
+      fault = nothing_faulty (commit_fault cut batch s) (λ refusal. let made : Result SnapshotValue Refusal = Err e in made ≡ Err refusal) both.0;
+    }

@@ -1,6 +1,6 @@
 -- Snapshots, the effect of a commit on them, and the refusals of commits and merges.
-use Rattle.std.specs.Prelude.{◌≡◌, ◌<◌, ◌≤◌, ℕ, ◌+◌, ◌^◌, ◌++◌, true, Option, List, Result, IfOk, length, sum_by, All}
-use Rattle.std.specs.Prelude.{AllPairs}
+use Rattle.std.specs.Prelude.{◌≡◌, ◌<◌, ◌≤◌, ℕ, ◌+◌, ◌^◌, ◌++◌, true, Option, List, Result, Err, IfOk, IfSome, length}
+use Rattle.std.specs.Prelude.{sum_by, All, AllPairs}
 use Rattle.fts_model.specs.declared.schema.Field.{Field}
 use Rattle.fts_model.specs.declared.operation.Op.{Op}
 use Rattle.fts_model.specs.declared.operation.Stamped.{Stamped}
@@ -61,11 +61,12 @@ abbrev pub commit_fault : Cut → List (Stamped Op) → SnapshotValue → Option
 commit_fault cut batch s = numbers_fault (s.next_id + new_segments cut batch)
 
 -- the result of a commit: a snapshot whose content is alive after the adds of the content before and the batch, or a
--- refusal
+-- refusal; if the numbers of segments are used up, it is refused for that, whatever memory is left
 pub record GivesCommit (cut : Cut) (batch : List (Stamped Op)) (old : SnapshotValue)
     (result : Result SnapshotValue Refusal) : Type 0 where
   pub snapshot : Gives (λ new. new) result (ok_unless (commit_fault cut batch old) (after_commit cut batch old))
   pub content : IfOk result (λ new. content_of new ≡ alive old.schema (adds (content_of old) ++ batch))
+  pub fault : IfSome (commit_fault cut batch old) (λ refusal. result ≡ Err refusal)
 
 -- the refusal of a merge of the segments with these numbers
 abbrev pub merge_fault : List ℕ → SnapshotValue → Option Refusal

@@ -1,5 +1,5 @@
 // Merges in any holder of the last commit of an index: of all segments, and of those that a policy chooses.
-ghost use Rattle.std.specs.Prelude.{◌≡◌, ◌+◌, ◌^◌, ◌<◌, ◌≤◌, ◌⊎◌, ◌∷◌, [], length, map, sum_by};
+ghost use Rattle.std.specs.Prelude.{◌≡◌, ◌+◌, ◌^◌, ◌<◌, ◌≤◌, ◌⊎◌, ◌∷◌, [], Ok, Err, length, map, sum_by};
 ghost use Rattle.std.specs.Prelude.{IfOk, IfErr, IfSome, OnOk, OnErr, IsOkUnless, MatchOption, is_ok};
 ghost use Rattle.fts_model.specs.Limits.{most_merged};
 ghost use Rattle.fts_snapshots.specs.Candidates.{MergesAllBut, MergesDue, after_candidate, due};
@@ -112,14 +112,16 @@ fn ids_in(alloc: Global, entries: &EntryList) -> Result<Vec<u64>, AllocError>
 }
 
 /// Merges all segments into one, if there are any, and returns the number of live documents. It is refused as
-/// `TooLarge` if there are over 1,048,576.
+/// `TooLarge` if there are over 1,048,576. Neither that nor an index without a segment takes memory.
 pub fn merge_all<R, S: Mergeable<R>>(rt: &R, alloc: Global, index: &mut S) -> Result<u64, Refusal>
     requires { 0 < length (S.left index.old).entries → (S.left index.old).next_id + 1 ≤ 2 ^ 62 }
     ensures merges { OnOk result (Merges 1 (S.left index.old) (S.left index.new)) }
     ensures one { OnOk result (length (S.left index.new).entries ≤ 1) }
     ensures keeps { S.keeps index.old index.new }
+    ensures empty { (S.left index.old).entries ≡ [] → result ≡ Ok 0 }
     ensures count { IfOk result (λ n. n ≡ length (content_of (S.left index.old))) }
     ensures few { IfOk result (λ n. n ≤ most_merged) }
+    ensures large { most_merged < length (content_of (S.left index.old)) → result ≡ Err Refusal.TooLarge }
     ensures same { OnErr result (index.new ≡ index.old) }
     ensures refused { IfErr result (λ e. (e ≡ Refusal.Memory) ⊎ ((e ≡ Refusal.TooLarge)
         × (most_merged < length (content_of (S.left index.old))))) }

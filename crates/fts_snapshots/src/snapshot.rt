@@ -1,5 +1,5 @@
 // The state of an index at one time, and the states that commits and merges make of it.
-ghost use Rattle.std.specs.Prelude.{◌≡◌, ◌≤◌, ◌^◌, [], None, map, IfOk, IsOkUnless};
+ghost use Rattle.std.specs.Prelude.{◌≡◌, ◌≤◌, ◌^◌, [], None, Err, map, IfOk, IfSome, IsOkUnless};
 ghost use Rattle.fts_model.specs.Limits.{most_merged};
 ghost use Rattle.fts_base.specs.Results.{Gives, ok_unless};
 ghost use Rattle.fts_snapshots.specs.Entries.{content};
@@ -94,7 +94,7 @@ impl Snapshot {
     /// Starts a commit of a batch that fits the schema and comes after the documents of this snapshot: its adds are
     /// divided among new segments. Any threads may run the jobs of the commit.
     ///
-    /// It is refused as `StampsUsedUp` if the number of a new segment would be 2^62 or more.
+    /// It is refused as `StampsUsedUp` if the number of a new segment would be 2^62 or more, before any memory is taken.
     pub fn prepare_commit<'a>(
         &'a self,
         alloc: Global,
@@ -104,8 +104,9 @@ impl Snapshot {
         requires cut { IsCut cut }
         requires behind { IsBehind (content self.now.entries) batch.now }
         requires fits { misfit self.now.schema batch.now ≡ None }
-        ensures { Gives (λ commit. commit) result
+        ensures commit { Gives (λ commit. commit) result
             (ok_unless (commit_fault cut batch.now self.now) (prepared cut batch.now self.now)) }
+        ensures fault { IfSome (commit_fault cut batch.now self.now) (λ refusal. result ≡ Err refusal) }
     {
         PreparedCommit::new(alloc, cut, batch, self)
     }
@@ -137,6 +138,7 @@ impl Snapshot {
             (ok_unless (merge_fault ids.now self.now) (after_merge ids.now self.now)) }
         ensures segments { IfOk result (λ new. map info_of new.entries ≡ infos_after_merge ids.now self.now) }
         ensures content { IfOk result (λ new. content new.entries ≡ content self.now.entries) }
+        ensures empty { ids.now ≡ [] → result ≡ Err Refusal.NoSegments }
     {
         let job = self.begin_merge(alloc, ids)?;
         match job.run(alloc) {
@@ -148,15 +150,16 @@ impl Snapshot {
     /// Starts a merge of the segments with these numbers, in their order. The job holds them with their current live
     /// bits.
     ///
-    /// It is refused as `NoSegments`, or by the first faulty number as `UnknownSegment` or `SegmentTwice`.
+    /// It is refused as `NoSegments`, before any memory is taken, or by the first faulty number as `UnknownSegment` or
+    /// `SegmentTwice`.
     pub fn begin_merge(&self, alloc: Global, ids: &[u64]) -> Result<MergeJob, Refusal>
         ensures job { Gives (λ job. job) result
             (ok_unless (names_fault self.now.entries ids.now) (entries_at self.now.entries ids.now)) }
+        ensures empty { ids.now ≡ [] → result ≡ Err Refusal.NoSegments }
         ensures fits { IfOk result (λ job. Fits (merged_of job) self.now) }
         ensures snapshot { IsSnapshot self.now }
     {
-        let all = self.entries.to_vec(alloc)?;
-        let entries = named_entries(alloc, &all, ids)?;
+        let entries = named_entries(alloc, &self.entries, ids)?;
         Ok(MergeJob::new(entries))
     }
 

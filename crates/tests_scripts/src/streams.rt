@@ -1,5 +1,7 @@
 // Scripts over memory, by readers and writers that are slow or fail.
-use dilforec::script::{EngineOver, Fault, ListEngine, Options, Plain, run_script};
+use dilforec::script::{
+    EngineOver, Fault, IndexEngine, ListEngine, LocalEngine, Options, Plain, run_script,
+};
 use std::alloc::AllocError;
 use std::cell::Cell;
 use std::io;
@@ -217,56 +219,98 @@ fn read_fails<G: AllocGlobal + Abort + Sync, E: EngineOver<G>>(
     assert_eq!(rt; written.bytes, wanted, "call {fails}");
 }
 
-#[test]
-fn each_read_fails(rt: HostRuntime) {
-    let script = input(&rt);
+/// Asserts that the script fails at each read, over an engine.
+fn each_read_fails_over<G: AllocGlobal + Abort + Sync, E: EngineOver<G>>(rt: &G) {
+    let script = input(rt);
     for kind in [io::ErrorKind::BrokenPipe, io::ErrorKind::Interrupted] {
         for fails in 1..script.len() + 2 {
-            read_fails::<_, ListEngine>(&rt, &script, fails, kind);
+            read_fails::<_, E>(rt, &script, fails, kind);
         }
     }
 }
 
-/// Whether the script fails at this call of the writer, if it comes to it, with a beginning of the replies.
+#[test]
+fn each_read_fails(rt: HostRuntime) {
+    each_read_fails_over::<_, ListEngine>(&rt);
+}
+
+#[test]
+fn each_read_fails_over_segments(rt: HostRuntime) {
+    each_read_fails_over::<_, LocalEngine>(&rt);
+    each_read_fails_over::<_, IndexEngine>(&rt);
+}
+
+/// Runs the script with a writer that fails at this call, and returns the outcome and the writer.
+fn written_until<G: AllocGlobal + Abort + Sync, E: EngineOver<G>>(
+    rt: &G,
+    step: usize,
+    fails: usize,
+    kind: Option<io::ErrorKind>,
+) -> (Result<(), Fault>, Sink) {
+    let script = input(rt);
+    let reader = reader_of(&script, step, 0, io::ErrorKind::Other);
+    let writer = writer_of(rt, step, fails, kind);
+    let (outcome, _, written) = run_over::<_, E, _, _>(rt, reader, writer, Options::default());
+    (outcome, written)
+}
+
+/// Asserts that the script fails at this call of the writer and makes no other, with a beginning of the replies.
 fn write_fails<G: AllocGlobal + Abort + Sync, E: EngineOver<G>>(
     rt: &G,
     step: usize,
     fails: usize,
     kind: Option<io::ErrorKind>,
-) -> bool {
-    let script = input(rt);
-    let reader = reader_of(&script, step, 0, io::ErrorKind::Other);
-    let writer = writer_of(rt, step, fails, kind);
-    let (outcome, _, written) = run_over::<_, E, _, _>(rt, reader, writer, Options::default());
-    let failed = fails <= written.calls && (kind.is_some() || written.flushes == 0);
-    let wanted = if failed { Err(Fault::Write) } else { Ok(()) };
-    assert_eq!(rt; outcome, wanted, "call {fails}");
-    let whole = replies(rt, script.len(), true);
+) {
+    let (outcome, written) = written_until::<_, E>(rt, step, fails, kind);
+    assert_eq!(rt; (outcome, written.calls), (Err(Fault::Write), fails));
+    let whole = replies(rt, 0, true);
     assert!(rt;
         whole.as_slice().starts_with(&written.bytes),
         "call {fails}"
     );
-    assert!(rt; failed || written.bytes == whole, "call {fails}");
-    failed
 }
 
-#[test]
-fn each_write_fails(rt: HostRuntime) {
+/// Asserts that the script fails at each write and at the flush, which comes last. If no kind of error is given, the
+/// flush doesn't fail, since it takes no bytes. The replies have 154 bytes.
+fn each_write_fails_by<G: AllocGlobal + Abort + Sync, E: EngineOver<G>>(
+    rt: &G,
+    step: usize,
+    kind: Option<io::ErrorKind>,
+) {
+    let (outcome, written) = written_until::<_, E>(rt, step, 0, kind);
+    assert_eq!(rt; (outcome, written.flushes), (Ok(()), 1));
+    assert!(rt; step > 1 || written.calls == 155);
+    let last = if kind.is_none() {
+        written.calls.saturating_sub(1)
+    } else {
+        written.calls
+    };
+    for fails in 1..=last {
+        write_fails::<_, E>(rt, step, fails, kind);
+    }
+}
+
+/// Asserts that the script fails at each call of its writer, over an engine.
+fn each_write_fails_over<G: AllocGlobal + Abort + Sync, E: EngineOver<G>>(rt: &G) {
     for kind in [
         Some(io::ErrorKind::BrokenPipe),
         Some(io::ErrorKind::Interrupted),
         None,
     ] {
-        for step in [1, 4] {
-            let mut failed = 0u32;
-            for fails in 1..100 {
-                if write_fails::<_, ListEngine>(&rt, step, fails, kind) {
-                    failed = failed.wrapping_add(1);
-                }
-            }
-            assert!(rt; failed > 10);
-        }
+        each_write_fails_by::<_, E>(rt, 1, kind);
+        each_write_fails_by::<_, E>(rt, 4, kind);
     }
+}
+
+#[test]
+fn each_write_fails(rt: HostRuntime) {
+    each_write_fails_over::<_, ListEngine>(&rt);
+}
+
+#[test]
+fn each_write_fails_over_segments(rt: HostRuntime) {
+    each_write_fails_over::<_, LocalEngine>(&rt);
+    each_write_fails_over::<_, IndexEngine>(&rt);
 }
 
 /// A reader that gives one line per call, and fails if the replies to the lines before aren't written by then.

@@ -35,12 +35,24 @@ fn printed(rt: &impl Abort, alloc: Global, document: &Document) -> Value {
     }
 }
 
+/// Asserts that a document is printed as the line that it is made of.
+fn is_printed(rt: &impl Abort, alloc: Global, schema: &Schema, line: &str) {
+    let json = Value::from_str(alloc, line).expect(rt, "a value");
+    let document = made(rt, alloc, schema, &json);
+    let printed = printed(rt, alloc, &copied(rt, &document));
+    let text = printed.to_string(alloc).expect(rt, "a text");
+    assert_eq!(rt; text.as_str(), line);
+}
+
 #[test]
 fn a_refused_growth_can_be_tried_again(rt: HostRuntime) {
-    let line = r#"{"price":3,"tag":"a b","temp":-1,"title":"T"}"#;
-    let json = Value::from_str(rt.alloc(), line).expect(&rt, "a value");
-    let document = made(&rt, rt.alloc(), &schema(&rt, rt.alloc()), &json);
-    let printed = printed(&rt, rt.alloc(), &copied(&rt, &document));
-    let text = printed.to_string(rt.alloc()).expect(&rt, "a text");
-    assert_eq!(rt; text.as_str(), line);
+    let schema = schema(&rt, rt.alloc());
+    for line in [
+        r#"{"price":3,"tag":"a b","temp":-1,"title":"T"}"#,
+        r#"{"title":["a b","c"]}"#,
+        r#"{"tag":"p","title":["","é","a b c d e f g h i j k l m n o p q r s t u v w x y z"]}"#,
+        r#"{"price":18446744073709551615,"title":["a"]}"#,
+    ] {
+        is_printed(&rt, rt.alloc(), &schema, line);
+    }
 }

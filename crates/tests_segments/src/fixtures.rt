@@ -81,20 +81,19 @@ pub(crate) fn finished(rt: &impl Abort, alloc: Global, builder: Builder) -> Segm
     }
 }
 
-/// The documents `{"title":"a b a","price":4}`, `{"title":"b"}` and `{"tag":"a"}` at the stamps 1, 2 and 3.
+/// The documents `{"title":"a b a","price":4}`, `{"title":"b"}` and `{"tag":"a"}` at the stamps 3, 5 and 9.
 pub(crate) fn example(rt: &impl Abort, alloc: Global) -> Segment {
     example_under(rt, alloc, &schema(rt, alloc))
 }
 
 fn example_under(rt: &impl Abort, alloc: Global, schema: &Schema) -> Segment {
     let mut builder = Builder::new(alloc, schema).expect(rt, "a builder");
-    for json in [
-        r#"{"title":"a b a","price":4}"#,
-        r#"{"title":"b"}"#,
-        r#"{"tag":"a"}"#,
+    for (stamp, json) in [
+        (3, r#"{"title":"a b a","price":4}"#),
+        (5, r#"{"title":"b"}"#),
+        (9, r#"{"tag":"a"}"#),
     ] {
         let document = document(rt, alloc, schema, json);
-        let stamp = (builder.docs() as u64).saturating_add(1);
         add(rt, &mut builder, schema, stamp, &document);
     }
     finished(rt, alloc, builder)

@@ -25,7 +25,7 @@ fn copies(rt: HostRuntime) {
     let copy = copied(&rt, &segment);
     drop(segment);
     assert_eq!(rt; copy.docs(), 3);
-    assert_eq!(rt; copy.stamp(2), 3);
+    assert_eq!(rt; copy.stamp(2), 9);
 }
 
 /// The bits of all documents of a segment.
@@ -164,8 +164,8 @@ fn merged(
 fn deletes(rt: HostRuntime) {
     let segment = example(&rt, rt.alloc());
     let all = all_set(&rt, rt.alloc(), &segment);
-    let some = struck(&rt, rt.alloc(), &segment, &all, 2);
-    let same = struck(&rt, rt.alloc(), &segment, &some, 1);
+    let some = struck(&rt, rt.alloc(), &segment, &all, 4);
+    let same = struck(&rt, rt.alloc(), &segment, &some, 3);
     assert_eq!(rt; (some.count_ones(), same == some), (2, true));
 }
 
@@ -173,7 +173,7 @@ fn deletes(rt: HostRuntime) {
 fn merges(rt: HostRuntime) {
     let segment = example(&rt, rt.alloc());
     let all = all_set(&rt, rt.alloc(), &segment);
-    let some = struck(&rt, rt.alloc(), &segment, &all, 2);
+    let some = struck(&rt, rt.alloc(), &segment, &all, 4);
     let merged = merged(&rt, rt.alloc(), &segment, &some, &all);
     assert_eq!(rt; (merged.segment().docs(), merged.origins().len()), (5, 5));
 }

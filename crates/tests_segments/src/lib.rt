@@ -11,3 +11,5 @@ mod growths;
 mod pack;
 #[cfg(test)]
 mod schema;
+#[cfg(test)]
+mod segment;

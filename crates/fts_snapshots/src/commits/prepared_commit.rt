@@ -1,5 +1,5 @@
 // A commit whose jobs may be run by any threads.
-ghost use Rattle.std.specs.Prelude.{◌≡◌, ◌++◌, None, map, IfOk, IsOkUnless};
+ghost use Rattle.std.specs.Prelude.{◌≡◌, ◌++◌, None, Err, map, IfOk, IfSome, IsOkUnless};
 ghost use Rattle.fts_base.specs.Results.{Gives, ok_unless};
 ghost use Rattle.fts_model.specs.Operations.{alive, adds};
 ghost use Rattle.fts_snapshots.specs.Commits.{misfit};
@@ -11,6 +11,7 @@ ghost use Rattle.fts_snapshots.specs.Snapshots.{IsBehind, after_commit, commit_f
 use crate::commits::batch_jobs::{entries_after, jobs_of_batch};
 use crate::commits::commit_job::CommitJob;
 use crate::commits::group::{Group, groups};
+use crate::commits::segment_of_add::new_segments;
 use crate::entries::{Entry, are_used_up};
 use crate::snapshot::Snapshot;
 use fts_model::{Cut, Op, Refusal, Stamped};
@@ -42,7 +43,8 @@ impl<'a> Model for PreparedCommit<'a> {
 }
 
 impl<'a> PreparedCommit<'a> {
-    /// Prepares a commit of a batch that fits the schema and comes after the documents of the snapshot.
+    /// Prepares a commit of a batch that fits the schema and comes after the documents of the snapshot. The documents
+    /// are copied only if there are numbers for their segments.
     pub(crate) fn new(
         alloc: Global,
         cut: Cut,
@@ -52,13 +54,14 @@ impl<'a> PreparedCommit<'a> {
         requires cut { IsCut cut }
         requires behind { IsBehind (content_of snapshot.now) batch.now }
         requires fits { misfit snapshot.now.schema batch.now ≡ None }
-        ensures { Gives (λ commit. commit) result
+        ensures commit { Gives (λ commit. commit) result
             (ok_unless (commit_fault cut batch.now snapshot.now) (prepared cut batch.now snapshot.now)) }
+        ensures fault { IfSome (commit_fault cut batch.now snapshot.now) (λ refusal. result ≡ Err refusal) }
     {
-        let groups = groups(alloc, cut, batch)?;
-        if are_used_up(snapshot.next_id(), groups.len()) {
+        if are_used_up(snapshot.next_id(), new_segments(cut, batch)) {
             return Err(Refusal::StampsUsedUp);
         }
+        let groups = groups(alloc, cut, batch)?;
         Ok(PreparedCommit {
             cut,
             batch,

@@ -1,14 +1,14 @@
 // The segments that a merge starts with.
-ghost use Rattle.std.specs.Prelude.{◌≡◌, ◌⊎◌, ◌++◌, ◌∷◌, [], ℕ, List, Some, IfOk, OnOk, MatchResult, nat_eq};
+ghost use Rattle.std.specs.Prelude.{◌≡◌, ◌⊎◌, ◌++◌, ◌∷◌, [], ℕ, List, Some, Err, IfOk, OnOk, MatchResult, nat_eq};
 ghost use Rattle.std.specs.HashSet.{contains};
 ghost use Rattle.fts_base.specs.Results.{Gives, ok_unless};
 ghost use Rattle.fts_snapshots.specs.Snapshots.{IdsRise};
 ghost use Rattle.fts_snapshots.specs.Merges.{entry_at, entries_at, fault_behind, names_fault};
 ghost use Rattle.fts_snapshots.specs.Lookups.{TellsOf};
 
-use crate::entries::{Entry, Lookup};
+use crate::entries::{Entry, EntryList, Lookup};
 use fts_model::Refusal;
-use std::alloc::{AllocError, Global};
+use std::alloc::Global;
 use std::collections::HashSet;
 
 /// The segment of this number, which is added to the numbers so far. It is refused if no segment has the number, or if
@@ -32,20 +32,22 @@ fn named(lookup: &Lookup<'_>, names: &mut HashSet<u64>, id: u64) -> Result<Entry
 }
 
 /// The segments of these numbers, in the order of the numbers. It is refused if there is no number, or by the first
-/// number that no segment has or that comes twice.
+/// number that no segment has or that comes twice. The segments are copied only if there is a number.
 pub(crate) fn named_entries(
     alloc: Global,
-    entries: &[Entry],
+    entries: &EntryList,
     ids: &[u64],
 ) -> Result<Vec<Entry>, Refusal>
     requires { IdsRise entries.now }
-    ensures { Gives (λ found. found.items) result
+    ensures found { Gives (λ found. found.items) result
         (ok_unless (names_fault entries.now ids.now) (entries_at entries.now ids.now)) }
+    ensures empty { ids.now ≡ [] → result ≡ Err Refusal.NoSegments }
 {
     if ids.is_empty() {
         return Err(Refusal::NoSegments);
     }
-    let lookup = Lookup::new(alloc, entries)?;
+    let all = entries.to_vec(alloc)?;
+    let lookup = Lookup::new(alloc, &all)?;
     let mut names = HashSet::new(alloc);
     let mut found = Vec::with_capacity(alloc, ids.len())?;
     for id in ids {

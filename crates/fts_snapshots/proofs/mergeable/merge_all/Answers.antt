@@ -62,3 +62,24 @@ returns-clause-count g c =
     let is = subst IsSnapshot c.last_commit.ensures c.entries-entries.ensures.snapshot in
     let same = c.entries-entries.ensures.entries ∙ ap (λ (t : SnapshotValue). t.entries) c.last_commit.ensures in
     c.in-Some.ensures.0 ∙ ap (sum_by live_count) same ∙ live_documents s is
+
+pub returns-in_err-ids-clause-large : goal.returns-in_err-ids-clause-large
+returns-in_err-ids-clause-large g c = λ l.
+    let s = g.S.Mergeable.left c.args.index.now in
+    let is = subst IsSnapshot c.last_commit.ensures c.entries-entries.ensures.snapshot in
+    let same = c.entries-entries.ensures.entries ∙ ap (λ (t : SnapshotValue). t.entries) c.last_commit.ensures in
+    absurd (omega (arith, l, c.in-Some.ensures.0 ∙ ap (sum_by live_count) same ∙ live_documents s is, c.in-Some.ensures.1))
+
+pub returns-in_err-merge_segments-clause-large : goal.returns-in_err-merge_segments-clause-large
+returns-in_err-merge_segments-clause-large g c = λ l.
+    let s = g.S.Mergeable.left c.args.index.now in
+    let is = subst IsSnapshot c.last_commit.ensures c.entries-entries.ensures.snapshot in
+    let same = c.entries-entries.ensures.entries ∙ ap (λ (t : SnapshotValue). t.entries) c.last_commit.ensures in
+    absurd (omega (arith, l, c.in-Some.ensures.0 ∙ ap (sum_by live_count) same ∙ live_documents s is, c.in-Some.ensures.1))
+
+pub returns-clause-large : goal.returns-clause-large
+returns-clause-large g c = λ l.
+    let s = g.S.Mergeable.left c.args.index.now in
+    let is = subst IsSnapshot c.last_commit.ensures c.entries-entries.ensures.snapshot in
+    let same = c.entries-entries.ensures.entries ∙ ap (λ (t : SnapshotValue). t.entries) c.last_commit.ensures in
+    absurd (omega (arith, l, c.in-Some.ensures.0 ∙ ap (sum_by live_count) same ∙ live_documents s is, c.in-Some.ensures.1))

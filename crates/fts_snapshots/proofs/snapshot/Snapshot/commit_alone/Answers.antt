@@ -10,5 +10,5 @@ finish-requires c = c.in_ok-entries.ensures.ok ∙ ap (λ js. filter has_live (m
 
 pub returns : goal.returns
 returns c =
-    gives_commit c.args.cut c.args.batch.now c.args.self.now c.in_ok-commit.commit c.finish.result c.in_ok-commit.ensures c.finish.ensures.snapshot
+    gives_commit c.args.cut c.args.batch.now c.args.self.now c.in_ok-commit.commit c.finish.result c.in_ok-commit.ensures.commit c.finish.ensures.snapshot
     c.finish.ensures.content c.finish.ensures.memory
