@@ -94,7 +94,7 @@ impl Snapshot {
     /// Starts a commit of a batch that fits the schema and comes after the documents of this snapshot: its adds are
     /// divided among new segments. Any threads may run the jobs of the commit.
     ///
-    /// It is refused as `StampsUsedUp` if the number of a new segment would be 2^62 or more, before any memory is taken.
+    /// It is refused as `StampsUsedUp` if the number of a new segment would be 2^62 or more, before memory is taken.
     pub fn prepare_commit<'a>(
         &'a self,
         alloc: Global,

@@ -211,6 +211,63 @@ fn what_was_told_stays_known(rt: HostRuntime) {
     finds(&rt, rt.alloc(), &mut reader, 4);
 }
 
+/// Takes a thousand searchers of a reader, each with the documents of its commit. None is older than the one before.
+fn search_on<R: Threads + Wait + Sync + Abort>(rt: &R, alloc: Global, reader: &mut Reader) {
+    let mut last = 0;
+    for _ in 0..1_000 {
+        let stamp = stamp_found(rt, alloc, reader).expect(rt, "the documents of a commit");
+        assert!(rt; last <= stamp);
+        last = stamp;
+    }
+}
+
+/// Searches by each reader in a thread of its own.
+fn search_all<R: Threads + Wait + Sync + Abort>(rt: &R, alloc: Global, readers: &mut [Reader]) {
+    for_each_mut(
+        rt,
+        readers,
+        2,
+        &|_, reader: &mut Reader| { search_on(rt, alloc, reader) },
+    );
+}
+
+/// Commits a hundred times.
+fn commit_on<R: Threads + Wait + Sync + Abort>(rt: &R, alloc: Global, writer: &mut Writer) {
+    for _ in 0..100 {
+        drop(commit(rt, alloc, writer, &Open));
+    }
+}
+
+/// Two readers of a writer.
+fn two(rt: &impl Abort, alloc: Global, writer: &mut Writer) -> Vec<Reader> {
+    let mut readers = Vec::new(alloc);
+    for _ in 0..2 {
+        let reader = writer.reader().expect(rt, "a reader");
+        readers.push(reader).expect(rt, "readers");
+    }
+    readers
+}
+
+/// Once the writer's thread was joined, readers to which no commit was reported find the last one.
+fn side_by_side<R: Threads + Wait + Sync + Abort>(rt: &R, alloc: Global, writer: &mut Writer) {
+    let mut readers = two(rt, alloc, writer);
+    join(
+        rt,
+        || commit_on(rt, alloc, writer),
+        || search_all(rt, alloc, readers.as_mut_slice()),
+    );
+    for reader in readers.iter_mut() {
+        finds(rt, alloc, reader, 200);
+    }
+}
+
+#[test]
+fn two_readers_beside_a_hundred_commits(rt: HostRuntime) {
+    let mut writer = writer(&rt, rt.alloc()).expect(&rt, "a writer");
+    side_by_side(&rt, rt.alloc(), &mut writer);
+    writer.close(&rt);
+}
+
 /// How many readers there are at the first refusal, and that refusal.
 fn crowd(writer: &mut Writer, readers: &mut Vec<Reader>) -> (usize, Option<Refusal>) {
     for _ in 0..100 {
