@@ -1,5 +1,5 @@
-/* Blocks of lines, blocks that are done whole or not, two lines as one, searches with chosen fields or the most frequent groups, and merges: what they
- * reply, and what refused growths leave.
+/* Blocks of lines, blocks that are done whole or not, two lines as one, searches with chosen fields or the most frequent
+ * groups, and merges: what they reply, and what refused growths leave.
  *
  * Each call is made with its first growth refused, then with its second, and so on until it takes place; a block goes
  * on after the lines that were done. Documents are counted at the end.

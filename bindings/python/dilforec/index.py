@@ -331,6 +331,8 @@ class Index(Searching):
 
         Each is `{"add": document}`, `{"delete": {field: value}}` or `{"delete_all": True}`; BadCommand is any other. The
         exception of the first that is refused tells its number, from 1. Searches see them after the next commit.
+
+        MemoryError if there is no memory, and nothing was done; Unfinished, one of these, if there is none for the stamps.
         """
         given = list(commands)
         lines = [to_line(command) for command in given]
@@ -341,6 +343,8 @@ class Index(Searching):
             raise fault(code)
         if done < len(lines):
             raise self._refused_command(told, done + 1, given[done])
+        if given and not told:
+            raise Unfinished([], [None] * len(given))
         return [int(reply[1]) for reply in REPLY.finditer(told)]
 
     def _refused_command(self, reply: bytes, number: int, command: Mapping[str, Any]) -> Exception:

@@ -53,6 +53,25 @@ class Calls(unittest.TestCase):
             self.assertEqual(index.delete_all(), 8)
             self.assertEqual((index.search("*").count, index.commit(), index.search("*").count), (3, 9, 0))
 
+    def test_together(self):
+        """Commands are done together, with a stamp each, or none is, and the first that can't be is told."""
+        with opened() as index:
+            index.add({"title": "before"})
+            stamps = index.execute_all([{"delete": {"shelf": "computing"}}, {"add": {"title": "after"}}])
+            self.assertEqual((stamps, index.execute_all([])), ([6, 7], []))
+            for refusal, sentence, command in [
+                (dilforec.WrongKind, "command 3: 'year' is a u64 field, and can't be 'late'", {"add": {"year": "late"}}),
+                (dilforec.UnknownField, "command 3: the schema has no field 'none'", {"delete": {"none": 1}}),
+                (dilforec.BadCommand, "command 3: ", {"commit": True}),
+                (dilforec.BadCommand, "command 3: ", {"search": {"query": "*"}}),
+                (dilforec.BadJson, "command 3: ", {"add": {"title": "\ud800"}}),
+                (dilforec.LineTooLong, "command 3 ", {"add": {"title": "x" * 4_194_304}}),
+            ]:
+                with self.subTest(refusal.__name__), self.assertRaises(refusal) as raised:
+                    index.execute_all([{"delete_all": True}, {"add": {}}, command, {"add": 1}])
+                self.assertIn(sentence, str(raised.exception))
+            self.assertEqual((index.commit(), index.search("*").count, index.search("after").count), (8, 3, 1))
+
     def test_refusals(self):
         """A refusal is an exception of its name, and leaves the index as it was."""
         with opened() as index:

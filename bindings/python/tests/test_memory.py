@@ -65,6 +65,14 @@ class Memory(unittest.TestCase):
             index.commit()
             self.assertEqual((len(index), index.search(f"{DOCUMENTS - 1}").count), (1, 1))
 
+    def test_together(self):
+        """Commands that are done together find memory for all, or none is done."""
+        with dilforec.Index(*FIELDS) as index:
+            commands = [{"add": {"title": f"rust {number}", "year": number}} for number in range(DOCUMENTS)]
+            self.assertEqual(self.again(lambda: index.execute_all(commands)), list(range(1, DOCUMENTS + 1)))
+            index.commit()
+            self.assertEqual(len(index), DOCUMENTS)
+
     def test_merges(self):
         """A merge that finds no memory is begun, run or ended when it is tried again."""
         with dilforec.Index(*FIELDS) as index:

@@ -15,12 +15,19 @@ use Rattle.fts_script.proofs.TransactionLemmas.{Taken, taken_back, taken_more, t
 use Rattle.fts_c.specs.declared.codes.TheConstants.{OK}
 use Rattle.fts_c.specs.declared.state.State.{State}
 use Rattle.fts_c.specs.Codes.{IsCodeOf, IsFault}
-use Rattle.fts_c.specs.Transactions.{IsRefused, IsStopped, IsTaken, Transacts}
+use Rattle.fts_c.specs.Transactions.{IsRefused, IsStopped, IsTaken, Operates, Transacts}
 use Rattle.fts_c.proofs.BlockLemmas.{IsNext, after_lines-push, next_of}
 
 -- a fault's code isn't 0
 pub fault_not_ok : (s : SessionValue) (line : List ℕ) (code : ℤ) → IsFault s line code → code ≢ OK
 fault_not_ok s line code f ok = f.untried (f.code_is.tried.0 (inl ok))
+
+-- what became of a line
+pub operated : (old : State) (number : ℕ) (line : List ℕ) (new : State) (taken : Bool) → taken ≡ is_taken old.session line →
+    string_bytes new.reply ≡ cond taken (string_bytes old.reply ++ reply_to old.session line) (text_of number (operate indexes old.session.index line)) →
+    new.session ≡ cond taken (after_line old.session line) old.session → Operates old number line new (Ok taken)
+operated old number line new true t r s = record { taken = sym t; reply = r; session = s }
+operated old number line new false t r s = record { refused = sym t; reply = r; session = s }
 
 option_back : (i : Option Index) → option_map (keep_first (count_uncommitted i)) i ≡ i
 option_back None = refl

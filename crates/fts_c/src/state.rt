@@ -138,7 +138,9 @@ impl State {
         requires { begun.number ≤ self.old.session.number }
         ensures { Operates self.old (begun.number + 1) line.now self.new result }
     {
-        self.check(line)?;
+        if let Err(code) = self.check(line) {
+            return Err(code);
+        }
         match self
             .session
             .operate(&((), alloc), begun, line, &mut self.reply)

@@ -1,11 +1,11 @@
 -- Operations, and what takes them back.
-use Rattle.std.proofs.Common.{◌≡◌, ◌+◌, ◌≤◌, ◌⊎◌, ℕ, Bool, true, false, cond, List, [], ◌∷◌, ◌++◌, length, take, refl, sym, ap, subst, ◌∙◌, arith, inl, inr}
+use Rattle.std.proofs.Common.{◌≡◌, ◌+◌, ◌≤◌, ℕ, Bool, true, false, cond, List, [], ◌∷◌, ◌++◌, length, refl, sym, ap, subst, ◌∙◌, arith}
 use Rattle.std.proofs.Common.{Option, Some, None, Result, Ok, Err, IfOk, is_ok, option_map}
 use Rattle.std.specs.Prelude.{codes, nat_lt}
-use Rattle.std.proofs.lemmas.List.{length-append, take-append-le, take_at}
+use Rattle.std.proofs.lemmas.List.{length-append, take-append-le}
 use Rattle.fts_base.specs.declared.refusal.Refusal.{Refusal}
-use Rattle.fts_base.specs.declared.refusal.Refusal.TheVariants.{BadCommand, LaneFull, Memory}
-use Rattle.fts_base.specs.Results.{result_and_then, result_map}
+use Rattle.fts_base.specs.declared.refusal.Refusal.TheVariants.{BadCommand, LaneFull}
+use Rattle.fts_base.specs.Results.{result_and_then}
 use Rattle.fts_model.specs.declared.operation.Op.{Op}
 use Rattle.fts_model.specs.declared.operation.Op.TheVariants as ops
 use Rattle.fts_model.specs.declared.operation.Stamped.{Stamped}
@@ -16,9 +16,8 @@ use Rattle.fts_engine.specs.Steps.{most_uncommitted, next_stamp, submit}
 use Rattle.fts_engine.specs.TakeBack.{keep_first}
 use Rattle.fts_script.specs.command.Commands.{Command, Schema, Add, Delete, DeleteAll, Commit, Rollback, Merge, Find, command}
 use Rattle.fts_script.specs.declared.session.savepoint.Savepoint.{Savepoint}
-use Rattle.fts_script.specs.session.Replies.{Outcome, execute, line_of, number_reply, replied}
+use Rattle.fts_script.specs.session.Replies.{Outcome, execute, index_after, line_of, number_reply, replied, text_of}
 use Rattle.fts_script.specs.session.Outputs.{SessionValue, after_line, reply_to}
-use Rattle.fts_script.specs.session.Sessions.{printed}
 use Rattle.fts_script.specs.session.Transactions.{count_uncommitted, is_operation, is_taken, operate, rolled_back_to}
 use Rattle.fts_script.proofs.ReplaceLemmas.{after_done, reply_done}
 
@@ -46,7 +45,7 @@ made-grows i f (Ok x) = submit-grows i (f x)
 made-grows i f (Err e) = tt
 
 -- an operation that is done is one more
-pub execute-grows : (index : Option Index) (c : Command) →
+execute-grows : (index : Option Index) (c : Command) →
     IfOk (cond (is_operation c) (execute indexes index c) (Err BadCommand)) (λ d. GrowsFrom index d.index)
 execute-grows (Some i) (Add value) = made-grows i (λ d. ops.Add d) (document_of i.schema value)
 execute-grows (Some i) (Delete name value) = made-grows i (λ t. ops.Delete t) (term_of i.schema name value)
@@ -107,6 +106,21 @@ taken_by s line (Err e) is ok = absurd (let bad : false ≡ true = ok in cc)
 pub taken_of : (s : SessionValue) (line : List ℕ) → is_taken s line ≡ true → Taken s line
 taken_of s line ok = taken_by s line (operate indexes s.index line) refl ok
 
+-- the reply to a line that is taken, and what it leaves
+pub taken_reply : (s now : SessionValue) (line : List ℕ) (n : ℕ) (taken : Bool) (old out : List ℕ) → s ≡ now → taken ≡ true →
+    taken ≡ is_ok (operate indexes s.index line) → out ≡ cond taken old [] ++ text_of n (operate indexes s.index line) → out ≡ old ++ reply_to now line
+taken_reply s now line n taken old out same ok is e =
+    let t : Taken s line = taken_of s line (sym is ∙ ok) in
+    e ∙ ap (λ b. cond b old [] ++ text_of n (operate indexes s.index line)) ok ∙ ap (λ r. old ++ text_of n r) t.operated
+    ∙ ap (λ r. old ++ r) (sym t.reply) ∙ ap (λ v. old ++ reply_to v line) same
+
+pub taken_state : (s now : SessionValue) (line : List ℕ) (taken : Bool) (index : Option Index) → s ≡ now → taken ≡ true →
+    taken ≡ is_ok (operate indexes s.index line) → index ≡ index_after s.index (operate indexes s.index line) →
+    record { number = s.number + 1; index = index } ≡ after_line now line
+taken_state s now line taken index same ok is e =
+    let t : Taken s line = taken_of s line (sym is ∙ ok) in
+    ap (λ i. record { number = s.number + 1; index = i }) (e ∙ ap (index_after s.index) t.operated) ∙ sym t.after ∙ ap (λ v. after_line v line) same
+
 kept_back : (n : ℕ) (i j : Option Index) → GrowsFrom i j → n ≤ count_uncommitted i → option_map (keep_first n) j ≡ option_map (keep_first n) i
 kept_back n (Some i) (Some j) g within =
     ap (λ k. Some (keep_first n k)) g.1
@@ -131,26 +145,3 @@ pub taken_more : (s : SessionValue) (line : List ℕ) → is_taken s line ≡ tr
 taken_more s line ok =
     let t : Taken s line = taken_of s line ok in
     subst (λ (v : SessionValue). count_uncommitted s.index ≤ count_uncommitted v.index) (sym t.after) (counts_more s.index t.outcome.index t.grows)
-
--- one more operation, taken back
-pub printed_back : (i j : Index) (bytes : List ℕ) (r : Result (Outcome Index) Refusal) → IfOk r (λ d. GrowsFrom (Some i) d.index) →
-    result_map printed r ≡ Ok (Some j, bytes) → keep_first (length i.uncommitted) j ≡ i
-printed_back i j bytes (Ok d) g e =
-    let at : d.index ≡ Some j = cc in
-    let grows : Grows i j = subst (GrowsFrom (Some i)) at g in
-    ap (keep_first (length i.uncommitted)) grows.1
-    ∙ ap (λ us. record { schema = i.schema; documents = i.documents; commit_stamp = i.commit_stamp; uncommitted = us })
-    (take_at i.uncommitted (grows.0 ∷ []) (length i.uncommitted) refl)
-printed_back i j bytes (Err x) g e = absurd (let bad : Err x ≡ Ok (Some j, bytes) = e in cc)
-
--- what follows a command that was done
-pub followed : (f : Option Index → Result (Outcome Index) Refusal) (j : Option Index) (bytes : List ℕ) (r : Result (Outcome Index) Refusal) →
-    result_map printed r ≡ Ok (j, bytes) → result_and_then (λ d. f d.index) r ≡ f j
-followed f j bytes (Ok d) e = let at : d.index ≡ j = cc in ap f at
-followed f j bytes (Err x) e = absurd (let bad : Err x ≡ Ok (j, bytes) = e in cc)
-
--- what follows a command that was refused
-pub refused_first : (f : Outcome Index → Result (Outcome Index) Refusal) (e : Refusal) (r : Result (Outcome Index) Refusal) →
-    (e ≡ Memory) ⊎ (r ≡ Err e) → (e ≡ Memory) ⊎ (result_and_then f r ≡ Err e)
-refused_first f e r (inl h) = inl h
-refused_first f e r (inr h) = inr (ap (result_and_then f) h)

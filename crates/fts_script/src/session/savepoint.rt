@@ -19,9 +19,9 @@ use std::alloc::{AllocError, Global};
 #[derive(Clone, Copy)]
 pub struct Savepoint {
     /// How many lines there were.
-    pub(crate) number: u64,
+    pub number: u64,
     /// How many operations were uncommitted.
-    pub(crate) uncommitted: usize,
+    pub uncommitted: usize,
 }
 
 /// Whether a command is an operation.

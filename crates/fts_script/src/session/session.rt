@@ -210,10 +210,11 @@ impl<E: Engine> Session<E> {
         self.tries += 1;
         let number = begun.number + 1;
         let taken = answer_operation(rt, self.options, &mut self.index, number, line, out)?;
-        if taken {
-            self.number += 1;
+        if !taken {
+            return Ok(false);
         }
-        Ok(taken)
+        self.number += 1;
+        Ok(true)
     }
 
     /// Takes back the operations since a savepoint.
