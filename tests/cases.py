@@ -10,6 +10,7 @@ import tempfile
 
 import case_model
 from case_model import GREATEST, HERE, Subject, answer, error, named, tokens, within
+from case_packing import write_packing
 from case_queries import LONG, t, write_cursors, write_phrases, write_queries
 from case_random import write_cuttings, write_generated, write_joins, write_walks
 from case_words import write_words
@@ -503,60 +504,6 @@ def write_merges():
     s.write()
 
 
-def words_of(bits, width, numbers):
-    """Numbers of `width` bits laid end to end in words, the least bits first."""
-    joined = sum(number << (i * width) for i, number in enumerate(numbers))
-    return [joined >> (i * bits) & (1 << bits) - 1 for i in range(-(-len(numbers) * width // bits))]
-
-
-def block_words(width, numbers):
-    """A block's words: number i of 128, zeros after the last, is in lane i % 4, and each lane is packed by itself."""
-    filled = numbers + [0] * (128 - len(numbers))
-    lanes = [words_of(32, width, filled[lane::4]) for lane in range(4)]
-    return [word for words in zip(*lanes) for word in words]
-
-
-def write_packing():
-    s = Subject("packing")
-    assert block_words(7, list(range(128)))[:2] == [25297408, 295846529] and block_words(3, [7] * 128) == [2**32 - 1] * 12
-    for sentence, width, numbers in [("Three numbers lie in three lanes", 2, [1, 2, 3]), ("Zeros take no words", 0, [0, 0, 0]),
-                                     ("The greatest number takes whole words", 32, [2**32 - 1]),
-                                     ("Every fourth number lies in one lane", 7, list(range(128))),
-                                     ("128 sevens fill twelve words", 3, [7] * 128)]:
-        s.case(sentence, "block_words", {"width": width, "words": block_words(width, numbers)}, numbers=numbers)
-    for sentence, width, words, values in [("A missing value is kept as zero", 2, [32], [7, None, 9]),
-                                           ("A column without values has no words", 0, [], [None, None]),
-                                           ("The widest values take whole words", 64, [0, GREATEST], [0, GREATEST])]:
-        s.case(sentence, "column_words", {"width": width, "words": words}, values=values)
-    for sentence, numbers in [("Three numbers come back", [1, 2, 3]), ("Zeros come back", [0, 0, 0]),
-                              ("The greatest number comes back", [2**32 - 1]),
-                              ("A block of none is none", []), ("A whole block comes back", list(range(128))),
-                              ("128 sevens come back", [7] * 128)]:
-        s.case(sentence, "block", numbers, numbers=numbers)
-    s.case("Numbers of two blocks of other widths come back", "numbers", [1, 2, 3] + [0] * 125 + [300],
-           numbers=[1, 2, 3] + [0] * 125 + [300])
-    s.case("A value that is missing stays missing, and so does one behind the last", "column_of",
-           {"range": [7, 9], "values": [7, None, 9, None], "present": 5}, values=[7, None, 9])
-    s.case("A column without values has no range", "column_of",
-           {"range": None, "values": [None, None, None], "present": 0}, values=[None, None])
-    s.case("An empty column has no range", "column_of", {"range": None, "values": [None], "present": 0}, values=[])
-    s.case("A column has both ends of u64", "column_of",
-           {"range": [0, GREATEST], "values": [0, GREATEST, None], "present": 3}, values=[0, GREATEST])
-    bits = lambda sentence, ones, words, length, every, on, off: s.case(
-        sentence, "bits", {"ones": ones, "words": words}, len=length, all=every, set=on, clear=off)
-    bits("One bit is cleared and two stay set", 2, [0, 2, 2, 0], 130, False, [0, 65, 129], [0])
-    bits("The bits behind the last are clear", 70, [GREATEST, 63, 0], 70, True, [], [])
-    bits("64 bits fill a word", 64, [GREATEST, 0], 64, True, [], [])
-    bits("One bit is cleared among three", 2, [5, 0], 3, True, [], [1])
-    bits("No bits have no word", 0, [0], 0, True, [], [])
-    for sentence, number, place in [("The least signed number is at zero", -2**63, 0),
-                                    ("-1 is right below the middle", -1, 2**63 - 1),
-                                    ("Zero is in the middle", 0, 2**63),
-                                    ("The greatest signed number is at the end", 2**63 - 1, GREATEST)]:
-        s.case(sentence, "signed", [place, number], number=number)
-    s.write()
-
-
 def write_wrong():
     s = Subject("wrong")
     s.case("A word that nothing knows", "tokns", [], text="")
@@ -585,6 +532,8 @@ def write_wrong():
     s.case("A bound that is passed", "walk", [{"at_most": 0}], query="title:a", steps=[{"count": 3}])
     s.case("A bound where no number is given", "walk", [{"at_most": 9}], query="title:none", steps=["doc"])
     s.case("A bit that isn't there", "clear", 2, docs=[2])
+    s.case("Documents that don't rise", "list", {"len": 2, "bits": None, "blocks": [{"last": 1, "documents": [1, 1]}]}, documents=[1, 1])
+    s.case("A width too many", "list_blocks", [{"last": 64, "width": 1, "words": []}], documents=list(range(65)))
     s.write()
 
 

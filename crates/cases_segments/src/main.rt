@@ -4,8 +4,10 @@
 
 mod bench;
 mod collectors;
+mod columns;
 mod content;
 mod joins;
+mod lists;
 mod lookups;
 mod matches;
 mod merges;
@@ -22,7 +24,7 @@ use std::process::ExitCode;
 use testing_cases::{Driver, Trial, Trouble, only_in_case, run, text};
 
 /// What a case of each word may have beside its sentence, its word and what it gives.
-const MEMBERS: [(&str, &[&str]); 46] = [
+const MEMBERS: [(&str, &[&str]); 51] = [
     ("tokens", &["text"]),
     ("places", &["text"]),
     ("fold", &["text", "behind"]),
@@ -44,8 +46,13 @@ const MEMBERS: [(&str, &[&str]); 46] = [
     ("numbers", &["numbers"]),
     ("column_of", &["values"]),
     ("column_words", &["values"]),
+    ("column_within", &["values", "low", "high", "docs"]),
     ("bits", &["len", "all", "set", "clear"]),
     ("signed", &["number"]),
+    ("gaps", &["documents"]),
+    ("list", &["documents"]),
+    ("list_blocks", &["documents"]),
+    ("lists", &["lists"]),
     (
         "make",
         &["schema", "merging", "documents", "stamps", "repeated"],
@@ -128,6 +135,8 @@ fn without_segments(trial: &mut Trial, word: &str, case: &Value) -> bool {
         || content::given(trial, word, case)
         || queries::given(trial, word, case)
         || numbers::given(trial, word, case)
+        || columns::given(trial, word, case)
+        || lists::given(trial, word, case)
 }
 
 /// Tries a case of the first segment, and returns whether its word is that of one.

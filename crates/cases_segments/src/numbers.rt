@@ -1,20 +1,23 @@
-// Cases of packed numbers: `block`, `block_words`, `numbers`, `column_of`, `column_words`, `bits` and `signed`.
-use fts_model::MOST_MERGED;
+// Cases of packed numbers: `block`, `block_words`, `numbers`, `bits` and `signed`.
 use fts_pack::bits::{Bits, i64_to_u64, u64_to_i64};
-use fts_pack::column::Column;
 use fts_pack::{Block, PackedNumbers};
 use serde_json::Value;
-use testing_cases::{Trial, Trouble, flag, list, member, numbers, size};
+use testing_cases::{Trial, Trouble, flag, member, numbers, size};
 
 /// A block of up to 128 numbers.
-fn packed(trial: &mut Trial, case: &Value) -> Option<Block> {
-    let numbers = numbers(trial, case, "numbers");
+pub(crate) fn pack(trial: &mut Trial, numbers: &[u32]) -> Option<Block> {
     if numbers.len() > 128 {
         trial.fail(Trouble::Impossible("more than a block"));
         return None;
     }
-    let block = Block::pack(trial.alloc(), &numbers);
+    let block = Block::pack(trial.alloc(), numbers);
     trial.kept(block)
+}
+
+/// The block of a case.
+fn packed(trial: &mut Trial, case: &Value) -> Option<Block> {
+    let numbers = numbers(trial, case, "numbers");
+    pack(trial, &numbers)
 }
 
 /// What comes back of a block.
@@ -26,9 +29,8 @@ fn block(trial: &mut Trial, case: &Value) {
     }
 }
 
-/// Begins the object that shows packed numbers: their width, and then the words that hold them.
-fn open_words(trial: &mut Trial, width: u32) {
-    trial.open_object();
+/// Gives the width of packed numbers within an object, and names the words that hold them.
+pub(crate) fn name_words(trial: &mut Trial, width: u32) {
     trial.name("width");
     trial.give_number(u64::from(width));
     trial.name("words");
@@ -37,7 +39,8 @@ fn open_words(trial: &mut Trial, width: u32) {
 /// The width of a block, and the words that hold its numbers.
 fn block_words(trial: &mut Trial, case: &Value) {
     if let Some(block) = packed(trial, case) {
-        open_words(trial, block.width());
+        trial.open_object();
+        name_words(trial, block.width());
         trial.give_documents(block.words());
         trial.close_object();
     }
@@ -58,70 +61,6 @@ fn each_number(trial: &mut Trial, case: &Value) {
     let packed = PackedNumbers::build(trial.alloc(), &numbers);
     if let Some(packed) = trial.kept(packed) {
         give_each(trial, &packed);
-    }
-}
-
-/// The values of a list, `null` for one that is missing.
-fn values_of(trial: &mut Trial, items: &[Value]) -> Vec<Option<u64>> {
-    let mut values = Vec::new(trial.alloc());
-    for item in items {
-        if item.as_u64().is_none() && !item.is_null() {
-            trial.fail(Trouble::WrongKind("values"));
-        }
-        trial.push(&mut values, item.as_u64());
-    }
-    values
-}
-
-/// The column of the values of a case.
-fn built(trial: &mut Trial, case: &Value) -> Option<Column> {
-    let items = list(trial, case, "values");
-    let values = values_of(trial, items);
-    if values.len() > MOST_MERGED {
-        trial.fail(Trouble::Impossible("more than a segment's values"));
-        return None;
-    }
-    let column = Column::build(trial.alloc(), &values);
-    trial.kept(column)
-}
-
-/// The width of a column, and the words that hold its values.
-fn column_words(trial: &mut Trial, case: &Value) {
-    if let Some(column) = built(trial, case) {
-        open_words(trial, column.width());
-        trial.give_stamps(column.words());
-        trial.close_object();
-    }
-}
-
-/// Gives each value of a column, and one after its last.
-fn give_values(trial: &mut Trial, column: &Column) {
-    trial.open();
-    for doc in 0..column.len().saturating_add(1) {
-        trial.give_some_number(column.get(doc));
-    }
-    trial.close();
-}
-
-/// Gives a range, or `null`.
-fn give_range(trial: &mut Trial, range: Option<(u64, u64)>) {
-    match range {
-        Some((least, greatest)) => trial.give_stamps(&[least, greatest]),
-        None => trial.give_null(),
-    }
-}
-
-/// The least and the greatest value of a column, its values and one after the last, and the bits of the first 64.
-fn column(trial: &mut Trial, case: &Value) {
-    if let Some(column) = built(trial, case) {
-        trial.open_object();
-        trial.name("range");
-        give_range(trial, column.range());
-        trial.name("values");
-        give_values(trial, &column);
-        trial.name("present");
-        trial.give_number(column.present().word(0));
-        trial.close_object();
     }
 }
 
@@ -168,12 +107,14 @@ fn bits(trial: &mut Trial, case: &Value) {
     }
 }
 
-/// Gives how many bits are set, their words and one after the last.
+/// Gives how many bits are set, their words, and each word by itself with one after the last.
 fn give_bits(trial: &mut Trial, bits: &Bits) {
     trial.open_object();
     trial.name("ones");
     trial.give_number(bits.count_ones() as u64);
     trial.name("words");
+    trial.give_stamps(bits.words());
+    trial.name("each");
     trial.open();
     for word in 0..bits.len().div_ceil(64).saturating_add(1) {
         trial.give_number(bits.word(word));
@@ -202,8 +143,6 @@ pub(crate) fn given(trial: &mut Trial, word: &str, case: &Value) -> bool {
         "block" => block(trial, case),
         "block_words" => block_words(trial, case),
         "numbers" => each_number(trial, case),
-        "column_of" => column(trial, case),
-        "column_words" => column_words(trial, case),
         "bits" => bits(trial, case),
         "signed" => signed(trial, case),
         _ => return false,

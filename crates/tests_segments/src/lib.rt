@@ -8,6 +8,8 @@ mod fixtures;
 #[cfg(test)]
 mod growths;
 #[cfg(test)]
+mod lists;
+#[cfg(test)]
 mod pack;
 #[cfg(test)]
 mod schema;

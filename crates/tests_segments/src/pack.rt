@@ -1,10 +1,11 @@
-// fts_pack: numbers are read as they were packed, at every width and in every count.
-ghost use Rattle.std.specs.Prelude.{◌≡◌, ◌+◌, ◌^◌, ◌<◌, ◌≤◌, length};
+// fts_pack: numbers are read as they were packed, at every width and in every count, and what ran out of memory can be
+// tried again.
+ghost use Rattle.std.specs.Prelude.{◌≡◌, ◌^◌, ◌≤◌, length};
 
 use fts_model::Refusal;
 use fts_pack::bits::Bits;
 use fts_pack::column::Column;
-use fts_pack::{BLOCK, Block, Blocks, List, PackedNumbers};
+use fts_pack::{BLOCK, Block, PackedNumbers};
 use std::alloc::{AllocError, Global};
 use std::process::Abort;
 
@@ -83,80 +84,21 @@ fn numbers_of_every_width_come_back(rt: HostRuntime) {
     }
 }
 
-/// Opens the first block of any blocks; exactly one opening is counted.
-fn open_first<B: Blocks>(source: &mut B, out: &mut [u32; 128]) -> usize
-    requires { 0 < length (B.contents source.old) }
-    ensures { B.openings source.new ≡ B.openings source.old + 1 }
-{
-    source.open(0, out)
-}
-
-/// Hands a value on that may go to another thread.
-fn carried<T: Send>(value: T) -> T
-    ensures { result ≡ value }
-{
-    value
-}
-
-#[test]
-fn three_documents(rt: HostRuntime) {
-    let list = List::build(rt.alloc(), &[5, 6, 133]).expect(&rt, "a list");
-    let mut out = [0; 128];
-    let mut source = carried(list.source());
-    assert_eq!(rt; (list.len(), source.blocks(), source.last(0)), (3, 1, 133));
-    assert_eq!(rt; open_first(&mut source, &mut out), 3);
-    assert_eq!(rt; &out[..3], [5, 6, 133].as_slice());
-}
-
-#[test]
-fn a_second_block_begins_above_the_first(rt: HostRuntime) {
-    let mut documents = [0; 129];
-    for index in 0..129usize {
-        documents[index] = index as u32;
-    }
-    let list = List::build(rt.alloc(), &documents).expect(&rt, "a list");
-    let mut source = list.source();
-    let mut out = [0; 128];
-    assert_eq!(rt;
-        (source.blocks(), source.last(0), source.last(1)),
-        (2, 127, 128)
-    );
-    assert_eq!(rt; source.open(0, &mut out), 128);
-    assert_eq!(rt; out.as_slice(), &documents[..128]);
-    assert_eq!(rt; source.open(1, &mut out), 1);
-    assert_eq!(rt; out[0], 128);
-}
-
-#[test]
-fn one_document(rt: HostRuntime) {
-    let list = List::build(rt.alloc(), &[4294967295]).expect(&rt, "a list");
-    let mut source = list.source();
-    let mut out = [0; 128];
-    assert_eq!(rt; (source.blocks(), source.last(0)), (1, 4294967295));
-    assert_eq!(rt; source.open(0, &mut out), 1);
-    assert_eq!(rt; out[0], 4294967295);
-}
-
-#[test]
-fn no_document(rt: HostRuntime) {
-    let empty = List::build(rt.alloc(), &[]).expect(&rt, "a list");
-    assert!(rt; empty.is_empty());
-    assert_eq!(rt; empty.source().blocks(), 0);
-}
-
-#[test]
-fn a_refused_list_can_be_built_again(rt: HostRuntime) {
-    let documents = [2, 3, 70000, 4294967295];
-    let list = match List::build(rt.alloc(), &documents) {
-        Ok(list) => list,
+/// Packed numbers. If a growth was refused, the second try succeeds.
+fn packed(rt: &impl Abort, alloc: Global, numbers: &[u32]) -> PackedNumbers {
+    match PackedNumbers::build(alloc, numbers) {
+        Ok(packed) => packed,
         Err(refusal) => {
             assert_eq!(rt; refusal, Refusal::Memory);
-            List::build(rt.alloc(), &documents).expect(&rt, "a list again")
+            PackedNumbers::build(alloc, numbers).expect(rt, "packed numbers again")
         }
-    };
-    let mut out = [0; 128];
-    assert_eq!(rt; list.source().open(0, &mut out), 4);
-    assert_eq!(rt; &out[..4], documents.as_slice());
+    }
+}
+
+#[test]
+fn refused_numbers_can_be_packed_again(rt: HostRuntime) {
+    let numbers = blocks_of(rt.alloc(), 7).expect(&rt, "numbers");
+    check_numbers(&rt, &packed(&rt, rt.alloc(), &numbers), &numbers);
 }
 
 /// 131 values of at most this many bits, each fifth of which is missing.
@@ -205,11 +147,15 @@ fn built(rt: &impl Abort, alloc: Global, values: &[Option<u64>]) -> Column
     }
 }
 
+/// Offsets take 8, 32 or 64 bits.
 #[test]
-fn a_refused_column_can_be_built_again(rt: HostRuntime) {
-    let values = [Some(5), None, Some(1)];
-    let column = built(&rt, rt.alloc(), &values);
-    assert_eq!(rt; [column.get(0), column.get(1), column.get(2)], values);
+fn refused_columns_can_be_built_again(rt: HostRuntime) {
+    for greatest in [5, 70_000, u64::MAX] {
+        let values = [Some(greatest), None, Some(0)];
+        let column = built(&rt, rt.alloc(), &values);
+        assert!(rt; !column.is_empty());
+        assert_eq!(rt; [column.get(0), column.get(1), column.get(2)], values);
+    }
 }
 
 /// Bits, all of them set.
@@ -251,4 +197,17 @@ fn refused_bits_can_be_made_again(rt: HostRuntime) {
     };
     assert!(rt; bits.len() == 65 && bits != clear);
     assert!(rt; bits == copied(&rt, rt.alloc(), &bits));
+}
+
+/// The bits of two documents of 65. If the growth was refused, the second try succeeds.
+#[test]
+fn refused_bits_of_documents_can_be_made_again(rt: HostRuntime) {
+    let bits = match Bits::of_documents(rt.alloc(), 65, &[1, 64]) {
+        Ok(bits) => bits,
+        Err(AllocError) => {
+            Bits::of_documents(rt.alloc(), 65, &[1, 64]).expect(&rt, "bits again")
+        }
+    };
+    assert_eq!(rt; bits.words(), [2, 1].as_slice());
+    assert!(rt; !bits.is_all_set());
 }
