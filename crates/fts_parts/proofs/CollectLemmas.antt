@@ -1,5 +1,5 @@
 -- What is kept of hits, and what is told of them.
-use Rattle.std.proofs.Common.{◌≡◌, ℕ, ◌<◌, true, false, ◌&&◌, Bool, List, [], ◌++◌, length, fold, Option, Some, None, sym, ap, subst, ◌∙◌, All, IfSome}
+use Rattle.std.proofs.Common.{◌≡◌, ℕ, ◌<◌, true, false, ◌&&◌, Bool, List, [], ◌++◌, drop, length, fold, Option, Some, None, sym, ap, subst, ◌∙◌, All, IfSome}
 use Rattle.std.specs.Prelude.{slice_index_or}
 use Rattle.std.specs.Option.{option_map_or}
 use Rattle.std.specs.List.{filter_map}
@@ -18,7 +18,7 @@ use Rattle.fts_parts.specs.declared.tally.Tally.{Tally}
 use Rattle.fts_parts.specs.Keys.{TopKValue, first_keys}
 use Rattle.fts_parts.specs.Tallies.{IsTally, counts_of, present_at}
 use Rattle.fts_parts.specs.Ranks.{keep_keys, key_at, keys_at}
-use Rattle.fts_parts.specs.Collected.{HasCounted, HasNumbers, HasRanked, HasValues, KeysWithin, column_of, hits_at, named_by, value_at}
+use Rattle.fts_parts.specs.Collected.{HasCounted, HasNumbers, HasRanked, HasRankedLast, HasValues, KeysWithin, column_of, hits_at, named_by, value_at}
 use Rattle.fts_parts.proofs.KeptLemmas.{column_kept, present_within, values_kept}
 use Rattle.fts_parts.proofs.NamesLemmas.{named-fold}
 use Rattle.fts_parts.proofs.RanksLemmas.{IsNumberField, keep-first, first_keys-within}
@@ -38,6 +38,14 @@ counted-more segment asked field numbers docs old new is same more before =
     subst R (sym (filter_map-append (λ doc. slice_index_or (column_of segment field) doc None) before docs))
     (taken (present_at (column_of segment field) before) counted))
 
+-- no more values were counted
+pub counted-same : (segment : SegmentValue) (asked : Option ℕ) (field : ℕ) (old new : Tally) → asked ≡ Some field →
+    ((numbers : List ℕ) → IsTally numbers old → IsTally numbers new) → (before : List ℕ) → HasCounted segment asked before old →
+    HasCounted segment asked before new
+counted-same segment asked field old new is same before =
+    let P : Option ℕ → Type 0 = λ o. HasCounted segment o before old → HasCounted segment o before new in
+    subst P (sym is) (same (present_at (column_of segment field) before))
+
 -- more keys were offered
 pub ranked-more : (segment : SegmentValue) (asked : Option Top) (top : Top) (numbers : List (Option ℕ)) (docs : List ℕ) (old new : TopKValue) →
     asked ≡ Some top → numbers ≡ column segment top.by →
@@ -55,6 +63,14 @@ ranked-more segment asked top numbers docs old new is same more before =
     ∙ ap later ranked
     ∙ ap (λ keys. record { k = top.k; keys = keys })
     (keep-first top.k (filter_map h before) (filter_map h docs) ∙ ap (first_keys top.k) (sym (filter_map-append h before docs))))
+
+-- the keys of the last hits were offered
+pub ranked-last : (segment : SegmentValue) (asked : Option Top) (top : Top) (numbers : List (Option ℕ)) (docs : List ℕ) (old new : TopKValue) →
+    asked ≡ Some top → numbers ≡ column segment top.by → (passed : ℕ) →
+    new ≡ record { k = old.k; keys = keep_keys old.k old.keys (keys_at top.order segment.documents numbers (drop passed docs)) } →
+    (before : List ℕ) → HasRanked segment asked before old → HasRankedLast segment asked before docs new
+ranked-last segment asked top numbers docs old new is same passed last before ranked =
+    record { passed = passed; ranked = ranked-more segment asked top numbers (drop passed docs) old new is same last before ranked }
 
 -- a number field has a kind that holds numbers
 kind_known : (schema : List Field) (field : ℕ) (kind : Kind) → kind_at schema field ≡ Some kind → is_number_field schema field ≡ true →

@@ -10,7 +10,7 @@ use Rattle.std.specs.declared.cmp.Ordering.TheVariants.{Less, Equal, Greater}
 use Rattle.std.proofs.lemmas.Bool.{cases_lt}
 use Rattle.std.proofs.lemmas.Bool.Decides.{nat_tests}
 use Rattle.std.proofs.lemmas.Option.{slice_get-get_or, slice_get_past}
-use Rattle.std.proofs.lemmas.List.{drop-append-le, get_or-take, get_or_past, length-map, length-take-le, take-append-drop, take-map}
+use Rattle.std.proofs.lemmas.List.{drop-append-le, drop-drop, get_or-take, get_or_past, length-drop, length-map, length-take-le, take-append-drop, take-map}
 use Rattle.std.proofs.lemmas.List.Elements.{filter_map-append, All-nil, All-cons, All-head, All-tail, All-take}
 use Rattle.std.proofs.lemmas.List.Kept.{AllPairs-cons}
 use Rattle.std.proofs.lemmas.List.Sums.{fold-append}
@@ -32,7 +32,7 @@ use Rattle.fts_parts.specs.declared.ranks.Ranking.{Ranking}
 use Rattle.fts_parts.specs.declared.top_k.Key.{Key}
 use Rattle.fts_parts.specs.Tallies.{number_at}
 use Rattle.fts_parts.specs.Keys.{TopKValue, key_lt, put_key, first_keys}
-use Rattle.fts_parts.specs.Ranks.{AreOfBlock, IsBeyond, Offers, best_rank, rank_in, stamp_at, document_at, key_at, keys_at, hit_of, keep_keys}
+use Rattle.fts_parts.specs.Ranks.{AreOfBlock, IsBeyond, Offers, OffersLast, best_rank, rank_in, stamp_at, document_at, key_at, keys_at, hit_of, keep_keys}
 use Rattle.fts_parts.proofs.KeysLemmas.{All-put_key, take-put_key, keep-last}
 use Rattle.fts_parts.proofs.NumbersLemmas.{number_at-cmp}
 use Rattle.fts_parts.proofs.ValuesLemmas.{kept_at, fits_at, kept-cons, map-cons}
@@ -430,3 +430,22 @@ Offers-step ranking docs place left old middle new before within behind passed h
     ∙ ap (λ n. first ∷ drop n (take left docs)) (let e : suc place ≡ place + 1 = omega arith in e) in
     Offers-part ranking docs place left old middle new (omega (arith, before)) within behind
     (subst P (sym split) (Offers-front ranking (first ∷ []) (drop (place + 1) (take left docs)) middle middle new passed here))
+
+-- those after a hit of a part were offered, and those after the part before them
+pub OffersLast-part : (ranking : Ranking) (docs : List ℕ) (start left : ℕ) (old middle new : TopKValue) → start ≤ left → left ≤ length docs →
+    Offers ranking (drop left docs) old middle → OffersLast ranking (drop start (take left docs)) middle new → OffersLast ranking docs old new
+OffersLast-part ranking docs start left old middle new up within after last =
+    let part = take left docs in
+    let size : length part ≡ left = length-take-le left docs within in
+    let long = length-drop start part in
+    let P : List ℕ → Type 0 = λ ds. Offers ranking ds middle new in
+    let Q : ℕ → Type 0 = λ n. Offers ranking (drop n docs) old new in
+    let same : start + (last.place + 1) ≡ start + last.place + 1 = omega arith in
+    record {
+      place = start + last.place;
+      within = omega (arith, up, last.within, size, long, within);
+      offered =
+          subst Q same
+          (Offers-part ranking docs (start + (last.place + 1)) left old middle new (omega (arith, last.within, size, long)) within after
+          (subst P (drop-drop (last.place + 1) start part) last.offered));
+    }

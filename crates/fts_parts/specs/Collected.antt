@@ -1,6 +1,6 @@
 -- What is collected of the hits of a segment that were looked at.
-use Rattle.std.specs.Prelude.{◌≡◌, ℕ, ◌-◌, ◌^◌, ◌<◌, true, min, List, [], Option, Some, None, All, AllPairs}
-use Rattle.std.specs.Prelude.{IfSome, if◌then◌else◌, length, map, slice_get, slice_index_or}
+use Rattle.std.specs.Prelude.{◌≡◌, ℕ, ◌-◌, ◌^◌, ◌<◌, true, min, List, [], ◌++◌, Option, Some, None, All, AllPairs}
+use Rattle.std.specs.Prelude.{IfSome, if◌then◌else◌, drop, length, map, slice_get, slice_index_or}
 use Rattle.std.specs.Option.{option_map_or}
 use Rattle.std.specs.List.{filter_map}
 use Rattle.fts_pack.specs.bits.Signed.{i64_of}
@@ -81,6 +81,11 @@ HasRanked segment (Some top) docs top_k =
       k = top.k;
       keys = first_keys top.k (keys_at top.order segment.documents (column segment top.by) docs);
     }
+
+-- the first keys of these documents and of the last of more were kept, if a top list is asked for
+pub record HasRankedLast (segment : SegmentValue) (asked : Option Top) (docs more : List ℕ) (top_k : TopKValue) : Type 0 where
+  pub passed : ℕ
+  pub ranked : HasRanked segment asked (docs ++ drop passed more) top_k
 
 -- each key that is kept is of a document, if a top list is asked for
 abbrev pub KeysWithin : SegmentValue → Option Top → TopKValue → Type 0

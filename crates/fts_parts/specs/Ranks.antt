@@ -1,6 +1,6 @@
 -- How hits are ranked by their numbers in a column.
-use Rattle.std.specs.Prelude.{◌≡◌, ℕ, ◌-◌, ◌/◌, ◌^◌, List, [], ◌∷◌, Option, None, All, take, fold, option_map}
-use Rattle.std.specs.Prelude.{slice_get, slice_index_or}
+use Rattle.std.specs.Prelude.{◌≡◌, ℕ, ◌+◌, ◌-◌, ◌/◌, ◌^◌, ◌<◌, List, [], ◌∷◌, Option, None, All, drop, take, fold}
+use Rattle.std.specs.Prelude.{length, option_map, slice_get, slice_index_or}
 use Rattle.std.specs.List.{filter_map}
 use Rattle.std.specs.Option.{option_map_or}
 use Rattle.fts_model.specs.declared.schema.Kind.{Kind}
@@ -60,6 +60,12 @@ abbrev pub Offers : Ranking → List ℕ → TopKValue → TopKValue → Type 0
 Offers ranking docs old new =
     let keys = keys_at ranking.order ranking.segment.now.documents ranking.column.now docs in
     new ≡ record old { keys = keep_keys old.k old.keys keys }
+
+-- those after one of these hits were offered, and no others
+pub record OffersLast (ranking : Ranking) (docs : List ℕ) (old new : TopKValue) : Type 0 where
+  pub place : ℕ
+  pub within : place < length docs
+  pub offered : Offers ranking (drop (place + 1) docs) old new
 
 -- these documents are of one block of 128
 abbrev pub AreOfBlock : ℕ → List ℕ → Type 0

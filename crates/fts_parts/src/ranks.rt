@@ -1,9 +1,9 @@
 // The first hits of a segment, picked by their numbers in a column.
-ghost use Rattle.std.specs.Prelude.{◌≡◌, ◌+◌, ◌<◌, ◌/◌, ◌++◌, ◌∷◌, [], true, All, IfOk, IfSome, None, OnOk, drop};
+ghost use Rattle.std.specs.Prelude.{◌≡◌, ◌+◌, ◌<◌, ◌/◌, ◌++◌, ◌∷◌, [], true, All, IfOk, IfSome, None, OnErr, OnOk, drop};
 ghost use Rattle.std.specs.Prelude.{length, map, slice_index};
 ghost use Rattle.fts_model.specs.Queries.{is_number_field};
 ghost use Rattle.fts_segment.specs.Segments.{column};
-ghost use Rattle.fts_parts.specs.Ranks.{AreOfBlock, IsBeyond, Offers, best_rank, hit_of, rank_in};
+ghost use Rattle.fts_parts.specs.Ranks.{AreOfBlock, IsBeyond, Offers, OffersLast, best_rank, hit_of, rank_in};
 
 use crate::tally::number_at;
 use crate::top_k::{Key, TopK};
@@ -73,7 +73,8 @@ impl Ranking<'_> {
     /// Offers the hits that have a number in the column.
     pub(crate) fn offer(&self, docs: &[u32], top_k: &mut TopK) -> Result<(), AllocError>
         requires { All (λ doc. doc < length self.now.segment.now.documents) docs.now }
-        ensures { OnOk result (Offers self.now docs.now top_k.old top_k.new) }
+        ensures ok { OnOk result (Offers self.now docs.now top_k.old top_k.new) }
+        ensures err { OnErr result (OffersLast self.now docs.now top_k.old top_k.new) }
     {
         if self.has_spread() {
             self.offer_by_blocks(docs, top_k)
@@ -94,7 +95,8 @@ impl Ranking<'_> {
     /// Offers the hits that have a number in the column, block by block, the last first.
     fn offer_by_blocks(&self, docs: &[u32], top_k: &mut TopK) -> Result<(), AllocError>
         requires { All (λ doc. doc < length self.now.segment.now.documents) docs.now }
-        ensures { OnOk result (Offers self.now docs.now top_k.old top_k.new) }
+        ensures ok { OnOk result (Offers self.now docs.now top_k.old top_k.new) }
+        ensures err { OnErr result (OffersLast self.now docs.now top_k.old top_k.new) }
     {
         let mut left = docs.len();
         while left > 0 {
@@ -111,7 +113,8 @@ impl Ranking<'_> {
         requires within { All (λ doc. doc < length self.now.segment.now.documents) docs.now }
         requires some { 0 < length docs.now }
         requires block { AreOfBlock (slice_index docs.now 0 / 128) docs.now }
-        ensures { OnOk result (Offers self.now docs.now top_k.old top_k.new) }
+        ensures ok { OnOk result (Offers self.now docs.now top_k.old top_k.new) }
+        ensures err { OnErr result (OffersLast self.now docs.now top_k.old top_k.new) }
     {
         if self.is_block_beyond(docs[0] / BLOCK, top_k) {
             return Ok(());
@@ -130,10 +133,12 @@ impl Ranking<'_> {
     }
 
     /// Offers the hits that have a number in the column, the last first. If ranks fall from document to document, then
-    /// in their own order each hit would be better than those before it; from the last on, one compare rejects most.
+    /// in their own order each hit would be better than those before it; from the last on, one compare rejects most. An
+    /// error says that memory was refused at one of the hits.
     pub fn offer_each(&self, docs: &[u32], top_k: &mut TopK) -> Result<(), AllocError>
         requires { All (λ doc. doc < length self.now.segment.now.documents) docs.now }
-        ensures { OnOk result (Offers self.now docs.now top_k.old top_k.new) }
+        ensures ok { OnOk result (Offers self.now docs.now top_k.old top_k.new) }
+        ensures err { OnErr result (OffersLast self.now docs.now top_k.old top_k.new) }
     {
         let mut left = docs.len();
         while let Some(place) = self.last_promising(&docs[..left], top_k) {
@@ -163,7 +168,8 @@ impl Ranking<'_> {
     /// Offers a hit, if it has a number in the column.
     fn offer_hit(&self, doc: u32, top_k: &mut TopK) -> Result<(), AllocError>
         requires { doc < length self.now.segment.now.documents }
-        ensures { OnOk result (Offers self.now (doc ∷ []) top_k.old top_k.new) }
+        ensures ok { OnOk result (Offers self.now (doc ∷ []) top_k.old top_k.new) }
+        ensures err { OnErr result (top_k.new ≡ top_k.old) }
     {
         let Some(number) = self.column.get(doc as usize) else {
             return Ok(());

@@ -1,9 +1,10 @@
 // What is collected of the hits of a segment as they are looked at, and the part that is made of it in the end.
-ghost use Rattle.std.specs.Prelude.{◌≡◌, ◌<◌, ◌++◌, ◌^◌, ℕ, List, [], true, All, IfOk, IfSome, OnOk, length, option_map};
+ghost use Rattle.std.specs.Prelude.{◌≡◌, ◌<◌, ◌++◌, ◌^◌, ℕ, List, [], true, All, IfOk, IfSome, OnErr, OnOk, length};
+ghost use Rattle.std.specs.Prelude.{option_map};
 ghost use Rattle.fts_model.specs.Queries.{is_number_field, is_ordered_field, request_fits};
 ghost use Rattle.fts_model.specs.Answers.{answer_of, groups, top};
-ghost use Rattle.fts_parts.specs.Collected.{AreHits, HasCounted, HasNumbers, HasRanked, HasSeen, HasValues, IsTallyOf};
-ghost use Rattle.fts_parts.specs.Collected.{KeysWithin, column_of, hits_at};
+ghost use Rattle.fts_parts.specs.Collected.{AreHits, HasCounted, HasNumbers, HasRanked, HasRankedLast, HasSeen};
+ghost use Rattle.fts_parts.specs.Collected.{HasValues, IsTallyOf, KeysWithin, column_of, hits_at};
 
 use crate::lent::Counted;
 use crate::part::Part;
@@ -46,7 +47,7 @@ fn empty_tally(alloc: Global, segment: &Segment, field: Option<usize>) -> Result
     }
 }
 
-/// Counts hits by what the column of the field of the groups keeps for them.
+/// Counts hits by what the column of the field of the groups keeps for them. On `Err` none was counted.
 fn count_hits(
     segment: &Segment,
     field: Option<usize>,
@@ -55,10 +56,12 @@ fn count_hits(
 ) -> Result<(), AllocError>
     requires fits { IfSome field (λ f. is_ordered_field segment.now.schema f ≡ true) }
     requires places { IsTallyOf segment.now field tally.old }
-    ensures places { OnOk result (IsTallyOf segment.now field tally.new) }
+    ensures places { IsTallyOf segment.now field tally.new }
     ensures counted { OnOk result ((before : List ℕ) →
         HasCounted segment.now field before tally.old →
         HasCounted segment.now field (before ++ docs.now) tally.new) }
+    ensures kept { OnErr result ((before : List ℕ) →
+        HasCounted segment.now field before tally.old → HasCounted segment.now field before tally.new) }
 {
     match field {
         None => Ok(()),
@@ -97,8 +100,10 @@ fn rank_hits(
 ) -> Result<(), AllocError>
     requires fits { IfSome wanted (λ t. is_number_field segment.now.schema t.by ≡ true) }
     requires within { All (λ doc. doc < length segment.now.documents) docs.now }
-    ensures { OnOk result ((before : List ℕ) → HasRanked segment.now wanted before top_k.old →
+    ensures ok { OnOk result ((before : List ℕ) → HasRanked segment.now wanted before top_k.old →
         HasRanked segment.now wanted (before ++ docs.now) top_k.new) }
+    ensures err { OnErr result ((before : List ℕ) → HasRanked segment.now wanted before top_k.old →
+        HasRankedLast segment.now wanted before docs.now top_k.new) }
 {
     match wanted {
         None => Ok(()),
@@ -138,7 +143,7 @@ fn top_told(
 }
 
 /// Takes more hits: the numbers of documents of the segment, which come after those taken before. An error says that
-/// memory was refused; some of them may have been taken by then.
+/// memory was refused: of these hits none is counted, but the last of them may have been offered to the top list.
 pub fn see(
     segment: &Segment,
     request: &Request,
@@ -148,12 +153,18 @@ pub fn see(
     requires fits { request_fits segment.now.schema request.now ≡ true }
     requires within { All (λ doc. doc < length segment.now.documents) docs.now }
     requires places { IsTallyOf segment.now request.now.groups seen.old.tally }
-    ensures { OnOk result ((before : List ℕ) → HasSeen segment.now request.now before seen.old →
+    ensures ok { OnOk result ((before : List ℕ) → HasSeen segment.now request.now before seen.old →
         HasSeen segment.now request.now (before ++ docs.now) seen.new) }
+    ensures kept { OnErr result ((before : List ℕ) → HasSeen segment.now request.now before seen.old →
+        HasSeen segment.now request.now before (record seen.new { top_k = seen.old.top_k })) }
+    ensures offered { OnErr result ((before : List ℕ) →
+        HasRanked segment.now request.now.top before seen.old.top_k →
+        HasRankedLast segment.now request.now.top before docs.now seen.new.top_k) }
 {
-    seen.count = seen.count.saturating_add(docs.len() as u64);
+    rank_hits(segment, request.top, docs, &mut seen.top_k)?;
     count_hits(segment, request.groups, docs, &mut seen.tally)?;
-    rank_hits(segment, request.top, docs, &mut seen.top_k)
+    seen.count = seen.count.saturating_add(docs.len() as u64);
+    Ok(())
 }
 
 /// Nothing collected yet, for a request that fits the segment.

@@ -1,6 +1,6 @@
 // Hits counted by their numbers in a column.
-ghost use Rattle.std.specs.Prelude.{◌≡◌, ◌≤◌, ◌+◌, ◌++◌, ◌^◌, IfOk, OnOk, length, None};
-ghost use Rattle.std.specs.Prelude.{nat_eq, option_to_list, slice_index_or};
+ghost use Rattle.std.specs.Prelude.{◌≡◌, ◌<◌, ◌≤◌, ◌+◌, ◌++◌, ◌^◌, IfOk, OnErr, OnOk, length, None};
+ghost use Rattle.std.specs.Prelude.{nat_eq, option_to_list, slice_index_or, vec_capacity, vec_len};
 ghost use Rattle.fts_scan.specs.Scans.{counts_of_sorted};
 ghost use Rattle.fts_parts.specs.Tallies.{counts_from, number_at, present_at};
 
@@ -46,27 +46,28 @@ fn counts_from(alloc: Global, least: u64, counts: &[u64]) -> Result<Vec<(u64, u6
     Ok(list)
 }
 
-/// Puts the number of a document in a column after others, if it has one.
-fn push_doc(column: &Column, doc: u32, numbers: &mut Vec<u64>) -> Result<(), AllocError>
-    ensures { OnOk result (numbers.new.items
-        ≡ numbers.old.items ++ option_to_list (slice_index_or column.now doc None)) }
+/// Puts the number of a document in a column after others, if it has one. There is room for one more.
+fn push_doc(column: &Column, doc: u32, numbers: &mut Vec<u64>)
+    requires { vec_len numbers.old < vec_capacity numbers.old }
+    ensures items { numbers.new.items
+        ≡ numbers.old.items ++ option_to_list (slice_index_or column.now doc None) }
+    ensures len { vec_len numbers.new ≤ vec_len numbers.old + 1 }
+    ensures capacity { vec_capacity numbers.new ≡ vec_capacity numbers.old }
 {
-    match column.get(doc as usize) {
-        None => Ok(()),
-        Some(number) => {
-            numbers.push(number)?;
-            Ok(())
-        }
+    if let Some(number) = column.get(doc as usize) {
+        numbers.push_reserved(number);
     }
 }
 
-/// Puts the numbers of documents in a column after others.
+/// Puts the numbers of documents in a column after others. On `Err` nothing was put there.
 fn push_docs(column: &Column, docs: &[u32], numbers: &mut Vec<u64>) -> Result<(), AllocError>
-    ensures { OnOk result (numbers.new.items
+    ensures ok { OnOk result (numbers.new.items
         ≡ numbers.old.items ++ present_at column.now docs.now) }
+    ensures err { OnErr result (numbers.new.items ≡ numbers.old.items) }
 {
+    numbers.reserve(docs.len())?;
     for doc in docs {
-        push_doc(column, *doc, numbers)?;
+        push_doc(column, *doc, numbers);
     }
     Ok(())
 }
@@ -96,7 +97,7 @@ fn most_counts(docs: usize) -> u64
 }
 
 impl Tally {
-    ghost use Rattle.std.specs.Prelude.{◌≡◌, ◌<◌, ◌++◌, ◌^◌, ℕ, List, [], IfOk, OnOk, length};
+    ghost use Rattle.std.specs.Prelude.{◌≡◌, ◌<◌, ◌++◌, ◌^◌, ℕ, List, [], IfOk, OnErr, OnOk, length};
     ghost use Rattle.fts_parts.specs.Tallies.{IsTally, IsTallyFor, counts_of, present_at};
 
     /// The tally of no hits. It has a place for each number, if the column's numbers are close together for this many
@@ -115,12 +116,13 @@ impl Tally {
         }
     }
 
-    /// Takes the numbers of more hits.
+    /// Takes the numbers of more hits. On `Err` none was taken.
     pub(crate) fn take(&mut self, column: &Column, docs: &[u32]) -> Result<(), AllocError>
         requires { IsTallyFor column.now self.old }
         ensures taken { OnOk result ((numbers : List ℕ) → IsTally numbers self.old →
             IsTally (numbers ++ present_at column.now docs.now) self.new) }
-        ensures for_column { OnOk result (IsTallyFor column.now self.new) }
+        ensures kept { OnErr result ((numbers : List ℕ) → IsTally numbers self.old → IsTally numbers self.new) }
+        ensures for_column { IsTallyFor column.now self.new }
     {
         match self {
             Tally::Counts { least, counts } => {

@@ -1,5 +1,5 @@
 // The least of many keys, few of which are held at a time.
-ghost use Rattle.std.specs.Prelude.{◌≡◌, ◌<◌, ◌≤◌, ℕ, [], IfSome, OnOk, All, length, take, true};
+ghost use Rattle.std.specs.Prelude.{◌≡◌, ◌<◌, ◌≤◌, ℕ, [], IfSome, OnErr, OnOk, All, length, take, true};
 ghost use Rattle.fts_parts.specs.Keys.{first_keys, key_lt, put_key};
 
 use std::alloc::{AllocError, Global};
@@ -90,8 +90,9 @@ impl TopK {
 
     /// Takes one more key.
     pub(crate) fn offer(&mut self, key: Key) -> Result<(), AllocError>
-        ensures { OnOk result (self.new
+        ensures ok { OnOk result (self.new
             ≡ record self.old { keys = take self.old.k (put_key self.old.keys key) }) }
+        ensures err { OnErr result (self.new ≡ self.old) }
     {
         if self.drops(key) {
             return Ok(());
@@ -104,8 +105,9 @@ impl TopK {
 
     /// Holds one more key.
     fn push(&mut self, key: Key) -> Result<(), AllocError>
-        ensures { OnOk result (self.new
+        ensures ok { OnOk result (self.new
             ≡ record self.old { keys = take self.old.k (put_key self.old.keys key) }) }
+        ensures err { OnErr result (self.new ≡ self.old) }
     {
         self.held.push(key)?;
         Ok(())

@@ -37,7 +37,7 @@ loop-len-preserved c =
     let taken = c.take-len-in-loop-len.ensures in
     record {
       under_way = under_way-next c.args.segment.now c.args.request.now c.args.cursor.now.remaining _ _ _ _ _ _ c.take-len-in-loop-len.result
-          c.loop-len.invariant.under_way c.in_ok-see.ensures taken.taken taken.remaining taken.end;
+          c.loop-len.invariant.under_way c.in_ok-see.ensures.ok taken.taken taken.remaining taken.end;
       within = taken.few;
       walked = Walked-trans _ _ _ c.loop-len.invariant.walked taken.walked;
     }

@@ -22,4 +22,4 @@ returns-clause-offered c = λ _.
     walked c.args.segment.now c.args.top c.args.hits.now range bounds.0 bounds.1 c.numbers_of.result.now c.deref-best.result.now c.args.top_k.now
     c.offer_each.new.top_k
     c.numbers_of.ensures c.in-Some.ensures fits small c.ends-bounds.ensures (c.deref-best.ensures.value ∙ c.in_ok-found.ensures)
-    (let enough : c.are_enough.result ≡ true = search rules in c.are_enough.ensures enough) c.in_ok-offer_each.ensures
+    (let enough : c.are_enough.result ≡ true = search rules in c.are_enough.ensures enough) c.in_ok-offer_each.ensures.ok
