@@ -129,12 +129,7 @@ impl State {
     }
 
     /// Executes the next line of a transaction that began at a savepoint, and returns whether it was taken.
-    fn operate_next(
-        &mut self,
-        alloc: Global,
-        begun: Savepoint,
-        line: &[u8],
-    ) -> Result<bool, i32>
+    fn operate_next(&mut self, alloc: Global, begun: Savepoint, line: &[u8]) -> Result<bool, i32>
         requires { begun.number ≤ self.old.session.number }
         ensures { Operates self.old (begun.number + 1) line.now self.new result }
     {

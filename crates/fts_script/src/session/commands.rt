@@ -80,11 +80,7 @@ fn submit<E: Engine>(
 }
 
 /// The document that a value is.
-fn document_in<E: Engine>(
-    alloc: Global,
-    engine: &E,
-    json: &Value,
-) -> Result<Document, Refusal>
+fn document_in<E: Engine>(alloc: Global, engine: &E, json: &Value) -> Result<Document, Refusal>
     ensures document { Gives (λ document. document) result
         (document_of (E.index engine.now).schema (view json.now)) }
     ensures fits { IfOk result (λ document. fits (E.index engine.now).schema document ≡ true) }
@@ -111,12 +107,7 @@ pub(crate) fn add<E: Engine>(
 }
 
 /// The term that a value is in the field of a name.
-fn term_in<E: Engine>(
-    alloc: Global,
-    engine: &E,
-    name: &str,
-    json: &Value,
-) -> Result<Term, Refusal>
+fn term_in<E: Engine>(alloc: Global, engine: &E, name: &str, json: &Value) -> Result<Term, Refusal>
     ensures term { Gives (λ term. term) result
         (term_of (E.index engine.now).schema name.now (view json.now)) }
     ensures fits { IfOk result (λ term. term_fits (E.index engine.now).schema term ≡ true) }
