@@ -18,8 +18,8 @@ printed of them is compared with their rows, and the others are tried over the l
 Without --said, all edits of these crates are tried here, over libraries that are proved first if they have changed.
 
 An edit is bad if it can't be applied, if the prover can't read it, or if it brings a function without a contract. A
-caller knows nothing of such a function, so the right result would be refused as well. The last lines are 'N skipped',
-if any, and 'N passed, M failed'.
+caller knows nothing of such a function, so the right result would be refused as well. The last line is 'N passed, M
+failed'.
 """
 from __future__ import annotations
 
@@ -60,13 +60,6 @@ MEMORY = 2_400_000_000
 
 # The most edits that are tried by one check.
 TOGETHER = 6
-
-# Crates whose rows weren't all compared with what the prover says since functions were renamed. Their edits are tried like
-# all others, but one that isn't refused as its row says is printed and counted as skipped.
-UNSETTLED = frozenset({
-    "fts_c", "fts_cli", "fts_collect", "fts_cursor", "fts_engine_index", "fts_engine_local", "fts_index", "fts_parts",
-    "fts_postings", "fts_script", "fts_segment", "fts_snapshots",
-})
 
 
 @dataclasses.dataclass(frozen=True)
@@ -320,8 +313,8 @@ def build_below(crate: Any, just_proved: bool) -> None:
             sys.exit(f"edits: {library.name}, which {crate.name} stands on, isn't proved")
 
 
-def try_here(edits: list[Edit], just_proved: bool) -> list[tuple[str, bool]]:
-    """The crate of each edit and each control, and whether it is refused as its row says, or proves its function."""
+def try_here(edits: list[Edit], just_proved: bool) -> list[bool]:
+    """Of each control and each edit, whether it proves its function, or is refused as its row says."""
     rt = kit.module("rt")
     all_crates = kit.crates(rt.rtlib)
     # Its first call sets a signal's handler, which only the main thread may.
@@ -341,7 +334,7 @@ def try_here(edits: list[Edit], just_proved: bool) -> list[tuple[str, bool]]:
                 tasks[crate.name, "edits", group[0].name] = [first], len(group), MEMORY, call
         given = rt.in_lanes(tasks)
     del held
-    return [(task[0], good) for task, results in given.items() for good in results]
+    return [good for results in given.values() for good in results]
 
 
 def compare_all(edits: list[Edit], file: str) -> list[bool]:
@@ -377,13 +370,9 @@ def main() -> int:
         results += compare_all(of_gate, words.said)
     else:
         ours = sorted(of_gate + ours, key=lambda edit: edit.name)
-    tried = try_here(ours, just_proved=bool(words.said))
-    skipped = sum(not good and crate in UNSETTLED for crate, good in tried)
-    results += [good for crate, good in tried if good or crate not in UNSETTLED]
+    results += try_here(ours, just_proved=bool(words.said))
     used = resource.getrusage(resource.RUSAGE_CHILDREN)
     say(f"{len(ours)} tried here, in {(used.ru_utime + used.ru_stime) / 60:.1f} minutes of a processor")
-    if skipped:
-        print(f"{skipped} skipped")
     print(f"{sum(results)} passed, {len(results) - sum(results)} failed")
     return 0 if all(results) else 1
 
