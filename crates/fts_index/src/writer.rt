@@ -1,6 +1,6 @@
 // The writer of an index: it opens rounds, commits their batches, merges segments, and publishes what these leave.
 ghost use Rattle.std.specs.Prelude.{◌≡◌, ◌+◌, ◌*◌, ◌^◌, ◌<◌, ◌≤◌, ◌⊎◌, ◌↔◌, ◌++◌, [], ◌∷◌, List, IsTrue, Some};
-ghost use Rattle.std.specs.Prelude.{None, Ok, IfOk, IfErr, OnOk, OnErr, IsOkUnless, map, length, option_map};
+ghost use Rattle.std.specs.Prelude.{None, Ok, Err, IfOk, IfErr, IfSome, OnOk, OnErr, IsOkUnless, map, length, option_map};
 ghost use Rattle.std.specs.List.{range_with_len};
 ghost use Rattle.fts_model.specs.Operations.{alive, adds};
 ghost use Rattle.fts_rounds.specs.Rounds.{fresh};
@@ -152,6 +152,7 @@ impl Writer {
         requires cap { (1 ≤ cap) × (cap ≤ 1000000) }
         ensures writer { OnOk result (self.new ≡ with_round lanes cap self.old) }
         ensures refused { IsRefusedFor (round_fault lanes cap self.old) result }
+        ensures fault { IfSome (round_fault lanes cap self.old) (λ refusal. result ≡ Err refusal) }
         ensures round { IfOk result (λ r. r.0.limits ≡ next_round lanes cap self.old) }
         ensures lanes { IfOk result (λ r. r.1.items ≡ map (fresh r.0) (range_with_len 0 lanes)) }
         ensures follows { Follows self.old.front.snapshot self.new.front.snapshot }
@@ -197,6 +198,7 @@ impl Writer {
         requires workers { (1 ≤ workers) × (workers ≤ 64) }
         ensures writer { OnOk result (self.new ≡ with_commit cut batch.now self.old) }
         ensures refused { IsRefusedFor (batch_fault cut batch.now self.old) result }
+        ensures fault { IfSome (batch_fault cut batch.now self.old) (λ refusal. result ≡ Err refusal) }
         ensures stamp { IfOk result (λ c. c.stamp ≡ stamp_behind batch.now) }
         ensures content { OnOk result (content_of self.new.front.snapshot
             ≡ alive self.old.front.snapshot.schema
@@ -257,6 +259,7 @@ impl Writer {
     pub fn merge<R: Wait>(&mut self, rt: &R, alloc: Global, ids: &[u64]) -> Result<(), Refusal>
         ensures writer { OnOk result (self.new ≡ with_merge ids.now self.old) }
         ensures refused { IsRefusedFor (merge_fault ids.now self.old.front.snapshot) result }
+        ensures empty { ids.now ≡ [] → result ≡ Err Refusal.NoSegments }
         ensures segments { OnOk result (map info_of self.new.front.snapshot.entries
             ≡ infos_after_merge ids.now self.old.front.snapshot) }
         ensures content { OnOk result
@@ -280,6 +283,7 @@ impl Writer {
         ensures fits { IfOk result (λ job. Fits (merged_of job) self.now.front.snapshot) }
         ensures refused { IsRefusedFor
             (names_fault self.now.front.snapshot.entries ids.now) result }
+        ensures empty { ids.now ≡ [] → result ≡ Err Refusal.NoSegments }
     {
         self.publisher.snapshot().begin_merge(alloc, ids)
     }
