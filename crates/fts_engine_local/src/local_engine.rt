@@ -1,5 +1,5 @@
 // An index over segments that needs nothing but memory: no other thread, and nothing to wait for.
-ghost use Rattle.std.specs.Prelude.{◌≡◌, []};
+ghost use Rattle.std.specs.Prelude.{◌≡◌, ◌+◌, ◌^◌, [], OnOk};
 
 use crate::begun_merge::{BegunMerge, MergeSlot, begun, ended, is_memory};
 use crate::local_policy::policy_after;
