@@ -1,7 +1,7 @@
 -- The lines of a transaction: the next, the first that isn't taken, and the end.
-use Rattle.std.proofs.Common.{◌≡◌, ◌≢◌, ◌+◌, ◌<◌, ◌≤◌, ℕ, ℤ, Bool, true, false, cond, List, [], ◌∷◌, ◌++◌, length, take, drop, get_or, refl, sym, ap, subst, ◌∙◌}
+use Rattle.std.proofs.Common.{◌≡◌, ◌≢◌, ◌+◌, ◌<◌, ◌≤◌, ℕ, ℤ, Bool, true, false, cond, List, [], ◌∷◌, ◌++◌, length, take, drop, refl, sym, ap, subst, ◌∙◌}
 use Rattle.std.proofs.Common.{append_assoc, append-nil, arith, string_bytes, Option, Some, None, Result, Ok, Err, is_ok, option_map, inl}
-use Rattle.std.proofs.lemmas.List.{length-drop, take_all}
+use Rattle.std.proofs.lemmas.List.{take_all}
 use Rattle.fts_base.specs.declared.refusal.Refusal.{Refusal}
 use Rattle.fts_engine.specs.Indexes.{Index, indexes}
 use Rattle.fts_engine.specs.TakeBack.{keep_first}
@@ -9,7 +9,7 @@ use Rattle.fts_script.specs.declared.session.savepoint.Savepoint.{Savepoint}
 use Rattle.fts_script.specs.session.Outputs.{SessionValue, after_line, after_lines, replies, reply_to}
 use Rattle.fts_script.specs.session.Replies.{Outcome, line_of, refusal_reply, text_of}
 use Rattle.fts_script.specs.session.Text.{lines_of}
-use Rattle.fts_script.specs.session.Transactions.{after_transaction, count_uncommitted, first_refusal, is_taken, lines_taken, operate, refusal_or}
+use Rattle.fts_script.specs.session.Transactions.{count_uncommitted, first_refusal, is_taken, lines_taken, operate, refusal_or}
 use Rattle.fts_script.specs.session.Transactions.{replies_unless_refused, rolled_back_to, savepoint_of, unless_refused}
 use Rattle.fts_script.proofs.TransactionLemmas.{Taken, taken_back, taken_more, taken_of}
 use Rattle.fts_c.specs.declared.codes.TheConstants.{OK}
@@ -116,8 +116,8 @@ reached_next old now new block rest line later begun done r first shorter t =
 refusal_now : (r : Result (Outcome Index) Refusal) (later : Option Refusal) (old : State) (lines : List (List ℕ)) (number : ℕ) (wanted : Option Refusal) →
     is_ok r ≡ false → wanted ≡ refusal_or r later → number ≡ old.session.number →
     (text_of (number + 1) r ≡ replies_unless_refused old.session lines wanted) × (unless_refused old.session lines wanted ≡ old.session)
-refusal_now (Ok d) later old lines number wanted no is at = absurd (let bad : true ≡ false = no in cc)
-refusal_now (Err e) later old lines number wanted no is at = (
+refusal_now (Ok d) later old lines number wanted bad is at = absurd (let false_is : true ≡ false = bad in cc)
+refusal_now (Err e) later old lines number wanted bad is at = (
   ap (λ n. line_of (refusal_reply e (n + 1))) at ∙ ap (replies_unless_refused old.session lines) (sym is),
   ap (unless_refused old.session lines) is,
 )

@@ -1,5 +1,5 @@
 -- What a call of several lines leaves that are done all or none, and its code.
-use Rattle.std.specs.Prelude.{◌≡◌, ◌≢◌, ◌+◌, ◌<◌, ◌≤◌, ◌++◌, ℤ, ℕ, Bool, true, false, Result, Ok, Err, List, [], length, take}
+use Rattle.std.specs.Prelude.{◌≡◌, ◌≢◌, ◌<◌, ◌≤◌, ◌++◌, ℤ, ℕ, Bool, true, false, Result, Ok, Err, List, [], length, take}
 use Rattle.std.specs.Prelude.{slice_index_or, string_bytes}
 use Rattle.fts_engine.specs.Indexes.{indexes}
 use Rattle.fts_script.specs.session.Outputs.{after_line, after_lines, reply_to}
