@@ -126,7 +126,9 @@ class Forks(Stored):
 
         def sync(fd):
             os.kill(main, signal.SIGUSR1)
-            time.sleep(0.1)
+            end = time.monotonic() + 20
+            while not ends and time.monotonic() < end:
+                time.sleep(0.001)
             slow(fd)
 
         before = signal.signal(signal.SIGUSR1, handle)
