@@ -15,6 +15,11 @@ ROOT = pathlib.Path(__file__).resolve().parent.parent
 PROGRAM = pathlib.Path(os.environ.get("FTS", ROOT / "crates/fts/out/fts"))
 
 
+# The clock of another process lacks what a thread of it has run since it was last put on a processor. In so many seconds, a program that has
+# answered waits for the next line, so that nothing is lacking.
+ASLEEP = 0.002
+
+
 def resident_of(process: int | str) -> float:
     """How many megabytes (10^6 bytes) of a process are resident."""
     status = pathlib.Path(f"/proc/{process}/status").read_text()
@@ -40,9 +45,9 @@ class Session:
         writing = threading.Thread(target=self._write, args=(lines,))
         writing.start()
         found = [self._reply() for _ in range(replies)]
-        took = (time.clock_gettime(self.clock) - began) * 1e6
         writing.join()
-        return found, took
+        time.sleep(ASLEEP)
+        return found, (time.clock_gettime(self.clock) - began) * 1e6
 
     def _write(self, lines: Iterable[str]) -> None:
         """Writes the lines 1,000 at a time, so that the program seldom waits for the rest of them. If it ends, its missing replies tell that."""
