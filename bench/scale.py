@@ -17,6 +17,7 @@ from __future__ import annotations
 
 import contextlib
 import hashlib
+import importlib.util
 import itertools
 import json
 import math
@@ -47,6 +48,8 @@ TURNS, BUILDS = 4, 2
 NEAR = 1 / 3
 # Documents of the small partitions, so few that their searches take next to nothing.
 FEW = 1_000
+# Dask's event loops are uvloop's, if that is there (Debian: python3-uvloop), as docs/SCALE.md advises.
+EVENT_LOOP = {"DASK_DISTRIBUTED__ADMIN__EVENT_LOOP": "uvloop"} if importlib.util.find_spec("uvloop") else {}
 # Workers and partitions of the clusters that tell what a round, a worker and a partition cost, and of those that judge that.
 FITTED, JUDGED = ((1, 4), (4, 4), (4, 64)), ((2, 8), (4, 16), (4, 256))
 # Partitions of `many`, the threads that search them at once, and how long a top list of them is.
@@ -183,7 +186,8 @@ class Way:
 
     def __init__(self, name: str, paths: list[str], workers: int = WORKERS) -> None:
         self.process = subprocess.Popen(
-            [sys.executable, __file__, "--way", name, str(workers), *paths], stdin=subprocess.PIPE, stdout=subprocess.PIPE, text=True)
+            [sys.executable, __file__, "--way", name, str(workers), *paths], stdin=subprocess.PIPE, stdout=subprocess.PIPE, text=True,
+            env={**os.environ, **EVENT_LOOP})
         assert self.process.stdin and self.process.stdout
         self.input, self.output = self.process.stdin, self.process.stdout
         self.ready = self.read()
@@ -333,7 +337,7 @@ def measure(counts: tuple[int, ...] = COUNTS) -> dict[str, Any]:
     return {
         "small": [small(*each) for each in (*FITTED, *JUDGED)], "many": many(), "points": [point(count) for count in counts],
         "reading": reading, "joining": {name: list(took) for name, took in joining().items()},
-        "processors": os.cpu_count(), "words each": WORDS_EACH,
+        "processors": os.cpu_count(), "words each": WORDS_EACH, "event loop": "uvloop" if EVENT_LOOP else "asyncio",
     }
 
 
@@ -406,19 +410,19 @@ def of_cluster(constants: dict[str, float], documents: float, partitions: int, w
 def model(raw: dict[str, Any]) -> dict[str, float]:
     """The constants, in microseconds, bytes and milliseconds.
 
-    Searches and memory are taken from one process over the fewest and the most documents, builds from the point after the fewest, what threads add
-    from the fewest documents, and what Dask adds from the clusters of FITTED.
+    Searches and memory are taken from one process over the fewest and the most documents, builds from the most, what threads add from the fewest
+    documents, and what Dask adds from the clusters of FITTED.
     """
-    least, base, most = raw["points"][0], raw["points"][min(1, len(raw["points"]) - 1)], raw["points"][-1]
-    documents, more = base["documents"], max(most["documents"] - least["documents"], 1)
+    least, most = raw["points"][0], raw["points"][-1]
+    documents, more = most["documents"], max(most["documents"] - least["documents"], 1)
     resident = (most["one"]["resident"] - least["one"]["resident"]) / more or least["one"]["resident"] / least["documents"]
     million = max((most["one"]["mean"] - least["one"]["mean"]) / more * 1e6, 0)
     start = min(found["build"] for found in raw["small"])
     constants = {
-        "build": base["one"]["build"] / documents * 1e6, "beside": max(base["dask"]["build"] - start, 0) * WORKERS / documents * 1e6,
-        "turns": base["threads"]["build"] / documents * 1e6, "reading": raw["reading"], "start": start,
+        "build": most["one"]["build"] / documents * 1e6, "beside": max(most["dask"]["build"] - start, 0) * WORKERS / documents * 1e6,
+        "turns": most["threads"]["build"] / documents * 1e6, "reading": raw["reading"], "start": start,
         "resident": resident, "of lines": most["one"]["resident"] / most["json"],
-        "held": max(least["one"]["resident"] - resident * least["documents"], 0), "empty": base["dask"]["empty"],
+        "held": max(least["one"]["resident"] - resident * least["documents"], 0), "empty": most["dask"]["empty"],
         "alone": max(least["one"]["mean"] - million * least["documents"] / 1e6, 0), "million": million,
         **{f"{name} {part}": value for name, took in raw["joining"].items() for part, value in zip(Join._fields, took)},
         "round": 0.0, "worker": 0.0, "partition": 0.0, "handing": 0.0,
@@ -465,7 +469,7 @@ class Ratio(NamedTuple):
 def is_fitted(way: str, name: str, place: int, count: int) -> bool:
     """Whether a constant of the model is from a number of a point, the `place`th of so many."""
     if name == "build":
-        return place == min(1, count - 1)
+        return place == count - 1
     if way == "one":
         return place in (0, count - 1)
     return way == "threads" and name == "mean" and place == 0
@@ -483,7 +487,7 @@ def shown(raw: dict[str, Any]) -> str:
     return "\n\n".join([
         f"The documents have {raw['words each']} words each, so that ten million fit into a small machine. {SEARCHES} searches of four kinds in turn: a "
         "word, two words (AND), a range of a tenth of the `i64`s with groups by the keyword, and a word with a top ten. The quickest of "
-        f"{BUILDS} builds and of {TURNS} rounds of searches counts. Beside each number is what the model says, and their ratio, in parentheses if "
+        f"{BUILDS} builds and of {TURNS} rounds of searches counts. Dask's event loops are {raw.get('event loop', 'asyncio')}'s. Beside each number is what the model says, and their ratio, in parentheses if "
         "a constant of the model is from it.",
         points, clusters, many_shown(raw),
         f"Of the {len(judged)} ratios that no constant is from, {near} are within a third; the furthest are {min(judged):.2f} and {max(judged):.2f}.",

@@ -229,6 +229,9 @@ def measured(load: Load, server: Server, seconds: float) -> dict[str, Times]:
     with ExitStack() as stack:
         for _ in range(load.idle):
             stack.enter_context(socket.create_connection(("127.0.0.1", server.port)))
+        if load.idle:
+            # A request that is answered comes after all of them were accepted.
+            counts(server)
         processes = [
             multiprocessing.Process(target=client, args=(kind, server, 100 * len(kinds) + number, seconds, start, told))
             for number, kind in enumerate(kinds)
