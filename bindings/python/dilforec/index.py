@@ -143,15 +143,6 @@ class Searching:
         asked = SearchLines(query, groups, top, fields)
         return self._answered(asked, self._replies_to(asked))
 
-    def _replies(self, query: str, by: Sequence[GroupsBy], top: Optional[Top],
-                 fields: Optional[Sequence[str]]) -> list[bytes]:
-        """The replies to a search with the groups of some fields: the last of them, one for each field, have the groups.
-
-        They are of one commit, and the first has the top list.
-        """
-        asked = SearchLines(query, list(by), top, fields)
-        return self._checked(asked, self._replies_to(asked))
-
     def _replies_to(self, asked: SearchLines) -> list[bytes]:
         if not isinstance(self._channel, Channel):
             asked.expect_all_groups()
@@ -236,6 +227,30 @@ class Searching:
 
     def __exit__(self, *_: object) -> None:
         self.close()
+
+
+@overload
+def channel_of(index: Index) -> Channel: ...
+
+
+@overload
+def channel_of(index: Searcher) -> Asking: ...
+
+
+def channel_of(index: Searching) -> Asking:
+    """The lines and replies of an index or a searcher, for the parts of this package that speak in lines."""
+    return index._channel
+
+
+def replies_to(
+    index: Searching, query: str, by: Sequence[GroupsBy], top: Optional[Top], fields: Optional[Sequence[str]],
+) -> list[bytes]:
+    """The replies to a search with the groups of some fields: the last of them, one for each field, have the groups.
+
+    They are of one commit, and the first has the top list.
+    """
+    asked = SearchLines(query, list(by), top, fields)
+    return index._checked(asked, index._replies_to(asked))
 
 
 class Index(Searching):

@@ -1,4 +1,5 @@
 """What the package answers, and what it says of mistakes."""
+import ast
 import copy
 import pathlib
 import pickle
@@ -312,6 +313,18 @@ class Calls(unittest.TestCase):
             answer = index.search("*", top=dilforec.Top("year", 2))
             self.assertEqual([len(hit.document["title"]) for hit in answer], [450_000] * 2)
             self.assertLessEqual(index._channel._room_size, 1 << 20)
+
+    def test_private(self):
+        """No module takes what another one keeps for itself: a name with an underscore is used where it is defined."""
+        of_tuples = {"_replace", "_asdict", "_fields", "_make"}
+        for path in sorted((ROOT / "bindings/python/dilforec").rglob("*.py")):
+            tree = ast.parse(path.read_text("utf-8"))
+            own = {node.name for node in ast.walk(tree) if isinstance(node, (ast.FunctionDef, ast.AsyncFunctionDef))}
+            own |= {node.id for node in ast.walk(tree) if isinstance(node, ast.Name)}
+            used = [node for node in ast.walk(tree) if isinstance(node, ast.Attribute)]
+            own |= {node.attr for node in used if isinstance(node.value, ast.Name) and node.value.id in ("self", "cls")}
+            taken = {node.attr for node in used if re.match("_[a-z]", node.attr)} - own - of_tuples
+            self.assertEqual((path.name, taken), (path.name, set()))
 
     def test_versions(self):
         """One version for the program, the header and the packages."""

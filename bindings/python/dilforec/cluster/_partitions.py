@@ -13,7 +13,7 @@ from typing import Any, NamedTuple, Optional
 from dask.sizeof import sizeof
 
 from dilforec.cluster._sources import LongLine, Source, whole_lines
-from dilforec.index import LONGEST_LINE, Index
+from dilforec.index import LONGEST_LINE, Index, channel_of
 from dilforec.library import MEMORY, fault
 from dilforec.values import Field
 
@@ -165,7 +165,7 @@ class _Building:
     def _done(self, commands: list[bytes]) -> list[tuple[int, str]]:
         """Has the index do lines, none of which is a search; the places, from 1, and names of what it refused."""
         taken: list[bytes] = []
-        code, done = self.index._channel.ask_block(commands, lambda replies: taken.append(bytes(replies)))
+        code, done = channel_of(self.index).ask_block(commands, lambda replies: taken.append(bytes(replies)))
         if code or not taken:
             raise fault(code or MEMORY)
         before, self.counted = self.counted, self.counted + done

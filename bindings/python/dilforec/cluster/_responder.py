@@ -20,6 +20,7 @@ from dilforec.cluster._partitions import Built, Partition
 from dilforec.cluster._requests import (
     ABSENT, CHANGED, FAILED, LOST, OPERATION, UNMADE, Asked, Missing, Reply, Request, Wanted,
 )
+from dilforec.index import channel_of
 
 T = TypeVar("T")
 
@@ -157,9 +158,9 @@ def _reply(searcher: Any, asked: Asked) -> bytes:
     """A partition's own reply."""
     reply: bytes
     if asked.names is None:
-        reply = searcher._channel.ask(asked.line)
+        reply = channel_of(searcher).ask(asked.line)
     else:
-        (reply,) = searcher._channel.ask_each([asked.line], asked.names)
+        (reply,) = channel_of(searcher).ask_each([asked.line], asked.names)
     return reply
 
 

@@ -6,7 +6,7 @@ from collections.abc import Iterator
 from typing import NamedTuple, Optional
 
 from dilforec import sentences
-from dilforec.index import Index
+from dilforec.index import Index, channel_of
 from dilforec.library import LINE_TOO_LONG, MEMORY, OK, fault
 from dilforec.refusals import Refused, refused
 
@@ -67,7 +67,7 @@ def execute_together(index: Index, lines: bytes) -> "Optional[Refusal]":
     If one is refused, the first of these is returned, and nothing was done; nor was it if MemoryError is raised.
     """
     count = lines.count(b"\n")
-    code, done, told = index._channel.transact(lines, count, has_replies=False)
+    code, done, told = channel_of(index).transact(lines, count, has_replies=False)
     if code == LINE_TOO_LONG:
         return Refusal(done, "LineTooLong", _line(lines, done))
     if code != OK:
@@ -98,7 +98,7 @@ def _execute(index: Index, lines: "list[bytes]", before: int, refusals: "list[Re
     """The library's code for lines, and how many were done or refused before it."""
     replies = bytearray()
     try:
-        code, done = index._channel.ask_block(lines, replies.extend)
+        code, done = channel_of(index).ask_block(lines, replies.extend)
     except MemoryError:
         return MEMORY, 0
     if replies.count(b"\n") < done:

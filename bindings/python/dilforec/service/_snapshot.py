@@ -7,7 +7,7 @@ from dataclasses import dataclass
 from typing import Any, NamedTuple, Optional
 
 from dilforec import values
-from dilforec.index import GroupsBy, Searcher, to_line
+from dilforec.index import GroupsBy, Searcher, replies_to, to_line
 from dilforec.service._lines import Key
 from dilforec.service._lookups import key_query
 from dilforec.service._top import After, TopList
@@ -99,7 +99,7 @@ class Snapshot:
         wanted, groups = self._top_list(query, groups, top, fields, after), list(dict.fromkeys(groups))
         asked = wanted.asked if after is None else None
         by: list[GroupsBy] = [Groups(name, most[name]) if most and name in most else name for name in groups]
-        replies = [_taken_apart(it) for it in self._searcher._replies(query, by, asked, wanted.fields)]
+        replies = [_taken_apart(it) for it in replies_to(self._searcher, query, by, asked, wanted.fields)]
         told = replies[len(replies) - len(groups):]
         counted = b",".join(to_line(name) + b":" + each.groups for name, each in zip(groups, told))
         hits = wanted.first(replies[0].found_hits()) if after is None else wanted.rest(after)
