@@ -120,15 +120,17 @@ class Forks(Stored):
         main = os.getpid()
 
         def handle(*_):
-            ends.append(os.fork())
-            if ends[0] == 0:
-                signal.alarm(20)
+            if not ends:
+                ends.append(os.fork())
+                if ends[0] == 0:
+                    signal.alarm(20)
 
         def sync(fd):
-            os.kill(main, signal.SIGUSR1)
+            # A signal that comes just before the wait begins is handled after it, so it is sent again.
             end = time.monotonic() + 20
             while not ends and time.monotonic() < end:
-                time.sleep(0.001)
+                os.kill(main, signal.SIGUSR1)
+                time.sleep(0.01)
             slow(fd)
 
         before = signal.signal(signal.SIGUSR1, handle)
