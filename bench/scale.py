@@ -453,7 +453,7 @@ def predicted(way: str, constants: dict[str, float], documents: float, workers: 
     return {"build": built, "resident": held, "mean": search}
 
 
-NAMES = {"one": "one process", "threads": f"{WORKERS} partitions, a thread each", "dask": f"{WORKERS} partitions, {WORKERS} Dask workers"}
+NAMES = {"one": "one process", "threads": f"{WORKERS} threads", "dask": f"{WORKERS} Dask workers"}
 COLUMNS = {"build": ("build, s", 1.0), "resident": ("resident, MB", 1e-6), "mean": ("search, mean ms", 1.0)}
 
 
@@ -485,13 +485,13 @@ def shown(raw: dict[str, Any]) -> str:
     judged = [ratio.value for ratio in ratios + more if not ratio.is_fitted]
     near = sum(abs(value - 1) < NEAR for value in judged)
     return "\n\n".join([
-        f"The documents have {raw['words each']} words each, so that ten million fit into a small machine. {SEARCHES} searches of four kinds in turn: a "
-        "word, two words (AND), a range of a tenth of the `i64`s with groups by the keyword, and a word with a top ten. The quickest of "
-        f"{BUILDS} builds and of {TURNS} rounds of searches counts. Dask's event loops are {raw.get('event loop', 'asyncio')}'s. Beside each number is what the model says, and their ratio, in parentheses if "
-        "a constant of the model is from it.",
+        f"Documents of {raw['words each']} words; {SEARCHES} searches in turn of a word, two words (AND), a tenth of the `i64`s with groups by the "
+        f"keyword, and a word with a top ten. The quickest of {BUILDS} builds and {TURNS} rounds counts. Dask's event loops are "
+        f"{raw.get('event loop', 'asyncio')}'s. Ratios are to the model, in parentheses where it takes a constant from the number; `bench/scale.py` "
+        "prints these.",
         points, clusters, many_shown(raw),
         f"Of the {len(judged)} ratios that no constant is from, {near} are within a third; the furthest are {min(judged):.2f} and {max(judged):.2f}.",
-        constants_shown(constants), machines_shown(constants),
+        machines_shown(constants),
     ])
 
 
@@ -565,12 +565,12 @@ def machines_shown(constants: dict[str, float], machines: int = 100, documents: 
         ("gigabytes of a machine", (said["resident"] / machines + constants["empty"] * WORKERS) / 1e9),
         ("minutes to build", said["build"] / 60), ("milliseconds of a search alone", said["mean"]),
         ("of these in the partitions, side by side", alone), ("and to ask all workers", asked(constants, workers)),
-        ("searches a second, many at a time, as the partitions take them", 1e3 / (alone + constants["partition"])),
+        ("searches a second, many at a time", 1e3 / (alone + constants["partition"])),
         (f"seconds of joining a top list of {LONG_TOP:,}", hits_joined(constants, LONG_TOP, workers, workers) / 1e3),
         ("seconds of joining a million groups from each partition", groups_joined(constants, 1e6, workers, workers) / 1e3),
-        ("minutes until a lost machine's partitions are there again, on as many idle workers", constants["beside"] * documents / workers / 1e6 / 60),
+        ("minutes until a lost machine's partitions are made again", constants["beside"] * documents / workers / 1e6 / 60),
     ]
-    title = f"By the model, {machines} machines of {WORKERS} workers with {documents:,.0f} documents, a partition for each worker"
+    title = f"the model: {machines} machines of {WORKERS} workers, {documents:,.0f} documents"
     return "\n".join([f"| {title} | |", "|---|---:|", *(f"| {words} | {figure(value)} |" for words, value in found)])
 
 
@@ -584,7 +584,8 @@ def main() -> None:
         WAYS[sys.argv[2]](sys.argv[4:], int(sys.argv[3]))
     else:
         raw = measure(tuple(map(int, sys.argv[1:])) or COUNTS)
-        print(shown(json.loads(json.dumps(raw))))
+        read = json.loads(json.dumps(raw))
+        print(f"{shown(read)}\n\n{constants_shown(model(read))}")
 
 
 if __name__ == "__main__":
