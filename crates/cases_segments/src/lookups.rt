@@ -5,7 +5,7 @@ ghost use Rattle.fts_model.specs.declared.schema.Kind.TheVariants as kinds;
 ghost use Rattle.fts_model.specs.Operations.{kind_at};
 
 use fts_model::{FieldValue, Kind, Number, Term, Text};
-use fts_pack::{Blocks, List};
+use fts_pack::{Blocks, ListRef};
 use fts_segment::{ListId, Segment};
 use serde_json::Value;
 use testing_cases::{Trial, Trouble, has, member, number, only, size, text};
@@ -46,7 +46,7 @@ fn list_of<'a>(trial: &mut Trial, case: &Value, segment: &'a Segment) -> Option<
 }
 
 /// Gives the documents of all blocks of a list.
-fn give_listed(trial: &mut Trial, list: &List) {
+fn give_listed(trial: &mut Trial, list: ListRef<'_>) {
     let mut source = list.source();
     trial.open();
     for block in 0..source.blocks() {

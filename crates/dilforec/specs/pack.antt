@@ -2,10 +2,10 @@
 pub use Rattle.fts_pack.specs.Block
 pub use Rattle.fts_pack.specs.Documents
 pub use Rattle.fts_pack.specs.FourLanes
+pub use Rattle.fts_pack.specs.ListRange
 pub use Rattle.fts_pack.specs.ListRef
 pub use Rattle.fts_pack.specs.ListSource
 pub use Rattle.fts_pack.specs.Lists
-pub use Rattle.fts_pack.specs.Repr
 pub use Rattle.fts_pack.specs.SourceLaws
 pub use Rattle.fts_pack.specs.bits.Bits
 pub use Rattle.fts_pack.specs.bits.Digits

@@ -3,6 +3,8 @@
 ghost use Rattle.std.specs.Prelude.{◌≡◌, ◌<◌, ◌≤◌, ◌++◌, ◌∷◌, ◌⊎◌, ℕ, [], true, false, All, Contains, IfOk, IfSome};
 ghost use Rattle.std.specs.Prelude.{OnOk, filter, length};
 ghost use Rattle.fts_model.specs.Queries.{is_number_field};
+ghost use Rattle.fts_pack.specs.ListRange.{lists_in_range};
+ghost use Rattle.fts_pack.specs.ListRef.{listed};
 ghost use Rattle.fts_postings.specs.Sets.{has};
 ghost use Rattle.fts_segment.specs.Segments.{column};
 ghost use Rattle.fts_parts.specs.Collected.{AreHits};
@@ -10,7 +12,7 @@ ghost use Rattle.fts_collect.specs.Internals.Walks.{IsBetween, IsEnd, RanksMore,
 
 use fts_cursor::HitTest;
 use fts_model::{Order, Top};
-use fts_pack::{Blocks, List};
+use fts_pack::{Blocks, ListRange, ListRef};
 use fts_parts::{Ranking, TopK, numbers_of};
 use fts_segment::Segment;
 use std::alloc::{AllocError, Global};
@@ -41,12 +43,12 @@ fn push_hits(hits: &HitTest, docs: &[u32], found: &mut Vec<u32>) -> Result<(), A
 /// Adds those documents of a list to others that are hits. Its blocks are opened in `open`.
 fn push_list(
     hits: &HitTest,
-    list: &List,
+    list: ListRef<'_>,
     open: &mut [u32; 128],
     found: &mut Vec<u32>,
 ) -> Result<(), AllocError>
     ensures { OnOk result (found.new.items
-        ≡ found.old.items ++ filter (has hits.now) list.now) }
+        ≡ found.old.items ++ filter (has hits.now) (listed list.entry)) }
 {
     let mut source = list.source();
     for block in 0..source.blocks() {
@@ -74,8 +76,8 @@ fn listed_between(
     let mut found = Vec::with_capacity(alloc, segment.documents_between(field, low, high))?;
     let mut open = [0u32; 128];
     let lists = segment.lists_between(field, low, high);
-    for list in lists {
-        push_list(hits, list, &mut open, &mut found)?;
+    for index in 0..lists.len() {
+        push_list(hits, lists.get(index), &mut open, &mut found)?;
     }
     Ok(found)
 }
@@ -101,12 +103,12 @@ fn hits_between(
 }
 
 /// The shortest front of the lists that has this many documents: the index of its last list.
-fn place_from_first(lists: &[List], docs: usize) -> Option<usize>
-    ensures { IfSome result (λ place. place < length lists.now) }
+fn place_from_first(lists: ListRange<'_>, docs: usize) -> Option<usize>
+    ensures { IfSome result (λ place. place < length (lists_in_range lists.entry)) }
 {
     let mut left = docs;
-    for (place, list) in lists.iter().enumerate() {
-        left = left.saturating_sub(list.len());
+    for place in 0..lists.len() {
+        left = left.saturating_sub(lists.get(place).len());
         if left == 0 {
             return Some(place);
         }
@@ -115,14 +117,14 @@ fn place_from_first(lists: &[List], docs: usize) -> Option<usize>
 }
 
 /// The shortest end of the lists that has this many documents: the index of its first list.
-fn place_from_last(lists: &[List], docs: usize) -> Option<usize>
-    ensures { IfSome result (λ place. place < length lists.now) }
+fn place_from_last(lists: ListRange<'_>, docs: usize) -> Option<usize>
+    ensures { IfSome result (λ place. place < length (lists_in_range lists.entry)) }
 {
     let mut left = docs;
     let mut place = lists.len();
     while place > 0 {
         place -= 1;
-        left = left.saturating_sub(lists[place].len());
+        left = left.saturating_sub(lists.get(place).len());
         if left == 0 {
             return Some(place);
         }
@@ -140,7 +142,7 @@ fn number_at_place(segment: &Segment, field: usize, order: Order, docs: usize) -
         Order::Rising => place_from_first(lists, docs)?,
         Order::Falling => place_from_last(lists, docs)?,
     };
-    let list = &lists[place];
+    let list = lists.get(place);
     if list.is_empty() {
         return None;
     }

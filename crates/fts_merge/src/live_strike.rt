@@ -1,13 +1,14 @@
 // Clears the live bits of documents that operations of a later stamp delete.
 ghost use Rattle.std.specs.Prelude.{◌≡◌, ◌+◌, ◌<◌, not, take, nat_lt, All, IfOk, IsOkUnless, List, Bool, fold, length};
+ghost use Rattle.fts_pack.specs.ListRef.{listed};
 ghost use Rattle.fts_merge.specs.Strikes.{bits_where, bits_after};
 ghost use Rattle.fts_merge.specs.Internals.Deletes.{bound_by, bound_of, IsFound, strikes_found, survives_found};
 ghost use Rattle.fts_merge.specs.Internals.Deletes.{cleared};
 
 use crate::term_delete::{TermDelete, compare_deletes, is_covered, term_deletes};
 use fts_model::{Op, Refusal, Stamp, Stamped};
-use fts_pack::Blocks;
 use fts_pack::bits::Bits;
+use fts_pack::{Blocks, ListRef};
 use fts_segment::Segment;
 use std::alloc::Global;
 
@@ -68,10 +69,10 @@ fn strike_documents(live: &mut Bits, segment: &Segment, documents: &[u32], stamp
 }
 
 /// Clears the bits of those documents of a list whose stamps are smaller.
-fn strike_list(live: &mut Bits, segment: &Segment, list: &fts_pack::List, stamp: Stamp)
+fn strike_list(live: &mut Bits, segment: &Segment, list: ListRef<'_>, stamp: Stamp)
     requires bits { length live.old ≡ length segment.now.documents }
-    requires within { All (λ document. document < length segment.now.documents) list.now }
-    ensures { live.new ≡ fold (cleared segment.now.documents stamp) live.old list.now }
+    requires within { All (λ document. document < length segment.now.documents) (listed list) }
+    ensures { live.new ≡ fold (cleared segment.now.documents stamp) live.old (listed list.entry) }
 {
     let mut source = list.source();
     let mut documents = [0; 128];

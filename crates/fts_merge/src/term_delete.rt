@@ -9,7 +9,7 @@ ghost use Rattle.fts_merge.specs.Internals.Deletes.{IsFound, StrikeAlike, strike
 ghost use Rattle.fts_merge.specs.Internals.Deletes.{survives_found};
 
 use fts_model::{FieldValue, Number, Op, Stamp, Stamped, Term, Text};
-use fts_pack::Blocks;
+use fts_pack::{Blocks, ListRef};
 use fts_segment::Segment;
 use std::alloc::{AllocError, Global};
 use std::cmp::Ordering;
@@ -19,13 +19,13 @@ use std::cmp::Ordering;
 pub(crate) struct TermDelete<'a> {
     pub(crate) stamp: Stamp,
     pub(crate) term: &'a Term,
-    pub(crate) documents: &'a fts_pack::List,
+    pub(crate) documents: ListRef<'a>,
     /// A cheap key (length, last document of the first block) that rarely collides between terms; used for sorting.
     pub(crate) shape: (usize, u32),
 }
 
 /// The number of documents, and the last one of the first block.
-fn shape_of(documents: &fts_pack::List) -> (usize, u32) {
+fn shape_of(documents: ListRef<'_>) -> (usize, u32) {
     if documents.is_empty() {
         return (0, 0);
     }

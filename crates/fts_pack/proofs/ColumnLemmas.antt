@@ -1,7 +1,7 @@
 -- The range of a column, the offsets from its least value, and the values that they give back.
 use Rattle.std.proofs.Common.{◌≡◌, ℕ, zero, suc, ◌+◌, ◌-◌, ◌%◌, ◌^◌, ◌<◌, ◌≤◌, inl, inr, List, [], ◌∷◌, ◌++◌, Bool, true, false, Option, Some, None}
-use Rattle.std.proofs.Common.{is_some, IfSome, All, Contains, map, replicate, length, get_or, take, drop, set, min, max, cond, refl, sym, ap, ap₂, ◌∙◌, subst}
-use Rattle.std.proofs.Common.{arith, unwrap_or, lit<, mod-eq_of_lt}
+use Rattle.std.proofs.Common.{is_some, IfSome, All, Contains, map, replicate, length, get_or, take, set, min, max, cond, refl, sym, ap, ap₂, ◌∙◌, subst}
+use Rattle.std.proofs.Common.{arith, unwrap_or, lit<}
 use Rattle.std.specs.Option.{option_map_or}
 use Rattle.std.proofs.lemmas.List.{length-map, get_or-map, set_at, append_assoc, take_more, map_push, length-take-le, get_or_past}
 use Rattle.std.proofs.lemmas.List.{get_or-take}
@@ -10,7 +10,6 @@ use Rattle.std.proofs.lemmas.Nat.{pow_pos}
 use Rattle.std.proofs.lemmas.Bool.{cases_lt}
 use Rattle.fts_pack.specs.bits.Digits.{IsWidthOf, numbers_in, words_of}
 use Rattle.fts_pack.specs.column.Column.{HaveOffsets, IsColumn, IsRangeOf, range_with, least_of, spread_of, offsets, values_at}
-use borrow.Rule.Slice.PartMut.{put_mid}
 use Rattle.fts_pack.specs.column.OffsetArray.{AreLanesOf}
 use Rattle.fts_pack.proofs.PackingLemmas.{Below-from_all, numbers_in-words_of, length-numbers_in}
 

@@ -2,7 +2,7 @@ pub mod BlockLemmas
 pub mod DocumentsLemmas
 pub mod LaneLemmas
 pub mod ListsLemmas
-pub mod LongListLemmas
+pub mod PackedListLemmas
 pub mod NumbersLemmas
 pub mod PackedLemmas
 pub mod SumLemmas

@@ -12,11 +12,11 @@ use Rattle.fts_pack.specs.declared.lists.Lists.TheInside.{Inside}
 use Rattle.fts_pack.specs.declared.list_entry.ListEntry.{ListEntry}
 use Rattle.fts_pack.specs.declared.long_entry.LongEntry.{LongEntry}
 use Rattle.fts_pack.specs.declared.skip.Skip.{Skip}
-use Rattle.fts_pack.specs.DenseList.{AreBitsOf}
+use Rattle.fts_pack.specs.ListBits.{AreBitsOf}
 use Rattle.fts_pack.specs.Documents.{block_count}
-use Rattle.fts_pack.specs.LongList.{AreBlocksAdded, Extends, IsLongList, kept_documents}
+use Rattle.fts_pack.specs.PackedList.{AreBlocksAdded, Extends, IsPackedList, kept_documents}
 use Rattle.fts_pack.specs.Lists.{Buffers, no_long, long_at, blocks_from, packed_at, plain_at, documents_at_place, lists_in, IsPlainAt, IsPackedAt, IsStored, AreStored}
-use Rattle.fts_pack.proofs.LongListLemmas.{kept_documents-append, length-kept_documents, length-kept_skips, IsLongList-append, extends_same}
+use Rattle.fts_pack.proofs.PackedListLemmas.{kept_documents-append, length-kept_documents, length-kept_skips, IsPackedList-append, extends_same}
 
 pub on_err : {T E : Type 0} (r : Result T E) (Q : Type 0) → Q → OnErr r Q
 on_err (Ok v) Q h = tt
@@ -72,13 +72,13 @@ IsPackedAt-extended : (b c : Buffers) (count place : ℕ) → IsExtended b c →
 IsPackedAt-extended b c count place x h =
     let long = long_at-extended b c place x h.near in
     let blocks = blocks_from b count (long_at b place).first in
-    let grown : IsLongList count blocks c.words =
-    subst (IsLongList count blocks) (sym x.words) (IsLongList-append b.words (drop (length b.words) c.words) count blocks h.is) in
+    let grown : IsPackedList count blocks c.words =
+    subst (IsPackedList count blocks) (sym x.words) (IsPackedList-append b.words (drop (length b.words) c.words) count blocks h.is) in
     record {
       near = omega (arith, h.near, ap length x.long, length-append b.long (drop (length b.long) c.long));
       room = subst (λ (l : LongEntry). l.first + block_count count ≤ length c.blocks) (sym long)
           (omega (arith, h.room, ap length x.blocks, length-append b.blocks (drop (length b.blocks) c.blocks)));
-      is = subst (λ bs. IsLongList count bs c.words) (sym (blocks_same b c count place x h)) grown;
+      is = subst (λ bs. IsPackedList count bs c.words) (sym (blocks_same b c count place x h)) grown;
       bits = subst (λ (l : LongEntry). IfSome l.bits (AreBitsOf (packed_at c count place))) (sym long)
           (subst (λ ds. IfSome (long_at b place).bits (AreBitsOf ds)) (sym (packed_at-extended b c count place x h)) h.bits);
     }
@@ -251,7 +251,7 @@ list_read b es lists number start e h is inside start_is e_is =
 -- a long list is read from its entry
 pub record IsLongRead (b : Buffers) (count : ℕ) (documents : List ℕ) (long : LongEntry) : Type 0 where
   pub room : long.first + block_count count ≤ length b.blocks
-  pub is : IsLongList count (blocks_from b count long.first) b.words
+  pub is : IsPackedList count (blocks_from b count long.first) b.words
   pub documents_are : kept_documents b.words 0 count (blocks_from b count long.first) ≡ documents
   pub bits : IfSome long.bits (AreBitsOf documents)
 
@@ -264,7 +264,7 @@ long_read b lists number count place long r many long_is =
       h.near,
       record {
         room = subst (λ (l : LongEntry). l.first + block_count count ≤ length b.blocks) here h.room;
-        is = subst (λ (l : LongEntry). IsLongList count (blocks_from b count l.first) b.words) here h.is;
+        is = subst (λ (l : LongEntry). IsPackedList count (blocks_from b count l.first) b.words) here h.is;
         documents_are = subst (λ (l : LongEntry). kept_documents b.words 0 count (blocks_from b count l.first) ≡ get_or lists number []) here same;
         bits = subst (λ (l : LongEntry). IfSome l.bits (AreBitsOf (get_or lists number []))) here
             (subst (λ ds. IfSome (long_at b place).bits (AreBitsOf ds)) same h.bits);
@@ -339,7 +339,7 @@ pushed-packed b c es fs e l documents x h fs_are end place long first added bits
       near = omega (arith, place, ap length long, length_push b.long l);
       room = subst (λ (k : LongEntry). k.first + block_count count ≤ length c.blocks) (sym here)
           (omega (arith, first, size, length-drop (length b.blocks) c.blocks, many));
-      is = subst (λ bs. IsLongList count bs c.words) (sym blocks) added.is;
+      is = subst (λ bs. IsPackedList count bs c.words) (sym blocks) added.is;
       bits = subst (λ (k : LongEntry). IfSome k.bits (AreBitsOf (packed_at c count e.place))) (sym here)
           (subst (λ ds. IfSome l.bits (AreBitsOf ds)) (sym there) bits);
     } in

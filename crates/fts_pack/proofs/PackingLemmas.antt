@@ -1,6 +1,6 @@
 -- Numbers appended to words, step by step, and read from them.
 use Rattle.std.proofs.Common.{◌≡◌, ℕ, zero, suc, ◌+◌, ◌-◌, ◌*◌, ◌/◌, ◌%◌, ◌^◌, ◌<◌, ◌≤◌, inl, inr, List, [], ◌∷◌, ◌++◌, All, length, get_or, take, drop}
-use Rattle.std.proofs.Common.{bit_and, bit_or, refl, sym, ap, ap₂, ◌∙◌, arith, Fits, w64, lt_of_lt_of_le, mod-eq_of_lt, add-one, pow-suc, lt_of_le_of_lt}
+use Rattle.std.proofs.Common.{bit_and, bit_or, refl, sym, ap, ap₂, ◌∙◌, arith, lt_of_lt_of_le, mod-eq_of_lt, add-one, pow-suc, lt_of_le_of_lt}
 use Rattle.std.proofs.lemmas.Nat.{pow_pos, or_shifted, or_comm, and_mask, shl_whole, div-add-mod', mod_below, one_shl, leading_length, or_lt, le_or_l, le_or_r}
 use lib.Count.{count_leading_zeros}
 use Rattle.std.proofs.lemmas.List.{take_more, get_or_past, length_push, get_or_push, get_or_append_left}

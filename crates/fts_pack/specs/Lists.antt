@@ -1,13 +1,13 @@
 -- Lists of documents that are stored side by side.
-use Rattle.std.specs.Prelude.{◌≡◌, ℕ, ◌+◌, ◌-◌, ◌<◌, ◌≤◌, nat_le, List, [], ◌∷◌, None, IfSome, drop, length, take}
+use Rattle.std.specs.Prelude.{ℕ, ◌+◌, ◌-◌, ◌<◌, ◌≤◌, nat_le, List, [], ◌∷◌, None, IfSome, drop, length, take}
 use Rattle.std.specs.Prelude.{slice_index_or, if◌then◌else◌}
 use Rattle.std.specs.List.Sorted.{IsStrictlyIncreasing}
 use Rattle.fts_pack.specs.declared.list_entry.ListEntry.{ListEntry}
 use Rattle.fts_pack.specs.declared.long_entry.LongEntry.{LongEntry}
 use Rattle.fts_pack.specs.declared.skip.Skip.{Skip}
-use Rattle.fts_pack.specs.DenseList.{AreBitsOf}
+use Rattle.fts_pack.specs.ListBits.{AreBitsOf}
 use Rattle.fts_pack.specs.Documents.{block_count}
-use Rattle.fts_pack.specs.LongList.{IsLongList, kept_documents}
+use Rattle.fts_pack.specs.PackedList.{IsPackedList, kept_documents}
 
 -- the plain documents of short lists, the entries of long ones, and the blocks of these with their words
 pub record Buffers : Type 0 where
@@ -55,7 +55,7 @@ pub record IsPlainAt (b : Buffers) (count place : ℕ) : Type 0 where
 pub record IsPackedAt (b : Buffers) (count place : ℕ) : Type 0 where
   pub near : place < length b.long
   pub room : (long_at b place).first + block_count count ≤ length b.blocks
-  pub is : IsLongList count (blocks_from b count (long_at b place).first) b.words
+  pub is : IsPackedList count (blocks_from b count (long_at b place).first) b.words
   pub bits : IfSome (long_at b place).bits (AreBitsOf (packed_at b count place))
 
 -- a list is stored

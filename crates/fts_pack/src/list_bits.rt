@@ -1,7 +1,7 @@
 // The bits of a dense list of documents.
 ghost use Rattle.std.specs.Prelude.{◌≡◌, ◌<◌, IfOk, IfSome, length, true};
 ghost use Rattle.std.specs.List.Sorted.{IsStrictlyIncreasing};
-ghost use Rattle.fts_pack.specs.DenseList.{AreBitsOf};
+ghost use Rattle.fts_pack.specs.ListBits.{AreBitsOf};
 
 use crate::bits::Bits;
 use std::alloc::{AllocError, Global};

@@ -1,20 +1,20 @@
 // A list of documents among others.
-ghost use Rattle.std.specs.Prelude.{◌≡◌, ◌<◌, ◌≤◌, [], length, slice_index_or, take};
+ghost use Rattle.std.specs.Prelude.{◌≡◌, ◌≤◌, length, take};
 ghost use Rattle.std.specs.List.Sorted.{IsStrictlyIncreasing};
+ghost use Rattle.fts_pack.specs.StoredList.{IsStoredAsSaid, IsStoredAsSaid-prop, documents_stored};
 
 use crate::bits::Bits;
 use crate::block::BLOCK;
-use crate::lists::Lists;
+use crate::list_source::ListSource;
 use crate::packed_block::PackedBlock;
 use crate::stored_list::StoredList;
 
-/// A list of documents, by its number among others. A copy of it costs nothing.
+/// A strictly rising list of documents, borrowed from where it is stored. A copy of it costs nothing.
 #[derive(Clone, Copy)]
 pub struct ListRef<'a> {
-    lists: &'a Lists,
-    number: usize,
-    ghost inside: { number < length lists.now },
-    ghost rises: { IsStrictlyIncreasing (slice_index_or lists.now number []) },
+    stored: StoredList<'a>,
+    ghost form: { IsStoredAsSaid stored } by { IsStoredAsSaid-prop stored },
+    ghost rises: { IsStrictlyIncreasing (documents_stored stored) },
 }
 
 /// Writes the documents to the front of `out` and returns their count.
@@ -36,20 +36,22 @@ impl<'a> ListRef<'a> {
     ghost use Rattle.fts_pack.specs.Documents.{after, block_at, block_count, gaps, last_of};
     ghost use Rattle.fts_pack.specs.FourLanes.{words_in_lanes};
     ghost use Rattle.fts_pack.specs.ListRef.{listed};
+    ghost use Rattle.fts_pack.specs.ListSource.{documents_in, openings_of};
+    ghost use Rattle.fts_pack.specs.StoredList.{IsStoredAsSaid, documents_stored};
 
-    pub(crate) fn new(lists: &'a Lists, number: usize) -> ListRef<'a>
-        requires inside { number < length lists.now }
-        requires rises { IsStrictlyIncreasing (slice_index_or lists.now number []) }
-        ensures { listed result ≡ slice_index_or lists.now number [] }
+    pub(crate) fn new(stored: StoredList<'a>) -> ListRef<'a>
+        requires form { IsStoredAsSaid stored }
+        requires rises { IsStrictlyIncreasing (documents_stored stored) }
+        ensures { listed result ≡ documents_stored stored.entry }
     {
-        ListRef { lists, number }
+        ListRef { stored }
     }
 
     /// The number of documents.
     pub fn len(self) -> usize
         ensures { result ≡ length (listed self.entry) }
     {
-        match self.lists.stored(self.number) {
+        match self.stored {
             StoredList::Plain(documents) => documents.len(),
             StoredList::Packed(list, _) => list.len(),
         }
@@ -72,7 +74,7 @@ impl<'a> ListRef<'a> {
         requires { block < block_count (length (listed self)) }
         ensures { result ≡ last_of (block_at (listed self.entry) block) }
     {
-        match self.lists.stored(self.number) {
+        match self.stored {
             StoredList::Plain(documents) => documents[documents.len() - 1],
             StoredList::Packed(list, _) => list.last(block),
         }
@@ -83,10 +85,18 @@ impl<'a> ListRef<'a> {
         ensures count { result ≡ length (block_at (listed self.entry) block) }
         ensures documents { take result out.new ≡ block_at (listed self.entry) block }
     {
-        match self.lists.stored(self.number) {
+        match self.stored {
             StoredList::Plain(documents) => copy_plain(documents, out),
             StoredList::Packed(list, _) => list.open(block, out),
         }
+    }
+
+    /// A reader of the list's blocks, none of which was opened yet.
+    pub fn source(self) -> ListSource<'a>
+        ensures documents { documents_in result ≡ listed self.entry }
+        ensures unopened { openings_of result ≡ 0 }
+    {
+        ListSource::over(self)
     }
 
     /// A bit for each document up to the last, if the list is dense.
@@ -95,7 +105,7 @@ impl<'a> ListRef<'a> {
             slice_index_or bits.now d false ≡ list_any (λ x. x == d) (listed self.entry)) }
         ensures few { IfSome result (λ bits. length bits.now ≤ 2 ^ 32) }
     {
-        match self.lists.stored(self.number) {
+        match self.stored {
             StoredList::Plain(_) => None,
             StoredList::Packed(_, bits) => bits,
         }
@@ -112,7 +122,7 @@ impl<'a> ListRef<'a> {
             (gaps (after 0 (take (block * 128) (listed self.entry))) (block_at (listed self.entry) block))) }
         ensures last { IfSome result (λ b. b.last ≡ last_of (block_at (listed self.entry) block)) }
     {
-        match self.lists.stored(self.number) {
+        match self.stored {
             StoredList::Plain(_) => None,
             StoredList::Packed(list, _) => Some(list.packed(block)),
         }

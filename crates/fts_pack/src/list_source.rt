@@ -1,27 +1,23 @@
 // A reader of a list's blocks, which are opened one at a time and counted.
-ghost use Rattle.std.specs.List.Sorted.{IsStrictlyIncreasing};
-
 use crate::blocks::Blocks;
-use crate::list::List;
+use crate::list_ref::ListRef;
 use fts_base::GhostCount;
 
 /// A reader of a list's blocks. It counts the blocks that it opens, in a counter visible only to contracts.
 #[derive(Drop)]
 pub struct ListSource<'a> {
-    list: &'a List,
+    list: ListRef<'a>,
     opened: GhostCount,
-    ghost rises: { IsStrictlyIncreasing list.now },
 }
 
 impl<'a> ListSource<'a> {
     ghost use Rattle.std.specs.Prelude.{◌≡◌};
-    ghost use Rattle.std.specs.List.Sorted.{IsStrictlyIncreasing};
+    ghost use Rattle.fts_pack.specs.ListRef.{listed};
     ghost use Rattle.fts_pack.specs.ListSource.{documents_in, openings_of};
 
     /// A reader of the list's blocks, none of which was opened yet.
-    pub(crate) fn over(list: &'a List) -> ListSource<'a>
-        requires { IsStrictlyIncreasing list.now }
-        ensures documents { documents_in result ≡ list.now }
+    pub(crate) fn over(list: ListRef<'a>) -> ListSource<'a>
+        ensures documents { documents_in result ≡ listed list.entry }
         ensures unopened { openings_of result ≡ 0 }
     {
         ListSource {
@@ -42,7 +38,7 @@ impl Blocks for ListSource<'_> {
 
     ghost sized = { λ source. blocks_sized (documents_in source) };
 
-    ghost rises = { λ source. blocks_rise (documents_in source) source.rises };
+    ghost rises = { λ source. blocks_rise (documents_in source) source.list.rises };
 
     fn blocks(&self) -> usize {
         self.list.blocks()

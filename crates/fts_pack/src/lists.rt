@@ -6,6 +6,7 @@ ghost use Rattle.std.specs.List.Sorted.{IsStrictlyIncreasing};
 use crate::block::BLOCK;
 use crate::list_bits::list_bits;
 use crate::list_entry::ListEntry;
+use crate::list_range::ListRange;
 use crate::list_ref::ListRef;
 use crate::long_entry::LongEntry;
 use crate::packed_list::{PackedList, add_blocks};
@@ -75,6 +76,19 @@ impl Lists {
             blocks: Vec::new(alloc),
             words: Vec::new(alloc),
         }
+    }
+
+    /// No list, with capacity for this many.
+    pub fn with_capacity(alloc: Global, lists: usize) -> Result<Lists, AllocError>
+        ensures { IfOk result (λ lists. lists ≡ []) }
+    {
+        Ok(Lists {
+            entries: Vec::with_capacity(alloc, lists)?,
+            plain: Vec::new(alloc),
+            long: Vec::new(alloc),
+            blocks: Vec::new(alloc),
+            words: Vec::new(alloc),
+        })
     }
 
     /// The number of lists.
@@ -156,7 +170,7 @@ impl Lists {
     }
 
     /// A list, borrowed from where it is stored.
-    pub(crate) fn stored(&self, number: usize) -> StoredList<'_>
+    fn stored(&self, number: usize) -> StoredList<'_>
         requires { number < length self.now }
         ensures documents { documents_stored result ≡ slice_index_or self.now number [] }
         ensures form { IsStoredAsSaid result }
@@ -191,7 +205,8 @@ impl Lists {
 }
 
 impl Lists {
-    ghost use Rattle.std.specs.Prelude.{◌≡◌, ◌<◌, [], length, slice_index_or};
+    ghost use Rattle.std.specs.Prelude.{◌≡◌, ◌<◌, ◌≤◌, [], length, slice_index_or, slice_range};
+    ghost use Rattle.fts_pack.specs.ListRange.{lists_in_range};
     ghost use Rattle.fts_pack.specs.ListRef.{listed};
 
     /// One of the lists.
@@ -201,6 +216,15 @@ impl Lists {
     {
         // Reveals to the proof that the documents rise.
         let _ = &self.entries;
-        ListRef::new(self, number)
+        ListRef::new(self.stored(number))
+    }
+
+    /// The lists from one to before another.
+    pub fn range(&self, start: usize, end: usize) -> ListRange<'_>
+        requires order { start ≤ end }
+        requires within { end ≤ length self.now }
+        ensures { lists_in_range result ≡ slice_range self.now start end }
+    {
+        ListRange::new(self, start, end)
     }
 }

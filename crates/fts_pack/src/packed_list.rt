@@ -5,7 +5,8 @@ ghost use Rattle.std.specs.List.Sorted.{IsStrictlyIncreasing};
 ghost use Rattle.fts_pack.specs.bits.Digits.{IsWidthOf};
 ghost use Rattle.fts_pack.specs.Documents.{after, block_at, block_count, gaps, last_of, Rises};
 ghost use Rattle.fts_pack.specs.FourLanes.{words_in_lanes};
-ghost use Rattle.fts_pack.specs.LongList.{AreBlocksAdded, Extends, IsSkipAdded};
+ghost use Rattle.fts_pack.specs.ListProps.{IsPackedList-prop};
+ghost use Rattle.fts_pack.specs.PackedList.{AreBlocksAdded, Extends, IsPackedList, IsSkipAdded};
 
 use crate::block::BLOCK;
 use crate::block_meta::{BlockMeta, add_block};
@@ -14,25 +15,14 @@ use crate::packed_block::PackedBlock;
 use crate::skip::Skip;
 use crate::{four_lanes, prefix_sums};
 use std::alloc::{AllocError, Global};
-use std::marker::Model;
 
 /// A strictly rising list of documents in blocks.
-#[derive(Drop)]
+#[derive(Clone, Copy)]
 pub(crate) struct PackedList<'a> {
     count: usize,
     skips: &'a [Skip],
     words: &'a [u32],
-}
-
-impl<'a> Model for PackedList<'a> {
-    ghost use Rattle.std.specs.Prelude.{List, ℕ};
-    ghost use Rattle.fts_pack.specs.LongList.{IsLongList, kept_documents};
-
-    ghost Value = { List ℕ };
-
-    ghost view = { λ l. kept_documents l.words.now 0 l.count l.skips.now };
-
-    ghost invariant = { λ l. IsLongList l.count l.skips.now l.words.now };
+    ghost is: { IsPackedList count skips.now words.now } by { IsPackedList-prop count skips.now words.now },
 }
 
 /// The skip entry of a block.
@@ -48,12 +38,13 @@ impl<'a> PackedList<'a> {
     ghost use Rattle.fts_pack.specs.bits.Digits.{IsWidthOf};
     ghost use Rattle.fts_pack.specs.Documents.{after, block_at, block_count, gaps, last_of};
     ghost use Rattle.fts_pack.specs.FourLanes.{words_in_lanes};
-    ghost use Rattle.fts_pack.specs.LongList.{IsLongList, kept_documents};
+    ghost use Rattle.fts_pack.specs.PackedList.{IsPackedList, kept_documents};
+    ghost use Rattle.fts_pack.specs.StoredList.{documents_packed};
 
     /// A list of `count` documents with these blocks.
     pub(crate) fn new(count: usize, skips: &'a [Skip], words: &'a [u32]) -> PackedList<'a>
-        requires { IsLongList count skips.now words.now }
-        ensures { result ≡ kept_documents words.now 0 count skips.now }
+        requires { IsPackedList count skips.now words.now }
+        ensures { documents_packed result ≡ kept_documents words.now 0 count skips.now }
     {
         PackedList {
             count,
@@ -63,25 +54,25 @@ impl<'a> PackedList<'a> {
     }
 
     /// The number of documents.
-    pub(crate) fn len(&self) -> usize
-        ensures { result ≡ length self.now }
+    pub(crate) fn len(self) -> usize
+        ensures { result ≡ length (documents_packed self.entry) }
     {
         self.count
     }
 
     /// The last document of the block.
-    pub(crate) fn last(&self, block: usize) -> u32
-        requires { block < block_count (length self.now) }
-        ensures { result ≡ last_of (block_at self.now block) }
+    pub(crate) fn last(self, block: usize) -> u32
+        requires { block < block_count (length (documents_packed self)) }
+        ensures { result ≡ last_of (block_at (documents_packed self.entry) block) }
     {
         skip_at(self.skips, block).last
     }
 
     /// Writes the documents of the block to the front of `out` and returns their count.
-    pub(crate) fn open(&self, block: usize, out: &mut [u32; 128]) -> usize
-        requires { block < block_count (length self.now) }
-        ensures count { result ≡ length (block_at self.now block) }
-        ensures documents { take result out.new ≡ block_at self.now block }
+    pub(crate) fn open(self, block: usize, out: &mut [u32; 128]) -> usize
+        requires { block < block_count (length (documents_packed self)) }
+        ensures count { result ≡ length (block_at (documents_packed self.entry) block) }
+        ensures documents { take result out.new ≡ block_at (documents_packed self.entry) block }
     {
         let BlockMeta { start, width } = skip_at(self.skips, block).block;
         let (_, words) = self.words.split_at(start);
@@ -91,13 +82,13 @@ impl<'a> PackedList<'a> {
     }
 
     /// How the block is packed.
-    pub(crate) fn packed(&self, block: usize) -> PackedBlock<'a>
-        requires { block < block_count (length self.now) }
-        ensures width { IsWidthOf
-            (gaps (after 0 (take (block * 128) self.now)) (block_at self.now block)) result.width }
-        ensures words { result.words.now
-            ≡ words_in_lanes result.width (gaps (after 0 (take (block * 128) self.now)) (block_at self.now block)) }
-        ensures last { result.last ≡ last_of (block_at self.now block) }
+    pub(crate) fn packed(self, block: usize) -> PackedBlock<'a>
+        requires { block < block_count (length (documents_packed self)) }
+        ensures width { let documents = documents_packed self.entry in IsWidthOf
+            (gaps (after 0 (take (block * 128) documents)) (block_at documents block)) result.width }
+        ensures words { let documents = documents_packed self.entry in result.words.now
+            ≡ words_in_lanes result.width (gaps (after 0 (take (block * 128) documents)) (block_at documents block)) }
+        ensures last { result.last ≡ last_of (block_at (documents_packed self.entry) block) }
     {
         let skip = skip_at(self.skips, block);
         let BlockMeta { start, width } = skip.block;
@@ -111,9 +102,9 @@ impl<'a> PackedList<'a> {
     }
 
     /// The least document that the block may have.
-    fn first(&self, block: usize) -> u32
-        requires { block < block_count (length self.now) }
-        ensures { result ≡ after 0 (take (block * 128) self.now) }
+    fn first(self, block: usize) -> u32
+        requires { block < block_count (length (documents_packed self)) }
+        ensures { result ≡ after 0 (take (block * 128) (documents_packed self.entry)) }
     {
         if block == 0 {
             0

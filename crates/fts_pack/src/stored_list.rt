@@ -7,7 +7,7 @@ use crate::packed_list::PackedList;
 pub(crate) const MOST_PLAIN: usize = 64;
 
 /// A list of documents, borrowed from where it is stored.
-#[derive(Drop)]
+#[derive(Clone, Copy)]
 pub(crate) enum StoredList<'a> {
     /// Up to 64 documents as plain numbers.
     Plain(&'a [u32]),

@@ -170,8 +170,8 @@ module _ (vs : List (Option FieldValue)) (dictionary : Dictionary) (terms : AreT
         ]
       ]
 
-  list_at : (k : ℕ) → k < length dictionary.lists.items →
-      (get_or dictionary.lists.items k [] ≡ numbers_where (is_number k) 0 (ordinals_of kinds.Keyword vs)) × (get_or dictionary.lists.items k [] ≡ [] → ⊥)
+  list_at : (k : ℕ) → k < length dictionary.lists →
+      (get_or dictionary.lists k [] ≡ numbers_where (is_number k) 0 (ordinals_of kinds.Keyword vs)) × (get_or dictionary.lists k [] ≡ [] → ⊥)
   list_at k less =
       let text = get_or dictionary.names k [] in
       let named : slice_get dictionary.names k ≡ Some text = slice_get-get_or dictionary.names k [] (omega (arith, less, lists_count vs dictionary terms)) in
@@ -182,10 +182,10 @@ module _ (vs : List (Option FieldValue)) (dictionary : Dictionary) (terms : AreT
         found.1,
       )
 
-  pub IsNumberIndex-keywords : IsNumberIndex (ordinals_of kinds.Keyword vs) (range_with_len 0 (length dictionary.lists.items)) dictionary.lists.items
+  pub IsNumberIndex-keywords : IsNumberIndex (ordinals_of kinds.Keyword vs) (range_with_len 0 (length dictionary.lists)) dictionary.lists
   IsNumberIndex-keywords =
       let column = ordinals_of kinds.Keyword vs in
-      let lists = dictionary.lists.items in
+      let lists = dictionary.lists in
       let count = length lists in
       let places = range_with_len 0 count in
       let size : length places ≡ count = length-range_with_len 0 count in
@@ -219,12 +219,12 @@ module _ (vs : List (Option FieldValue)) (dictionary : Dictionary) (terms : AreT
       first_member [] some = absurd (some refl)
       first_member (x ∷ xs) some = (0, omega arith, refl)
 
-  pub AreKeyed-keywords : AreKeyed (ordinals_of kinds.Keyword vs) dictionary.lists.items (λ k. k)
+  pub AreKeyed-keywords : AreKeyed (ordinals_of kinds.Keyword vs) dictionary.lists (λ k. k)
   AreKeyed-keywords =
       let column = ordinals_of kinds.Keyword vs in
-      let count = length dictionary.lists.items in
+      let count = length dictionary.lists in
       let places = range_with_len 0 count in
-      let keyed = AreKeyed-numbers column places dictionary.lists.items IsNumberIndex-keywords in
+      let keyed = AreKeyed-numbers column places dictionary.lists IsNumberIndex-keywords in
       let at : (k : ℕ) → k < count → get_or places k 0 ≡ k = λ k less. omega (arith, get_or-range_with_len 0 count k 0 less) in
       record {
         sound = λ k doc less there. subst (λ n. slice_get column doc ≡ Some (Some n)) (at k less) (keyed.sound k doc less there);

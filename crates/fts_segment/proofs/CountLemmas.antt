@@ -10,11 +10,10 @@ use Rattle.fts_pack.specs.column.Column.{is_within}
 use Rattle.fts_segment.specs.Between.{IsCut, count_between}
 use Rattle.fts_segment.specs.Numbers.{IsNumberIndex, is_number}
 use Rattle.fts_segment.specs.Segments.{numbers_where}
-use Rattle.fts_segment.specs.Sums.{total}
 use Rattle.fts_segment.proofs.BetweenLemmas.{AreKeyed-numbers, its_number, numbers_count}
 use Rattle.fts_segment.proofs.FieldLemmas.{is_number-is}
 use Rattle.fts_segment.proofs.HoldingLemmas.{numbers_where-cons}
-use Rattle.fts_segment.proofs.SumsLemmas.{total-next}
+use Rattle.fts_segment.proofs.SumsLemmas.{total, total-next}
 
 -- 1 for true and 0 for false
 abbrev one : Bool → ℕ

@@ -97,7 +97,7 @@ text_absent {kind} {vs} {dictionary} text a absent = sym (docs_with-holds kind t
 -- a term has the list of its documents
 pub text_found : {kind : Kind} {vs : List (Option FieldValue)} {dictionary : Dictionary} (text : List ℕ) (i : ℕ) → AreTerms kind vs dictionary →
     slice_get dictionary.names i ≡ Some text →
-    (get_or dictionary.lists.items i [] ≡ numbers_where (holds kind (values.Text text)) 0 vs) × (get_or dictionary.lists.items i [] ≡ [] → ⊥)
+    (get_or dictionary.lists i [] ≡ numbers_where (holds kind (values.Text text)) 0 vs) × (get_or dictionary.lists i [] ≡ [] → ⊥)
 text_found {kind} {vs} {dictionary} text i a found =
     let list = found_list i text a.dictionary_is found in
     (list.1 ∙ docs_with-holds kind text vs, λ none. list.2 (sym list.1 ∙ none))
@@ -227,13 +227,13 @@ numbers_where-some p n (x ∷ xs) (suc k) d h is none = elim (cases_Bool (p x)) 
 -- a number has the list of its documents
 pub number_found : {kind : Kind} {vs : List (Option FieldValue)} {index : NumberIndex} (term : FieldValue) (x i : ℕ) → AreNumbers kind vs index →
     number_of kind (Some term) ≡ Some x → Fits64 kind term →
-    slice_get index.numbers.items i ≡ Some x → (get_or index.lists.items i [] ≡ numbers_where (holds kind term) 0 vs) × (get_or index.lists.items i [] ≡ [] → ⊥)
+    slice_get index.numbers.items i ≡ Some x → (get_or index.lists i [] ≡ numbers_where (holds kind term) 0 vs) × (get_or index.lists i [] ≡ [] → ⊥)
 number_found {kind} {vs} {index} term x i a is f found =
     let column = numbers_of kind vs in
     let g : ℕ → List ℕ = λ x. numbers_where (is_number x) 0 column in
     let within : i < length index.numbers.items = slice_get_within index.numbers.items i x found in
     let here : get_or index.numbers.items i 0 ≡ x = get_or_from_slice_get index.numbers.items i x 0 found in
-    let list : get_or index.lists.items i [] ≡ g x = ap (λ ls. get_or ls i []) a.index_is.listed ∙ get_or-map g index.numbers.items i 0 [] within ∙ ap g here in
+    let list : get_or index.lists i [] ≡ g x = ap (λ ls. get_or ls i []) a.index_is.listed ∙ get_or-map g index.numbers.items i 0 [] within ∙ ap g here in
     let at : Contains column (Some x) = let P : ℕ → Type 0 = λ x. Contains column (Some x) in subst P here (a.index_is.occur i 0 within) in
     let passes : is_number x (get_or column at.0 (Some x)) ≡ true = ap (is_number x) at.2 ∙ (let same : (x == x) ≡ true = grind (arith, nat_tests) in same) in
     (list ∙ sym (holders_of kind term x vs is f a.fit), λ none. numbers_where-some (is_number x) 0 column at.0 (Some x) at.1 passes (sym list ∙ none))

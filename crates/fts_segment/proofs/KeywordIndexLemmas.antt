@@ -64,7 +64,7 @@ names_are_texts vs names lists positions index =
 
 pub terms_are_texts : (vs : List (Option FieldValue)) (dictionary : Dictionary) → AreTerms kinds.Keyword vs dictionary →
     dictionary.names ≡ texts_of kinds.Keyword vs
-terms_are_texts vs dictionary terms = names_are_texts vs dictionary.names dictionary.lists.items (term_position_lists dictionary.positions) terms.dictionary_is
+terms_are_texts vs dictionary terms = names_are_texts vs dictionary.names dictionary.lists (term_position_lists dictionary.positions) terms.dictionary_is
 
 -- the text of a value is among the texts
 pub text_among : (vs : List (Option FieldValue)) (t : List ℕ) → Contains vs (Some (values.Text t)) → Contains (texts_of kinds.Keyword vs) t

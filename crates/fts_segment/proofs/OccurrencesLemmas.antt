@@ -1,6 +1,6 @@
 -- Loops that append each token of texts to the occurrences.
-use Rattle.std.proofs.Common.{◌≡◌, ◌<◌, ◌≤◌, ◌^◌, ℕ, suc, ◌+◌, List, [], ◌∷◌, ◌++◌, Option, map, drop, get_or, length, refl, sym, ap, subst, ◌∙◌, All}
-use Rattle.std.proofs.Common.{append_assoc, append-nil, arith, length-append}
+use Rattle.std.proofs.Common.{◌≡◌, ◌≤◌, ℕ, suc, ◌+◌, List, [], ◌∷◌, ◌++◌, Option, map, drop, length, refl, sym, ap, subst, ◌∙◌, All}
+use Rattle.std.proofs.Common.{append_assoc, append-nil, arith}
 use Rattle.std.specs.Str.{IsUtf8}
 use Rattle.fts_text.specs.declared.tokenizer.Token.{Token}
 use Rattle.fts_text.specs.declared.tokenizer.Tokens.{Tokens}

@@ -18,34 +18,31 @@ use Rattle.fts_segment.specs.Numbers.{IsNumberIndex, numbers_of}
 use Rattle.fts_segment.specs.Occurrences.{values_in}
 use Rattle.fts_segment.specs.SortedColumns.{IsOrdered, column_in, column_of, different, numbers_in}
 use Rattle.fts_segment.specs.Segments.{SegmentValue, column, ordinals}
-use Rattle.fts_segment.specs.Sums.{sums_from}
 use Rattle.fts_segment.proofs.BetweenLemmas.{IsNumberIndex-keywords, numbers_count}
 use Rattle.fts_segment.proofs.FieldLemmas.{numbers_of-values, ordinals_of-values}
 
 -- the sorted ordinals of a keyword field
 pub IsOrdered-keywords : (kind : Kind) (vs : List (Option FieldValue)) (index : KeywordIndex) (o : SortedColumn) → AreKeywords kind vs index →
-    o.column.now ≡ index.ordinals → o.numbers ≡ None → o.lists.now ≡ index.dictionary.lists.items → o.sums.now ≡ index.sums.items →
+    o.column.now ≡ index.ordinals → o.numbers ≡ None → o.lists.now ≡ index.dictionary.lists →
     IsOrdered (column_of kind vs) o
-IsOrdered-keywords kind vs index o are column_is none lists_are sums_are =
+IsOrdered-keywords kind vs index o are column_is none lists_are =
     let P : Kind → Type 0 = λ kind. AreKeywords kind vs index → IsOrdered (column_of kind vs) o in
     let Q : Option (Bor (List ℕ)) → List (List ℕ) → Type 0 = λ ns ls. IsNumberIndex (ordinals_of kinds.Keyword vs) (different ns (length ls)) ls in
     subst P (sym are.kind_is) (λ (are : AreKeywords kinds.Keyword vs index). record {
       column_is = column_is ∙ are.ordinals;
       index_is = subst (λ ns. Q ns o.lists.now) (sym none) (subst (Q None) (sym lists_are) (IsNumberIndex-keywords vs index.dictionary are.terms));
-      sums = sums_are ∙ are.sums ∙ ap (sums_from 0) (sym lists_are);
     }) are
 
 pub IsOrdered-numbers : (kind : Kind) (vs : List (Option FieldValue)) (index : NumberIndex) (o : SortedColumn) (numbers : Bor (List ℕ)) → AreNumbers kind vs index →
-    o.column.now ≡ index.column → o.numbers ≡ Some numbers → numbers.now ≡ index.numbers.items → o.lists.now ≡ index.lists.items →
-    o.sums.now ≡ index.sums.items → IsOrdered (column_of kind vs) o
-IsOrdered-numbers kind vs index o numbers are column_is some numbers_are lists_are sums_are =
+    o.column.now ≡ index.column → o.numbers ≡ Some numbers → numbers.now ≡ index.numbers.items → o.lists.now ≡ index.lists →
+    IsOrdered (column_of kind vs) o
+IsOrdered-numbers kind vs index o numbers are column_is some numbers_are lists_are =
     let which = ap (λ b. cond b (numbers_of kind vs) (ordinals_of kind vs)) are.kind_is in
     let Q : List ℕ → List (List ℕ) → Type 0 = IsNumberIndex (numbers_of kind vs) in
     let R : Option (Bor (List ℕ)) → Type 0 = λ ns. Q (different ns (length o.lists.now)) o.lists.now in
     subst (λ column. IsOrdered column o) (sym which) (record {
       column_is = column_is ∙ are.column_is;
       index_is = subst R (sym some) (subst (λ ns. Q ns o.lists.now) (sym numbers_are) (subst (Q index.numbers.items) (sym lists_are) are.index_is));
-      sums = sums_are ∙ are.sums ∙ ap (sums_from 0) (sym lists_are);
     })
 
 -- a cut of the numbers is one of the lists

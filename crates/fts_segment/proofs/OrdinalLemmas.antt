@@ -34,7 +34,7 @@ last_of_first documents some =
 
 -- there are as many lists as texts
 pub lists_count : (vs : List (Option FieldValue)) (dictionary : Dictionary) → AreTerms kinds.Keyword vs dictionary →
-    length dictionary.lists.items ≡ length dictionary.names
+    length dictionary.lists ≡ length dictionary.names
 lists_count vs dictionary are = ap length are.dictionary_is.listed ∙ length-map dictionary.names (λ q. docs_with q (occurrences kinds.Keyword 0 vs))
 
 -- a value that has a text as its term is that text
@@ -45,22 +45,22 @@ holds_text text (Some (values.Number n)) h = cc
 holds_text text (Some (values.Texts ts)) h = cc
 
 -- a document that is picked from the list of an ordinal has its text, and none is picked if there is no such text
-pub keyword_there : (vs : List (Option FieldValue)) (dictionary : Dictionary) (ordinal : ℕ) (lists : List (List ℕ)) (list d : List ℕ) (o : Option ℕ) →
+pub keyword_there : (vs : List (Option FieldValue)) (dictionary : Dictionary) (ordinal : ℕ) (list : List ℕ) (o : Option ℕ) →
     AreTerms kinds.Keyword vs dictionary →
-    lists ≡ dictionary.lists.items → ordinal < length lists → list ≡ get_or lists ordinal d → MatchOption o (list ≡ []) (Contains list) →
+    ordinal < length dictionary.lists → list ≡ get_or dictionary.lists ordinal [] → MatchOption o (list ≡ []) (Contains list) →
     MatchOption o (slice_get (texts_of kinds.Keyword vs) ordinal ≡ None) (λ doc. HasKeywordAt vs ordinal doc)
-keyword_there vs dictionary ordinal lists list d None are same inside found none =
-    let within : ordinal < length dictionary.names = omega (arith, inside, ap length same, lists_count vs dictionary are) in
+keyword_there vs dictionary ordinal list None are inside found none =
+    let within : ordinal < length dictionary.names = omega (arith, inside, lists_count vs dictionary are) in
     let is = text_found (get_or dictionary.names ordinal []) ordinal are (slice_get-get_or dictionary.names ordinal [] within) in
-    absurd (is.1 (ap (λ ls. get_or ls ordinal []) (sym same) ∙ get_or_default lists ordinal [] d inside ∙ sym found ∙ none))
-keyword_there vs dictionary ordinal lists list d (Some doc) are same inside found at =
+    absurd (is.1 (sym found ∙ none))
+keyword_there vs dictionary ordinal list (Some doc) are inside found at =
     let names = dictionary.names in
-    let within : ordinal < length names = omega (arith, inside, ap length same, lists_count vs dictionary are) in
+    let within : ordinal < length names = omega (arith, inside, lists_count vs dictionary are) in
     let text = get_or names ordinal [] in
     let named : slice_get names ordinal ≡ Some text = slice_get-get_or names ordinal [] within in
     let is = text_found text ordinal are named in
     let member : Contains (numbers_where (holds kinds.Keyword (values.Text text)) 0 vs) doc =
-    subst (λ ds. Contains ds doc) (found ∙ get_or_default lists ordinal d [] inside ∙ ap (λ ls. get_or ls ordinal []) same ∙ is.0) at in
+    subst (λ ds. Contains ds doc) (found ∙ is.0) at in
     let held = numbers_where-holds (holds kinds.Keyword (values.Text text)) 0 vs doc member in
     let number : doc ≡ held.0 = omega (arith, held.1) in
     record {

@@ -264,10 +264,10 @@ begins-within term names at h = elim (cases_lt at (length names)) [
 
 -- the postings that the stream gives for its next name, and the rest of the stream
 pub given-here : (term : List ℕ) (at : ℕ) (d : Dictionary) (numbers : List (Option ℕ)) → IsWhole d numbers → begins term (drop at d.names) ≡ true →
-    given term (part_from at d numbers) ≡ moved numbers (postings_of (get_or d.lists.items at []) (get_or (term_position_lists d.positions) at []))
+    given term (part_from at d numbers) ≡ moved numbers (postings_of (get_or d.lists at []) (get_or (term_position_lists d.positions) at []))
 given-here term at d numbers is h =
     let within = begins-within term d.names at h in
-    let lists = d.lists.items in
+    let lists = d.lists in
     let positions = term_position_lists d.positions in
     let paired : length lists ≡ length positions = sym is.listed ∙ is.positioned in
     let there : at < length lists = omega (arith, within, is.listed) in
@@ -280,7 +280,7 @@ pub passed-here : (term : List ℕ) (at : ℕ) (d : Dictionary) (numbers : List 
     passed term (part_from at d numbers) ≡ part_from (at + 1) d numbers
 passed-here term at d numbers is h =
     let within = begins-within term d.names at h in
-    let lists = d.lists.items in
+    let lists = d.lists in
     let positions = term_position_lists d.positions in
     let paired : length lists ≡ length positions = sym is.listed ∙ is.positioned in
     let many : at < length (postings_by lists positions) = omega (arith, within, is.listed, length-postings_by lists positions paired) in

@@ -140,8 +140,8 @@ pub part-is : (kind : Kind) (field next : ℕ) (source : SourceValue) (dictionar
 part-is kind field next source dictionary numbers terms are =
     let os = occurrences kind 0 (values_in field source.segment.documents) in
     let positions = term_position_lists dictionary.positions in record {
-      sound = sound-dictionary os dictionary.names dictionary.lists.items positions numbers terms.dictionary_is;
-      postings_are = found-dictionary os dictionary.names dictionary.lists.items positions terms.dictionary_is;
+      sound = sound-dictionary os dictionary.names dictionary.lists positions numbers terms.dictionary_is;
+      postings_are = found-dictionary os dictionary.names dictionary.lists positions terms.dictionary_is;
       numbers_are = are;
     }
 
@@ -152,7 +152,7 @@ terms-whole kind vs dictionary numbers terms count =
     let os = occurrences kind 0 vs in
     let names = dictionary.names in
     let d = terms.dictionary_is in
-    let list : (i : ℕ) → i < length names → get_or dictionary.lists.items i [] ≡ docs_with (get_or names i []) os =
+    let list : (i : ℕ) → i < length names → get_or dictionary.lists i [] ≡ docs_with (get_or names i []) os =
     λ i within. ap (λ ls. get_or ls i []) d.listed ∙ get_or-map (λ q. docs_with q os) names i [] [] within in
     let position : (i : ℕ) → i < length names → get_or (term_position_lists dictionary.positions) i [] ≡ position_lists_with (get_or names i []) os =
     λ i within. ap (λ ls. get_or ls i []) d.positioned ∙ get_or-map (λ q. position_lists_with q os) names i [] [] within in
@@ -232,12 +232,12 @@ parts-rise kind field ss ps bits are q =
 pub terms-joined : (kind : Kind) (field : ℕ) (ss : List SourceValue) (ps : List PartValue) (dictionary : Dictionary) → holds_numbers kind ≡ false →
     All HasBits ss → AreParts kind field 0 ss ps →
     All (λ s. All (HasFewTokens kind) (values_in field s.segment.documents)) ss →
-    IsJoined ps dictionary.names dictionary.lists.items (term_position_lists dictionary.positions) →
+    IsJoined ps dictionary.names dictionary.lists (term_position_lists dictionary.positions) →
     AreTerms kind (values_in field (contents ss)) dictionary
 terms-joined kind field ss ps dictionary kind_is bits are few j = record {
   kind_is = kind_is;
   few = few-contents kind field ss few;
-  dictionary_is = dictionary-joined kind (values_in field (contents ss)) ps dictionary.names dictionary.lists.items (term_position_lists dictionary.positions)
+  dictionary_is = dictionary-joined kind (values_in field (contents ss)) ps dictionary.names dictionary.lists (term_position_lists dictionary.positions)
       (λ q. parts-joined q kind field 0 ss ps bits are) j;
 }
 

@@ -1,25 +1,18 @@
--- The running totals of the lengths of lists.
-use Rattle.std.proofs.Common.{◌≡◌, ◌+◌, ◌<◌, ◌≤◌, ℕ, zero, suc, List, [], ◌∷◌, ◌++◌, length, get_or, take, refl, ap, ◌∙◌, arith}
-use Rattle.fts_segment.specs.Sums.{sums_from, total}
+-- The number of documents in lists.
+use Rattle.std.proofs.Common.{◌≡◌, ◌+◌, ◌<◌, ◌≤◌, ℕ, zero, suc, List, [], ◌∷◌, length, get_or, map, take, refl, arith}
+use Rattle.std.specs.Prelude.{sum}
+use Rattle.std.proofs.lemmas.List.Sums.{sum_by-cons}
 
--- the total with one more list
-pub total-push : (lists : List (List ℕ)) (xs : List ℕ) → total (lists ++ xs ∷ []) ≡ total lists + length xs
-total-push [] xs = omega arith
-total-push (ys ∷ lists) xs = omega (arith, total-push lists xs)
+-- the number of documents in all lists
+abbrev pub total : List (List ℕ) → ℕ
+total [] = 0
+total (xs ∷ lists) = length xs + total lists
 
-pub sums-push : (before : ℕ) (lists : List (List ℕ)) (xs : List ℕ) → sums_from before (lists ++ xs ∷ []) ≡ sums_from before lists
-    ++ (before + total lists + length xs) ∷ []
-sums-push before [] xs = let e : before + length xs ≡ before + 0 + length xs = omega arith in ap (λ n. before ∷ n ∷ []) e
-sums-push before (ys ∷ lists) xs =
-    let e : before + length ys + total lists + length xs ≡ before + (length ys + total lists) + length xs = omega arith in
-    ap (λ ns. before ∷ ns) (sums-push (before + length ys) lists xs ∙ ap (λ n. sums_from (before + length ys) lists ++ n ∷ []) e)
-
--- the first lists have no more than all
-pub total-front : (lists : List (List ℕ)) (k : ℕ) → total (take k lists) ≤ total lists
-total-front [] zero = omega arith
-total-front [] (suc k) = omega arith
-total-front (xs ∷ lists) zero = omega arith
-total-front (xs ∷ lists) (suc k) = omega (arith, total-front lists k)
+-- the number of documents before a list
+pub total-start : (lists : List (List ℕ)) (k : ℕ) → sum (take k (map length lists)) ≡ total (take k lists)
+total-start lists zero = refl
+total-start [] (suc k) = refl
+total-start (xs ∷ lists) (suc k) = omega (arith, sum_by-cons (λ n. n) (length xs) (take k (map length lists)), total-start lists k)
 
 -- the first lists have no fewer than some of these
 pub total-rises : (lists : List (List ℕ)) (j k : ℕ) → j ≤ k → total (take j lists) ≤ total (take k lists)
@@ -32,22 +25,3 @@ pub total-next : (lists : List (List ℕ)) (k : ℕ) → k < length lists → to
 total-next [] k less = absurd (omega (arith, less))
 total-next (xs ∷ lists) zero less = omega arith
 total-next (xs ∷ lists) (suc k) less = omega (arith, total-next lists k (omega (arith, less)))
-
--- the running total before a list
-pub sums-at : (before : ℕ) (lists : List (List ℕ)) (k : ℕ) → k ≤ length lists → get_or (sums_from before lists) k 0 ≡ before + total (take k lists)
-sums-at before [] zero le = omega arith
-sums-at before [] (suc k) le = absurd (omega (arith, le))
-sums-at before (xs ∷ lists) zero le = omega arith
-sums-at before (xs ∷ lists) (suc k) le = omega (arith, sums-at (before + length xs) lists k (omega (arith, le)))
-
-pub sums-count : (before : ℕ) (lists : List (List ℕ)) → length (sums_from before lists) ≡ suc (length lists)
-sums-count before [] = refl
-sums-count before (xs ∷ lists) = ap suc (sums-count (before + length xs) lists)
-
--- there is a running total before each list and after the last
-pub sums-inside : (lists : List (List ℕ)) (sums : List ℕ) (k : ℕ) → sums ≡ sums_from 0 lists → k ≤ length lists → k < length sums
-sums-inside lists sums k is le = omega (arith, le, ap length is, sums-count 0 lists)
-
--- the running total that is read at an index
-pub sums-read : (lists : List (List ℕ)) (sums : List ℕ) (k : ℕ) → sums ≡ sums_from 0 lists → k ≤ length lists → get_or sums k 0 ≡ total (take k lists)
-sums-read lists sums k is le = omega (arith, ap (λ (ns : List ℕ). get_or ns k 0) is, sums-at 0 lists k le)

@@ -17,7 +17,6 @@ use Rattle.fts_segment.specs.Occurrences.{occurrences, values_in, HasFewTokens}
 use Rattle.fts_segment.specs.Dictionaries.{IsDictionaryOf}
 use Rattle.fts_segment.specs.TermPositionLists.{term_position_lists}
 use Rattle.fts_segment.specs.Keywords.{ordinals_of, texts_of}
-use Rattle.fts_segment.specs.Sums.{sums_from}
 use Rattle.fts_segment.specs.Numbers.{Fits64, numbers_of, IsNumberIndex}
 
 -- a dictionary is that of a text or keyword field
@@ -25,14 +24,13 @@ pub record AreTerms (kind : Kind) (vs : List (Option FieldValue)) (dictionary : 
   pub kind_is : holds_numbers kind ≡ false
   pub few : All (HasFewTokens kind) vs
   pub dictionary_is : IsDictionaryOf (occurrences kind 0 vs)
-      dictionary.names dictionary.lists.items (term_position_lists dictionary.positions)
+      dictionary.names dictionary.lists (term_position_lists dictionary.positions)
 
 -- a keyword index is that of a keyword field
 pub record AreKeywords (kind : Kind) (vs : List (Option FieldValue)) (index : KeywordIndex) : Type 0 where
   pub kind_is : kind ≡ kinds.Keyword
   pub terms : AreTerms kind vs index.dictionary
   pub ordinals : index.ordinals ≡ ordinals_of kind vs
-  pub sums : index.sums.items ≡ sums_from 0 index.dictionary.lists.items
 
 -- a document has the keyword of an ordinal
 pub record HasKeywordAt (vs : List (Option FieldValue)) (ordinal doc : ℕ) : Type 0 where
@@ -45,8 +43,7 @@ pub record AreNumbers (kind : Kind) (vs : List (Option FieldValue)) (index : Num
   pub kind_is : holds_numbers kind ≡ true
   pub fit : All (λ v. IfSome v (Fits64 kind)) vs
   pub column_is : index.column ≡ numbers_of kind vs
-  pub index_is : IsNumberIndex (numbers_of kind vs) index.numbers.items index.lists.items
-  pub sums : index.sums.items ≡ sums_from 0 index.lists.items
+  pub index_is : IsNumberIndex (numbers_of kind vs) index.numbers.items index.lists
 
 -- an index is that of a field of this kind, in which the documents have these values
 abbrev pub IsFieldIndex : Kind → List (Option FieldValue) → FieldIndex → Type 0

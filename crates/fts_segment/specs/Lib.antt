@@ -11,7 +11,6 @@ pub mod Dictionaries
 pub mod Numbers
 pub mod Keywords
 pub mod Between
-pub mod Sums
 pub mod NumberLogs
 pub mod FieldIndexes
 pub mod SortedColumns

@@ -60,18 +60,18 @@ pub record PartValue : Type 0 where
 abbrev pub part_from : ℕ → Dictionary → List (Option ℕ) → PartValue
 part_from at dictionary numbers = record {
   names = drop at dictionary.names;
-  postings = drop at (postings_by dictionary.lists.items (term_position_lists dictionary.positions));
+  postings = drop at (postings_by dictionary.lists (term_position_lists dictionary.positions));
   numbers = numbers;
 }
 
 -- each term has its lists, with positions for each document, and each document is in the map of new numbers
 pub record IsWhole (dictionary : Dictionary) (numbers : List (Option ℕ)) : Type 0 where
-  pub listed : length dictionary.names ≡ length dictionary.lists.items
+  pub listed : length dictionary.names ≡ length dictionary.lists
   pub positioned : length dictionary.names ≡ length (term_position_lists dictionary.positions)
-  pub paired : (i : ℕ) → i < length dictionary.names → length (slice_index_or dictionary.lists.items i [])
+  pub paired : (i : ℕ) → i < length dictionary.names → length (slice_index_or dictionary.lists i [])
       ≡ length (slice_index_or (term_position_lists dictionary.positions) i [])
   pub numbered : (i : ℕ) → i < length dictionary.names →
-      All (λ doc. doc < length numbers) (slice_index_or dictionary.lists.items i [])
+      All (λ doc. doc < length numbers) (slice_index_or dictionary.lists i [])
 
 -- each term has its lists, the next term is that of the number `at`, and the position lists are those of the dictionary
 pub record IsPartOf (at : ℕ) (dictionary : Dictionary) (numbers : List (Option ℕ)) (term : Option (List ℕ))

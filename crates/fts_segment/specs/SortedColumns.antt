@@ -11,7 +11,6 @@ use Rattle.fts_segment.specs.Between.{NumberColumn}
 use Rattle.fts_segment.specs.Keywords.{ordinals_of}
 use Rattle.fts_segment.specs.Numbers.{IsNumberIndex, numbers_of}
 use Rattle.fts_segment.specs.Segments.{SegmentValue, column, ordinals}
-use Rattle.fts_segment.specs.Sums.{sums_from}
 
 -- the numbers of values in a field of this kind, or their ordinals
 abbrev pub column_of : Kind → List (Option FieldValue) → NumberColumn
@@ -30,8 +29,7 @@ different (Some numbers) count = numbers.now
 abbrev pub numbers_in : SortedColumn → List ℕ
 numbers_in ordered = different ordered.numbers (length ordered.lists.now)
 
--- the distinct numbers of a column in order, with the documents of each and their running totals
+-- the distinct numbers of a column in order, with the documents of each
 pub record IsOrdered (column : NumberColumn) (ordered : SortedColumn) : Type 0 where
   pub column_is : ordered.column.now ≡ column
   pub index_is : IsNumberIndex column (numbers_in ordered) ordered.lists.now
-  pub sums : ordered.sums.now ≡ sums_from 0 ordered.lists.now

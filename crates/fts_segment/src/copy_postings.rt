@@ -1,6 +1,7 @@
 // Copies the postings of a term under new document numbers.
 ghost use Rattle.std.specs.Prelude.{◌≡◌, ◌+◌, ◌-◌, ◌<◌, ◌≤◌, ◌^◌, ◌++◌, [], All, OnOk, drop, length, map};
 ghost use Rattle.std.specs.Prelude.{slice_get, slice_index_or};
+ghost use Rattle.fts_pack.specs.ListRef.{listed};
 ghost use Rattle.fts_segment.specs.Parts.{moved, placed};
 ghost use Rattle.fts_segment.specs.PositionListLogs.{IsPositionListLog};
 ghost use Rattle.fts_segment.specs.Postings.{posting_at, postings_of};
@@ -12,7 +13,7 @@ use crate::doc_map::DocMap;
 use crate::position_copier::PositionCopier;
 use crate::position_lists::PositionListLog;
 use crate::term_positions::TermPositionLists;
-use fts_pack::{BLOCK, Blocks, List};
+use fts_pack::{BLOCK, Blocks, ListRef};
 use std::alloc::AllocError;
 
 /// Appends documents, each with a number added.
@@ -28,13 +29,13 @@ fn push_shifted(docs: &mut Vec<u32>, first: u32, block: &[u32]) -> Result<(), Al
 
 /// Appends the documents of a list, each with a number added. `room` is a scratch buffer for a block.
 fn copy_shifted(
-    list: &List,
+    list: ListRef<'_>,
     first: u32,
     room: &mut [u32; BLOCK],
     docs: &mut Vec<u32>,
 ) -> Result<(), AllocError>
-    requires { All (λ doc. first + doc < 2 ^ 32) list.now }
-    ensures { OnOk result (docs.new.items ≡ docs.old.items ++ map (λ doc. first + doc) list.now) }
+    requires { All (λ doc. first + doc < 2 ^ 32) (listed list) }
+    ensures { OnOk result (docs.new.items ≡ docs.old.items ++ map (λ doc. first + doc) (listed list.entry)) }
 {
     let mut source = list.source();
     for block in 0..source.blocks() {
@@ -93,7 +94,7 @@ fn copy_block(
 /// Appends the postings of a term under new document numbers: their documents to `docs` and their positions to a log.
 /// `room` is a scratch buffer for a block of documents. If every document is live, the positions are copied as a whole.
 pub(crate) fn copy_postings(
-    list: &List,
+    list: ListRef<'_>,
     positions: TermPositionLists<'_>,
     numbers: &DocMap,
     lists: &mut PositionCopier<'_>,
@@ -103,10 +104,10 @@ pub(crate) fn copy_postings(
 ) -> Result<(), AllocError>
     requires is { IsPositionListLog log.old }
     requires lists { lists_in lists.old ≡ positions.lists.now }
-    requires paired { length list.now ≡ length (position_lists_in positions) }
-    requires numbered { All (λ doc. doc < length numbers.now) list.now }
+    requires paired { length (listed list) ≡ length (position_lists_in positions) }
+    requires numbered { All (λ doc. doc < length numbers.now) (listed list) }
     ensures same { lists_in lists.new ≡ lists_in lists.old }
-    ensures puts { OnOk result (Puts (moved numbers.now (postings_of list.now (position_lists_in positions.entry)))
+    ensures puts { OnOk result (Puts (moved numbers.now (postings_of (listed list.entry) (position_lists_in positions.entry)))
         docs.old.items log.old docs.new.items log.new) }
 {
     if let Some(first) = numbers.first() {

@@ -2,6 +2,7 @@
 ghost use Rattle.std.specs.Prelude.{◌≡◌, [], Contains, List, MatchOption, None, Option};
 ghost use Rattle.fts_model.specs.declared.schema.Kind.TheVariants as kinds;
 ghost use Rattle.fts_model.specs.declared.value.FieldValue.{FieldValue};
+ghost use Rattle.fts_pack.specs.ListRef.{listed};
 ghost use Rattle.fts_segment.specs.FieldIndexes.{AreTerms, HasKeywordAt};
 ghost use Rattle.fts_segment.specs.Keywords.{texts_of};
 
@@ -10,27 +11,16 @@ use crate::names::Names;
 use crate::segment::ListId;
 use crate::term_positions::TermPositions;
 use crate::token_log::log_of_field;
-use fts_base::release;
 use fts_model::{Document, Kind, Stamped};
-use fts_pack::Blocks;
+use fts_pack::{Blocks, ListRef, Lists};
 use std::alloc::{AllocError, Global};
 
 /// The terms of a field, with the documents of each and its positions in them.
+#[derive(Drop)]
 pub(crate) struct Dictionary {
     pub(crate) names: Names,
-    pub(crate) lists: Vec<fts_pack::List>,
+    pub(crate) lists: Lists,
     pub(crate) positions: TermPositions,
-}
-
-impl Drop for Dictionary {
-    fn drop(self) {
-        let Dictionary {
-            names: _,
-            lists,
-            positions: _,
-        } = self;
-        release(lists);
-    }
 }
 
 impl Dictionary {
@@ -51,7 +41,7 @@ impl Dictionary {
     ) -> Result<Dictionary, AllocError>
         requires { length documents.now ≤ 2 ^ 32 }
         ensures is { IfOk result (λ dictionary. IsDictionaryOf (occurrences kind 0 (values_in field documents.now))
-            dictionary.names dictionary.lists.items (term_position_lists dictionary.positions)) }
+            dictionary.names dictionary.lists (term_position_lists dictionary.positions)) }
         ensures few { OnOk result (All (HasFewTokens kind) (values_in field documents.now)) }
     {
         let log = log_of_field(alloc, documents, field, kind)?;
@@ -61,16 +51,16 @@ impl Dictionary {
     /// The list of a term, if it is one of the names.
     pub(crate) fn find(&self, term: &str) -> Option<ListId<'_>>
         requires ascends { Ascends self.now.names }
-        requires listed { length self.now.names ≡ length self.now.lists.items }
+        requires listed { length self.now.names ≡ length self.now.lists }
         requires positioned { length self.now.names ≡ length (term_position_lists self.now.positions) }
         ensures { MatchOption result ((i : ℕ) → slice_get self.now.names i ≡ Some term.now → ⊥)
             (λ list. (i : ℕ) × (slice_get self.now.names i ≡ Some term.now)
-            × (documents_in list ≡ slice_index_or self.now.lists.items i [])
+            × (documents_in list ≡ slice_index_or self.now.lists i [])
             × (positions_in list ≡ slice_index_or (term_position_lists self.now.positions) i [])) }
     {
         let number = find_name(&self.names, term.as_bytes())?;
         Some(ListId {
-            list: &self.lists[number],
+            list: self.lists.get(number),
             positions: Some(self.positions.get(number)),
         })
     }
@@ -81,13 +71,16 @@ impl Dictionary {
             → MatchOption result (slice_get (texts_of kinds.Keyword vs) ordinal ≡ None)
             (λ doc. HasKeywordAt vs ordinal doc) }
     {
-        some_document(self.lists.get(ordinal)?)
+        if ordinal >= self.lists.len() {
+            return None;
+        }
+        some_document(self.lists.get(ordinal))
     }
 }
 
 /// A document of a list. No block is opened.
-fn some_document(list: &fts_pack::List) -> Option<u32>
-    ensures { MatchOption result (list.now ≡ []) (Contains list.now) }
+fn some_document(list: ListRef<'_>) -> Option<u32>
+    ensures { MatchOption result (listed list.entry ≡ []) (Contains (listed list.entry)) }
 {
     if list.is_empty() {
         return None;

@@ -113,13 +113,11 @@ impl FieldIndex {
                 column: &index.ordinals,
                 numbers: None,
                 lists: &index.dictionary.lists,
-                sums: &index.sums,
             },
             FieldIndex::Numbers(index) => SortedColumn {
                 column: &index.column,
                 numbers: Some(index.numbers.as_slice()),
                 lists: &index.lists,
-                sums: &index.sums,
             },
             FieldIndex::Terms(_) => unreachable!(),
         }

@@ -4,6 +4,7 @@ ghost use Rattle.fts_model.specs.declared.value.FieldValue.{FieldValue};
 ghost use Rattle.fts_model.specs.declared.schema.Kind.TheVariants as kinds;
 ghost use Rattle.fts_model.specs.Limits.{most_merged};
 ghost use Rattle.fts_model.specs.Operations.{kind_at};
+ghost use Rattle.fts_pack.specs.ListRef.{listed};
 ghost use Rattle.fts_segment.specs.FieldIndexes.{AreKeywords, AreTerms};
 ghost use Rattle.fts_segment.specs.Keywords.{with_ordinal};
 ghost use Rattle.fts_segment.specs.Occurrences.{values_in};
@@ -13,32 +14,19 @@ ghost use Rattle.fts_segment.specs.Between.{AreKeyed, NumberColumn};
 use crate::dictionary::Dictionary;
 use crate::dictionary_merge::merge_dictionaries;
 use crate::live_segment::LiveSegment;
-use crate::sums::sums_of;
 use fts_base::release;
 use fts_model::{Document, Kind, Stamped};
 use fts_pack::column::Column;
-use fts_pack::{BLOCK, Blocks};
+use fts_pack::{BLOCK, Blocks, ListRef, Lists};
 use std::alloc::{AllocError, Global};
 
 /// The index of a keyword field.
+#[derive(Drop)]
 pub(crate) struct KeywordIndex {
     /// The distinct keywords in order, each with its documents.
     pub(crate) dictionary: Dictionary,
     /// Each document's ordinal: the number of distinct smaller keywords.
     pub(crate) ordinals: Column,
-    /// For each list, the number of documents in the lists before it, followed by the total.
-    pub(crate) sums: Vec<u32>,
-}
-
-impl Drop for KeywordIndex {
-    fn drop(self) {
-        let KeywordIndex {
-            dictionary: _,
-            ordinals: _,
-            sums,
-        } = self;
-        release(sums);
-    }
 }
 
 impl KeywordIndex {
@@ -86,11 +74,9 @@ impl KeywordIndex {
             return Err(AllocError);
         };
         release(ordinals);
-        let sums = sums_of(alloc, &dictionary.lists)?;
         Ok(KeywordIndex {
             dictionary,
             ordinals: column,
-            sums,
         })
     }
 }
@@ -108,12 +94,12 @@ fn set_ordinals(ordinals: &mut [Option<u64>], documents: &[u32], ordinal: u64)
 /// Sets the ordinal of the documents of a list. `room` is a scratch buffer for a block.
 fn set_ordinals_of(
     ordinals: &mut [Option<u64>],
-    list: &fts_pack::List,
+    list: ListRef<'_>,
     ordinal: u64,
     room: &mut [u32; BLOCK],
 )
-    requires { All (λ doc. doc < length ordinals.old) list.now }
-    ensures { ordinals.new ≡ with_ordinal ordinal ordinals.old list.now }
+    requires { All (λ doc. doc < length ordinals.old) (listed list) }
+    ensures { ordinals.new ≡ with_ordinal ordinal ordinals.old (listed list.entry) }
 {
     let mut source = list.source();
     for block in 0..source.blocks() {
@@ -123,19 +109,15 @@ fn set_ordinals_of(
 }
 
 /// The ordinal of each document, derived from the dictionary's lists without looking at any text.
-fn ordinals_by(
-    alloc: Global,
-    lists: &[fts_pack::List],
-    docs: usize,
-) -> Result<Vec<Option<u64>>, AllocError>
+fn ordinals_by(alloc: Global, lists: &Lists, docs: usize) -> Result<Vec<Option<u64>>, AllocError>
     requires { (column : NumberColumn) × (length column ≡ docs) × AreKeyed column lists.now (λ k. k) }
     ensures { (column : NumberColumn) → length column ≡ docs → AreKeyed column lists.now (λ k. k)
         → IfOk result (λ ordinals. ordinals.items ≡ column) }
 {
     let mut ordinals = vec![in alloc; None; docs]?;
     let mut room = [0; BLOCK];
-    for (ordinal, list) in lists.iter().enumerate() {
-        set_ordinals_of(&mut ordinals, list, ordinal as u64, &mut room);
+    for ordinal in 0..lists.len() {
+        set_ordinals_of(&mut ordinals, lists.get(ordinal), ordinal as u64, &mut room);
     }
     Ok(ordinals)
 }

@@ -40,7 +40,6 @@ mod segment;
 mod segment_join;
 mod sorted_column;
 mod sorted_names;
-mod sums;
 mod term_groups;
 mod term_ids;
 mod term_log;

@@ -9,17 +9,15 @@ ghost use Rattle.fts_segment.specs.Segments.{number_of, numbers_where};
 ghost use Rattle.fts_segment.specs.Numbers.{Fits64, numbers_of, present, is_number, IsNumberIndex};
 ghost use Rattle.fts_segment.specs.ListIds.{documents_in, positions_in};
 ghost use Rattle.fts_segment.specs.NumberLogs.{NumberLog};
-ghost use Rattle.fts_segment.specs.Sums.{sums_from};
 
 use crate::binary_search::find_number;
 use crate::postings_writer::set_docs;
 use crate::segment::ListId;
-use crate::sums::sums_of;
 use crate::term_groups::TermGroups;
 use crate::term_log::Occurrence;
 use fts_base::release;
 use fts_model::{Document, FieldValue, Kind, Number, Stamped};
-use fts_pack::List;
+use fts_pack::Lists;
 use fts_pack::bits::i64_to_u64;
 use fts_pack::column::Column;
 use std::alloc::{AllocError, Global};
@@ -30,9 +28,7 @@ pub(crate) struct NumberIndex {
     /// The distinct numbers, rising.
     pub(crate) numbers: Vec<u64>,
     /// The documents of each number.
-    pub(crate) lists: Vec<List>,
-    /// For each list, the number of documents in the lists before it, followed by the total.
-    pub(crate) sums: Vec<u32>,
+    pub(crate) lists: Lists,
 }
 
 impl Drop for NumberIndex {
@@ -40,12 +36,9 @@ impl Drop for NumberIndex {
         let NumberIndex {
             column: _,
             numbers,
-            lists,
-            sums,
+            lists: _,
         } = self;
         release(numbers);
-        release(lists);
-        release(sums);
     }
 }
 
@@ -64,8 +57,7 @@ impl NumberIndex {
             (λ index. index.column ≡ numbers_of kind (values_in field documents.now)) }
         ensures index { IfOk result
             (λ index. IsNumberIndex (numbers_of kind (values_in field documents.now))
-            index.numbers.items index.lists.items) }
-        ensures sums { IfOk result (λ index. index.sums.items ≡ sums_from 0 index.lists.items) }
+            index.numbers.items index.lists) }
     {
         let values = numbers_of(alloc, documents, field, kind)?;
         let numbers = different(alloc, &values)?;
@@ -74,7 +66,6 @@ impl NumberIndex {
         release(log);
         let lists = lists_of(alloc, &groups, numbers.len())?;
         groups.release();
-        let sums = sums_of(alloc, &lists)?;
         let Ok(column) = Column::build(alloc, &values) else {
             return Err(AllocError);
         };
@@ -83,23 +74,22 @@ impl NumberIndex {
             column,
             numbers,
             lists,
-            sums,
         })
     }
 
     /// The list of a number, if a document has it.
     pub(crate) fn find(&self, number: u64) -> Option<ListId<'_>>
         requires rises { IsStrictlyIncreasing self.now.numbers.items }
-        requires listed { length self.now.numbers.items ≡ length self.now.lists.items }
+        requires listed { length self.now.numbers.items ≡ length self.now.lists }
         ensures { MatchOption result
             ((i : ℕ) → slice_get self.now.numbers.items i ≡ Some number → ⊥)
             (λ list. (i : ℕ) × (slice_get self.now.numbers.items i ≡ Some number)
-            × (documents_in list ≡ slice_index_or self.now.lists.items i [])
+            × (documents_in list ≡ slice_index_or self.now.lists i [])
             × (positions_in list ≡ [])) }
     {
         let index = find_number(&self.numbers, number)?;
         Some(ListId {
-            list: &self.lists[index],
+            list: self.lists.get(index),
             positions: None,
         })
     }
@@ -220,20 +210,18 @@ fn logged(
 }
 
 /// The documents of each group, without duplicates.
-fn lists_of(alloc: Global, groups: &TermGroups, count: usize) -> Result<Vec<List>, AllocError>
+fn lists_of(alloc: Global, groups: &TermGroups, count: usize) -> Result<Lists, AllocError>
     requires count { length groups.now ≡ count }
     requires rise { All (λ places. IsStrictlyIncreasing (docs_in places)) groups.now }
-    ensures { IfOk result (λ lists. lists.items ≡ map docs_in groups.now) }
+    ensures { IfOk result (λ lists. lists ≡ map docs_in groups.now) }
 {
-    let mut lists = Vec::with_capacity(alloc, count)?;
+    let mut lists = Lists::with_capacity(alloc, count)?;
     let mut docs = Vec::new(alloc);
     for number in 0..count {
         set_docs(&mut docs, groups.get(number))?;
-        let Ok(list) = List::build(alloc, &docs) else {
-            return Err(AllocError);
-        };
-        lists.push(list)?;
+        lists.push(alloc, &docs)?;
     }
     release(docs);
+    lists.shrink_to_fit();
     Ok(lists)
 }

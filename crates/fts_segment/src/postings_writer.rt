@@ -11,13 +11,14 @@ use crate::names::{Name, Names};
 use crate::term_groups::{DocPosition, TermGroups};
 use crate::term_positions::{PositionLog, TermPositions};
 use fts_base::release;
+use fts_pack::Lists;
 use std::alloc::{AllocError, Global};
 
 /// Terms with their lists, and their positions before they are packed.
 #[derive(Drop)]
 pub(crate) struct PostingsWriter {
     pub(crate) names: Names,
-    pub(crate) lists: Vec<fts_pack::List>,
+    pub(crate) lists: Lists,
     pub(crate) positions: PositionLog,
 }
 
@@ -51,13 +52,13 @@ impl PostingsWriter {
         positions: usize,
     ) -> Result<PostingsWriter, AllocError>
         ensures names { IfOk result (λ writer. writer.names ≡ []) }
-        ensures lists { IfOk result (λ writer. writer.lists.items ≡ []) }
+        ensures lists { IfOk result (λ writer. writer.lists ≡ []) }
         ensures positions { IfOk result (λ writer. logged_term_position_lists writer.positions ≡ []) }
         ensures is { IfOk result (λ writer. IsPositionLog writer.positions) }
     {
         Ok(PostingsWriter {
             names: Names::with_capacity(alloc, terms)?,
-            lists: Vec::with_capacity(alloc, terms)?,
+            lists: Lists::with_capacity(alloc, terms)?,
             positions: PositionLog::with_capacity(alloc, terms, positions)?,
         })
     }
@@ -74,18 +75,15 @@ impl PostingsWriter {
         requires positions { All IsPositionList (position_lists_of places.now) }
         requires is { IsPositionLog self.old.positions }
         ensures names { OnOk result (self.new.names ≡ self.old.names ++ name.now ∷ []) }
-        ensures lists { OnOk result (self.new.lists.items
-            ≡ self.old.lists.items ++ docs_in places.now ∷ []) }
+        ensures lists { OnOk result (self.new.lists
+            ≡ self.old.lists ++ docs_in places.now ∷ []) }
         ensures positions { OnOk result (logged_term_position_lists self.new.positions
             ≡ logged_term_position_lists self.old.positions ++ position_lists_of places.now ∷ []) }
         ensures is { OnOk result (IsPositionLog self.new.positions) }
     {
         set_docs(room, places)?;
-        let Ok(list) = fts_pack::List::build(alloc, room) else {
-            return Err(AllocError);
-        };
         self.names.push(&Name::new(name))?;
-        self.lists.push(list)?;
+        self.lists.push(alloc, room)?;
         self.positions.push(room, places)
     }
 
@@ -99,17 +97,14 @@ impl PostingsWriter {
         requires rise { IsStrictlyIncreasing docs.now }
         requires is { IsPositionListLog self.old.positions.lists }
         ensures names { OnOk result (self.new.names ≡ self.old.names ++ name.now ∷ []) }
-        ensures lists { OnOk result (self.new.lists.items ≡ self.old.lists.items ++ docs.now ∷ []) }
+        ensures lists { OnOk result (self.new.lists ≡ self.old.lists ++ docs.now ∷ []) }
         ensures positions { (before more : List (List ℕ))
             → AreEnds 0 self.old.positions.ends.items (length before)
             → logged_position_lists self.old.positions.lists ≡ before ++ more
             → OnOk result (HasTerm self.new.positions (pieces 0 before self.old.positions.ends.items) more) }
     {
-        let Ok(list) = fts_pack::List::build(alloc, docs) else {
-            return Err(AllocError);
-        };
         self.names.push(name)?;
-        self.lists.push(list)?;
+        self.lists.push(alloc, docs)?;
         self.positions.end_term()?;
         Ok(())
     }
@@ -118,7 +113,7 @@ impl PostingsWriter {
     pub(crate) fn finish(self, alloc: Global) -> Result<Dictionary, AllocError>
         requires { IsPositionLog self.positions }
         ensures names { IfOk result (λ dictionary. dictionary.names ≡ self.names) }
-        ensures lists { IfOk result (λ dictionary. dictionary.lists.items ≡ self.lists.items) }
+        ensures lists { IfOk result (λ dictionary. dictionary.lists ≡ self.lists) }
         ensures positions { IfOk result
             (λ dictionary. term_position_lists dictionary.positions
             ≡ logged_term_position_lists self.positions) }
@@ -152,8 +147,8 @@ pub(crate) fn put(
     requires is { IsPositionLog writer.old.positions }
     ensures names { OnOk result (writer.new.names
         ≡ writer.old.names ++ unless_none places.now name.now) }
-    ensures lists { OnOk result (writer.new.lists.items
-        ≡ writer.old.lists.items ++ unless_none places.now (docs_in places.now)) }
+    ensures lists { OnOk result (writer.new.lists
+        ≡ writer.old.lists ++ unless_none places.now (docs_in places.now)) }
     ensures positions { OnOk result (logged_term_position_lists writer.new.positions
         ≡ logged_term_position_lists writer.old.positions
         ++ unless_none places.now (position_lists_of places.now)) }
@@ -175,7 +170,7 @@ pub(crate) fn write_terms(
     requires rise { All (λ places. IsStrictlyIncreasing (docs_in places)) groups.now }
     requires positions { All (λ places. All IsPositionList (position_lists_of places)) groups.now }
     ensures names { IfOk result (λ all. all.names ≡ names_listed groups.now (map (λ n. n.now) names.now)) }
-    ensures lists { IfOk result (λ all. all.lists.items ≡ listed_by docs_in groups.now) }
+    ensures lists { IfOk result (λ all. all.lists ≡ listed_by docs_in groups.now) }
     ensures positions { IfOk result
         (λ all. logged_term_position_lists all.positions ≡ listed_by position_lists_of groups.now) }
     ensures is { IfOk result (λ all. IsPositionLog all.positions) }

@@ -7,6 +7,8 @@ ghost use Rattle.fts_model.specs.Queries.{is_number_field, is_ordered_field};
 ghost use Rattle.fts_model.specs.Operations.{kind_at};
 ghost use Rattle.fts_model.specs.Schemas.{holds_numbers};
 ghost use Rattle.fts_model.specs.declared.schema.Kind.{Kind};
+ghost use Rattle.fts_pack.specs.ListRange.{lists_in_range};
+ghost use Rattle.fts_pack.specs.ListRef.{listed};
 ghost use Rattle.fts_segment.specs.FieldIndexes.{AreTerms, NumbersFit};
 ghost use Rattle.fts_segment.specs.Occurrences.{values_in};
 ghost use Rattle.fts_segment.specs.Segments.{postings, positions, column, keywords, ordinals};
@@ -24,8 +26,8 @@ use crate::sorted_column::SortedColumn;
 use crate::term_positions::TermPositionLists;
 use fts_base::release;
 use fts_model::{Document, FieldValue, Schema, Stamp, Stamped, Term};
-use fts_pack::List;
 use fts_pack::column::Column;
+use fts_pack::{ListRange, ListRef};
 use std::alloc::AllocError;
 use std::marker::Model;
 use std::sync::Arc;
@@ -33,7 +35,7 @@ use std::sync::Arc;
 /// A reference to the list of a term of a segment.
 #[derive(Clone, Copy)]
 pub struct ListId<'a> {
-    pub(crate) list: &'a List,
+    pub(crate) list: ListRef<'a>,
     pub(crate) positions: Option<TermPositionLists<'a>>,
 }
 
@@ -136,8 +138,8 @@ impl Segment {
     }
 
     /// The numbers of the documents that have a term, rising.
-    pub fn postings<'a>(&self, list: ListId<'a>) -> &'a List
-        ensures { result.now ≡ documents_in list.entry }
+    pub fn postings<'a>(&self, list: ListId<'a>) -> ListRef<'a>
+        ensures { listed result ≡ documents_in list.entry }
     {
         list.list
     }
@@ -165,12 +167,12 @@ impl Segment {
 
     /// The lists of the documents whose number or ordinal lies in `low..=high`, one for each distinct number or ordinal
     /// that a document has. No list is empty, and no document is in two lists.
-    pub fn lists_between(&self, field: usize, low: u64, high: u64) -> &[List]
+    pub fn lists_between(&self, field: usize, low: u64, high: u64) -> ListRange<'_>
         requires { is_ordered_field self.now.schema field ≡ true }
         ensures numbers { is_number_field self.now.schema field ≡ true
-            → AreBetween (column self.now field) low high result.now }
+            → AreBetween (column self.now field) low high (lists_in_range result) }
         ensures ordinals { is_number_field self.now.schema field ≡ false
-            → AreBetween (ordinals self.now field) low high result.now }
+            → AreBetween (ordinals self.now field) low high (lists_in_range result) }
     {
         self.ordered(field).lists_between(low, high)
     }

@@ -1,12 +1,13 @@
 // The sorted numbers of a field: a column, and the documents of each distinct number. The numbers of a keyword field
 // are the ordinals of its keywords.
 ghost use Rattle.std.specs.Prelude.{◌≡◌, ◌+◌};
+ghost use Rattle.fts_pack.specs.ListRange.{lists_in_range};
 ghost use Rattle.fts_segment.specs.Between.{AreBetween, IsCut, NumberColumn, count_between};
 ghost use Rattle.fts_segment.specs.SortedColumns.{IsOrdered, numbers_in};
 
 use crate::binary_search::{lower_bound, upper_bound};
-use fts_pack::List;
 use fts_pack::column::Column;
+use fts_pack::{ListRange, Lists};
 
 /// A view of a number or keyword index: its column and, in order, its distinct numbers with their lists.
 #[derive(Clone, Copy)]
@@ -15,9 +16,7 @@ pub(crate) struct SortedColumn<'a> {
     /// The distinct numbers, rising; none for ordinals, where each number is its list's index.
     pub(crate) numbers: Option<&'a [u64]>,
     /// The documents of each number.
-    pub(crate) lists: &'a [List],
-    /// For each list, the number of documents in the lists before it, followed by the total.
-    pub(crate) sums: &'a [u32],
+    pub(crate) lists: &'a Lists,
 }
 
 impl<'a> SortedColumn<'a> {
@@ -40,13 +39,13 @@ impl<'a> SortedColumn<'a> {
     }
 
     /// The lists of the numbers in `low..=high`.
-    pub(crate) fn lists_between(self, low: u64, high: u64) -> &'a [List]
+    pub(crate) fn lists_between(self, low: u64, high: u64) -> ListRange<'a>
         requires { (column : NumberColumn) × IsOrdered column self }
         ensures { (column : NumberColumn) → IsOrdered column self.entry
-            → AreBetween column low high result.now }
+            → AreBetween column low high (lists_in_range result) }
     {
         let (start, end) = self.cuts(low, high);
-        &self.lists[start.min(end)..end]
+        self.lists.range(start.min(end), end)
     }
 
     /// The number of documents with a number in `low..=high`.
@@ -56,6 +55,6 @@ impl<'a> SortedColumn<'a> {
             → result ≡ count_between low high column }
     {
         let (start, end) = self.cuts(low, high);
-        (self.sums[end] - self.sums[start.min(end)]) as usize
+        self.lists.start(end) - self.lists.start(start.min(end))
     }
 }

@@ -81,7 +81,7 @@ impl TermLog {
         requires rise { (q : List ℕ) → IsStrictlyIncreasing (docs_with q self) }
         requires positions { (q : List ℕ) → All IsPositionList (position_lists_with q self) }
         ensures { IfOk result
-            (λ dictionary. IsDictionaryOf self dictionary.names dictionary.lists.items
+            (λ dictionary. IsDictionaryOf self dictionary.names dictionary.lists
             (term_position_lists dictionary.positions)) }
     {
         let TermLog { terms, mut log } = self;

@@ -77,7 +77,7 @@ fn merge_term(
     ensures parts { OnOk result (parts.new ≡ map (passed term.now) parts.old) }
     ensures names { OnOk result (writer.new.names
         ≡ writer.old.names ++ unless_none (flat_map (given term.now) parts.old) term.now) }
-    ensures lists { OnOk result (writer.new.lists.items ≡ writer.old.lists.items
+    ensures lists { OnOk result (writer.new.lists ≡ writer.old.lists
         ++ unless_none (flat_map (given term.now) parts.old) (documents (flat_map (given term.now) parts.old))) }
     ensures positions { OnOk result (logged_term_position_lists writer.new.positions
         ≡ logged_term_position_lists writer.old.positions
@@ -96,7 +96,7 @@ fn merge_term(
 /// A writer with capacity for the terms and positions of all streams, so that it seldom grows.
 fn writer_for(alloc: Global, parts: &[TermStream<'_>]) -> Result<PostingsWriter, AllocError>
     ensures names { IfOk result (λ writer. writer.names ≡ []) }
-    ensures lists { IfOk result (λ writer. writer.lists.items ≡ []) }
+    ensures lists { IfOk result (λ writer. writer.lists ≡ []) }
     ensures positions { IfOk result (λ writer. logged_term_position_lists writer.positions ≡ []) }
     ensures is { IfOk result (λ writer. IsPositionLog writer.positions) }
 {
@@ -118,7 +118,7 @@ pub(crate) fn merge_terms(
     requires sound { AllByRecursion IsSound parts.old }
     requires rise { (q : List ℕ) → IsStrictlyIncreasing (documents (joined parts.old q)) }
     ensures { IfOk result (λ dictionary. IsJoined parts.old
-        dictionary.names dictionary.lists.items (term_position_lists dictionary.positions)) }
+        dictionary.names dictionary.lists (term_position_lists dictionary.positions)) }
 {
     let mut writer = writer_for(alloc, parts)?;
     let mut docs = Vec::new(alloc);

@@ -10,12 +10,9 @@ use crate::doc_map::DocMap;
 use crate::names::Name;
 use crate::position_copier::PositionCopier;
 use crate::position_lists::PositionListLog;
-use fts_pack::{BLOCK, List};
+use fts_pack::BLOCK;
 use std::alloc::AllocError;
 use std::marker::Model;
-
-/// The number of lists that are read ahead.
-const AHEAD: usize = 32;
 
 /// A cursor over the remaining terms of a source's dictionary, with its documents renumbered. Contracts see the
 /// remaining terms with their postings, and the new numbers.
@@ -29,9 +26,6 @@ pub(crate) struct TermStream<'a> {
     lists: PositionCopier<'a>,
     /// A scratch buffer for a block of documents.
     room: [u32; BLOCK],
-    /// The number of documents of the lists that were read ahead last. It is stored so that the reads aren't optimized
-    /// away.
-    fetched: usize,
 }
 
 impl<'a> Model for TermStream<'a> {
@@ -55,15 +49,6 @@ fn term_at(dictionary: &Dictionary, at: usize) -> Option<Name<'_>>
     }
 }
 
-/// The number of documents of lists, modulo 2^64.
-fn documents_in(lists: &[List]) -> usize {
-    let mut documents = 0usize;
-    for list in lists {
-        documents = documents.wrapping_add(list.len());
-    }
-    documents
-}
-
 impl<'a> TermStream<'a> {
     /// A stream at the first term of a dictionary.
     pub(crate) fn new(dictionary: &'a Dictionary, numbers: DocMap) -> TermStream<'a>
@@ -77,7 +62,6 @@ impl<'a> TermStream<'a> {
             term: term_at(dictionary, 0),
             lists: dictionary.positions.lists.unpacked(),
             room: [0; BLOCK],
-            fetched: 0,
         }
     }
 
@@ -111,19 +95,6 @@ impl<'a> TermStream<'a> {
         }
     }
 
-    /// Reads the next lists ahead, so that they are loaded from memory in parallel. There are too many streams for the
-    /// processor's own prefetching, and a merge would wait for each list when its term comes.
-    fn fetch(&mut self)
-        ensures { self.new ≡ self.old }
-    {
-        if self.at % AHEAD == 0 {
-            let count = self.dictionary.lists.len();
-            let start = self.at.min(count);
-            let end = start.saturating_add(2 * AHEAD).min(count);
-            self.fetched = documents_in(&self.dictionary.lists[start..end]);
-        }
-    }
-
     /// Goes past a term, if it is the next one, and appends its postings: their documents to `docs`, and their
     /// positions to a log.
     pub(crate) fn take_term(
@@ -138,7 +109,9 @@ impl<'a> TermStream<'a> {
             (Puts (given term.now self.old) docs.old.items log.old docs.new.items log.new) }
     {
         if self.is_next(term) {
-            let list = &self.dictionary.lists[self.at];
+            // Shows the proof that the number of terms is a `usize`.
+            let _ = self.dictionary.lists.len();
+            let list = self.dictionary.lists.get(self.at);
             let positions = self.dictionary.positions.get(self.at);
             copy_postings(
                 list,
@@ -151,7 +124,6 @@ impl<'a> TermStream<'a> {
             )?;
             self.at += 1;
             self.term = term_at(self.dictionary, self.at);
-            self.fetch();
         }
         Ok(())
     }

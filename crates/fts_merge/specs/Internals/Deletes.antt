@@ -9,6 +9,7 @@ use Rattle.fts_model.specs.declared.operation.Op.TheVariants.{Add, Delete, Delet
 use Rattle.fts_model.specs.declared.operation.Stamped.{Stamped}
 use Rattle.fts_model.specs.Documents.{DocumentValue}
 use Rattle.fts_model.specs.Operations.{has}
+use Rattle.fts_pack.specs.ListRef.{listed}
 use Rattle.fts_segment.specs.Segments.{SegmentValue, postings}
 use Rattle.fts_merge.specs.declared.term_delete.TermDelete.{TermDelete}
 
@@ -35,7 +36,7 @@ survives_terms schema ops document = not (list_any (λ op. strikes_by_term schem
 
 -- a delete that was looked up has the documents that have its term
 abbrev pub IsFound : SegmentValue → TermDelete → Type 0
-IsFound segment delete = delete.documents.now ≡ postings segment delete.term.now
+IsFound segment delete = listed delete.documents ≡ postings segment delete.term.now
 
 -- a delete that was looked up applies to a document
 abbrev pub strikes_found : List Field → TermDelete → Stamped DocumentValue → Bool

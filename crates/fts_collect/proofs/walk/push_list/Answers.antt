@@ -4,6 +4,7 @@ use Rattle.std.specs.List.{flat_map}
 use Rattle.std.proofs.lemmas.List.{append_assoc, append-nil, take_all, take_more}
 use Rattle.std.proofs.lemmas.List.Elements.{filter-append}
 use Rattle.std.proofs.lemmas.Grind.{flat_map-append}
+use Rattle.fts_pack.specs.ListRef.{listed}
 use Rattle.fts_pack.specs.Documents.{blocks_of}
 use Rattle.fts_pack.specs.SourceLaws.{blocks_joined}
 use Rattle.fts_postings.specs.Sets.{has}
@@ -16,7 +17,7 @@ pub loop-block-preserved : goal.loop-block-preserved
 loop-block-preserved c =
     let p = has c.args.hits.now in
     let old = c.args.found.now.items in
-    let blocks = blocks_of c.args.list.now in
+    let blocks = blocks_of (listed c.args.list) in
     let i = c.loop-block.block in
     let inside : i < length blocks =
     omega (arith, c.loop-block-test.true, c.blocks-block-end.ensures, ap (λ ds. length (blocks_of ds)) c.source-source.ensures.documents) in
@@ -33,8 +34,8 @@ loop-block-preserved c =
 
 pub returns : goal.returns
 returns c =
-    let blocks = blocks_of c.args.list.now in
+    let blocks = blocks_of (listed c.args.list) in
     let whole : length blocks ≤ c.loop-block.block =
     omega (arith, c.loop-block-test.false, c.blocks-block-end.ensures, ap (λ ds. length (blocks_of ds)) c.source-source.ensures.documents) in
     c.loop-block.invariant.found ∙ ap (λ ys. c.args.found.now.items ++ filter (has c.args.hits.now) ys) (ap all (take_all c.loop-block.block blocks whole)
-    ∙ blocks_joined c.args.list.now)
+    ∙ blocks_joined (listed c.args.list))

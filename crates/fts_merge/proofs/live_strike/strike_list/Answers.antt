@@ -3,6 +3,7 @@ use Rattle.std.specs.List.{fold}
 use Rattle.std.proofs.lemmas.List.{take_all}
 use Rattle.std.proofs.lemmas.List.Sums.{fold-append}
 use Rattle.std.proofs.lemmas.List.Elements.{All-take, All-drop}
+use Rattle.fts_pack.specs.ListRef.{listed}
 use Rattle.fts_pack.specs.Documents.{block_at, blocks_of, block_count}
 use Rattle.fts_pack.specs.SourceLaws.{length-blocks_of, get_or-blocks_of}
 use Rattle.fts_merge.specs.Internals.Deletes.{cleared}
@@ -12,7 +13,7 @@ use Rattle.fts_pack.proofs.DocumentsLemmas.{take_block}
 
 pub strike_documents-requires-clause-within : goal.strike_documents-requires-clause-within
 strike_documents-requires-clause-within c =
-    let ns = c.args.list.now in
+    let ns = listed c.args.list in
     let block = c.loop-block.block in
     let P : ℕ → Type 0 = λ n. n < length c.args.segment.now.documents in
     let within : block < block_count (length ns) =
@@ -30,7 +31,7 @@ strike_documents-requires-clause-within c =
 
 pub loop-block-preserved : goal.loop-block-preserved
 loop-block-preserved c =
-    let ns = c.args.list.now in
+    let ns = listed c.args.list in
     let block = c.loop-block.block in
     let f = cleared c.args.segment.now.documents c.args.stamp in
     let within : block < block_count (length ns) =
@@ -59,7 +60,7 @@ loop-block-preserved c =
 
 pub returns : goal.returns
 returns c =
-    let ns = c.args.list.now in
+    let ns = listed c.args.list in
     let all : length ns ≤ c.loop-block.block * 128 =
     omega (arith, c.blocks-block-end.ensures, length-blocks_of ns, ap (λ xs. length (blocks_of xs)) c.source-source.ensures.documents) in
     c.loop-block.invariant.struck ∙ ap (fold (cleared c.args.segment.now.documents c.args.stamp) c.args.live.now) (take_all (c.loop-block.block * 128) ns all)

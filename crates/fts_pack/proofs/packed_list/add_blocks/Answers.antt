@@ -1,10 +1,10 @@
-use Rattle.std.proofs.Common.{◌≡◌, suc, ◌+◌, ◌∙◌, ◌++◌, ◌∷◌, [], ◌<◌, length, drop, sym, ap, refl, arith}
-use Rattle.std.proofs.lemmas.List.{drop_at, append-nil, get_or_default}
+use Rattle.std.proofs.Common.{◌≡◌, suc, ◌+◌, ◌∷◌, [], ◌<◌, length, drop, arith}
+use Rattle.std.proofs.lemmas.List.{get_or_default}
 use Rattle.std.proofs.Math.Facts.{Fits-lt-pow}
 use Rattle.fts_pack.specs.Documents.{block_count, gaps}
 use Rattle.fts_pack.specs.FourLanes.{words_in_lanes}
 use Rattle.fts_pack.proofs.DocumentsLemmas.{Rises-from_increasing, Rises-block, block_sliced, block_count-div_ceil}
-use Rattle.fts_pack.proofs.LongListLemmas.{IsBuilt, IsBuilt-more, IsLongList-built, kept_documents-built, extends_same, extends_on, nothing_built}
+use Rattle.fts_pack.proofs.PackedListLemmas.{IsBuilt, IsBuilt-more, IsPackedList-built, kept_documents-built, extends_same, extends_on, nothing_built}
 use Rattle.fts_pack.proofs.packed_list.add_blocks.Goals as goal
 
 pub loop-block-init : goal.loop-block-init
@@ -48,7 +48,7 @@ returns-clause-ok c =
     omega (arith, c.loop-block-test.false, c.div_ceil-blocks.ensures, block_count-div_ceil (length documents)) in
     let built : IsBuilt documents (block_count (length documents)) c.loop-block.next new c.loop-block.words.items = rw (← all) c.loop-block.invariant.built in
     record {
-      is = IsLongList-built documents c.loop-block.next new c.loop-block.words.items built c.requires (omega arith) (λ k d inside.
+      is = IsPackedList-built documents c.loop-block.next new c.loop-block.words.items built c.requires (omega arith) (λ k d inside.
           rw (get_or_default documents k d 0 inside) (Fits-lt-pow (c.type_inv.documents k)));
       documents_are = kept_documents-built documents c.loop-block.next new c.loop-block.words.items built;
     }

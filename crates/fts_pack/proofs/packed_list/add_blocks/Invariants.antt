@@ -1,6 +1,6 @@
 use Rattle.std.proofs.Common.{drop, length}
-use Rattle.fts_pack.specs.LongList.{Extends}
-use Rattle.fts_pack.proofs.LongListLemmas.{IsBuilt}
+use Rattle.fts_pack.specs.PackedList.{Extends}
+use Rattle.fts_pack.proofs.PackedListLemmas.{IsBuilt}
 use Rattle.fts_pack.proofs.packed_list.add_blocks.Given as goal
 
 abbrev pub invariant-loop-block : goal.invariant-loop-block

@@ -2,6 +2,7 @@ use Rattle.std.proofs.Common.{◌≡◌, ◌++◌, ◌+◌, ◌-◌, ◌*◌, �
 use Rattle.std.specs.Prelude.{slice_range}
 use Rattle.std.proofs.lemmas.List.{length-take, take_all}
 use Rattle.std.proofs.lemmas.List.Elements.{All-weaker}
+use Rattle.fts_pack.specs.ListRef.{listed}
 use Rattle.fts_pack.specs.Documents.{block_at, block_count, blocks_of}
 use Rattle.fts_pack.specs.SourceLaws.{length-block_at, length-blocks_of, get_or-blocks_of}
 use Rattle.fts_segment.specs.Parts.{moved}
@@ -26,9 +27,9 @@ room : (p : TermPositionLists) (list : List ℕ) (lists : List (List ℕ)) → l
     length list ≤ length lists - p.start
 room p list lists same paired = omega (arith, paired, length-take (p.end - p.start) (drop p.start p.lists.now), length-drop p.start p.lists.now, ap length same)
 
-opened_of : (c : After-open-count) → take c.open-count.result c.open-count.new.out ≡ block_at c.args.list.now c.loop-block.block
+opened_of : (c : After-open-count) → take c.open-count.result c.open-count.new.out ≡ block_at (listed c.args.list) c.loop-block.block
 opened_of c =
-    let list = c.args.list.now in
+    let list = listed c.args.list in
     let count : c.blocks-block-end.result ≡ block_count (length list) = c.blocks-block-end.ensures ∙ blocks _ list c.source-source.ensures.documents in
     c.open-count.ensures.documents ∙ ap (λ bs. get_or bs c.loop-block.block []) c.loop-block.invariant.source
     ∙ get_or-blocks_of list c.loop-block.block [] (omega (arith, count, c.loop-block-test.true))
@@ -37,14 +38,14 @@ pub copy_shifted-requires : goal.copy_shifted-requires
 copy_shifted-requires c =
     let numbers = c.args.numbers.now in
     let first = c.in-Some.first in
-    All-weaker (λ doc. doc < length numbers) (λ doc. first + doc < 2 ^ 32) (λ doc within. omega (arith, within, c.in-Some.ensures.fit)) c.args.list.now
+    All-weaker (λ doc. doc < length numbers) (λ doc. first + doc < 2 ^ 32) (λ doc within. omega (arith, within, c.in-Some.ensures.fit)) (listed c.args.list)
     c.requires.numbered
 
 pub returns-in-Some-clause-puts : goal.returns-in-Some-clause-puts
 returns-in-Some-clause-puts c =
     let p = c.args.positions in
     let numbers = c.args.numbers.now in
-    let list = c.args.list.now in
+    let list = listed c.args.list in
     let row = c.in-Some.ensures in
     record {
       is = c.in_ok-move_lists.ensures.is;
@@ -61,7 +62,7 @@ loop-block-init c = record { source = ap blocks_of c.source-source.ensures.docum
 
 pub overflow_mul-start : goal.overflow_mul-start
 overflow_mul-start c =
-    let list = c.args.list.now in
+    let list = listed c.args.list in
     let lists = c.args.lists.now in
     let count : c.blocks-block-end.result ≡ block_count (length list) = c.blocks-block-end.ensures ∙ blocks _ list c.source-source.ensures.documents in
     omega (
@@ -76,7 +77,7 @@ overflow_mul-start c =
 
 pub overflow_add-start : goal.overflow_add-start
 overflow_add-start c =
-    let list = c.args.list.now in
+    let list = listed c.args.list in
     let lists = c.args.lists.now in
     let count : c.blocks-block-end.result ≡ block_count (length list) = c.blocks-block-end.ensures ∙ blocks _ list c.source-source.ensures.documents in
     omega (
@@ -98,8 +99,8 @@ copy_block-requires-clause-within c =
     omega (
       arith,
       ap length (opened_of a),
-      length-block_at c.args.list.now c.loop-block.block,
-      room c.args.positions c.args.list.now (lists_in c.args.lists.now)
+      length-block_at (listed c.args.list) c.loop-block.block,
+      room c.args.positions (listed c.args.list) (lists_in c.args.lists.now)
           c.requires.lists c.requires.paired,
       ap length c.loop-block.invariant.same,
     )
@@ -108,7 +109,7 @@ pub loop-block-preserved : goal.loop-block-preserved
 loop-block-preserved c =
     let a = (goal.at.loop-block-preserved c).After-open-count in
     let l = c.loop-block in
-    let list = c.args.list.now in
+    let list = listed c.args.list in
     let numbers = c.args.numbers.now in
     let lists = lists_in c.args.lists.now in
     let start = c.args.positions.start in
@@ -128,7 +129,7 @@ loop-block-preserved c =
 
 pub returns-clause-puts : goal.returns-clause-puts
 returns-clause-puts c =
-    let list = c.args.list.now in
+    let list = listed c.args.list in
     let numbers = c.args.numbers.now in
     let p = c.args.positions in
     let some = drop p.start p.lists.now in

@@ -1,6 +1,7 @@
 use Rattle.std.proofs.Common.{◌≡◌, ◌<◌, ◌+◌, ◌++◌, ◌^◌, ◌≤◌, ◌*◌, [], All, length, get_or, take, drop, map, sym, subst, ap, ◌∙◌, arith}
 use Rattle.std.proofs.lemmas.List.{take_all}
 use Rattle.std.proofs.lemmas.List.Elements.{All-take, All-drop}
+use Rattle.fts_pack.specs.ListRef.{listed}
 use Rattle.fts_pack.specs.Documents.{block_count, blocks_of, block_at}
 use Rattle.fts_pack.specs.SourceLaws.{length-blocks_of, get_or-blocks_of}
 use Rattle.fts_segment.proofs.MovingLemmas.{shifted-block}
@@ -8,7 +9,7 @@ use Rattle.fts_segment.proofs.copy_postings.copy_shifted.Goals as goal
 
 pub push_shifted-requires : goal.push_shifted-requires
 push_shifted-requires c =
-    let list = c.args.list.now in
+    let list = listed c.args.list in
     let block = c.loop-block.block in
     let count : c.blocks-block-end.result ≡ block_count (length list) =
     c.blocks-block-end.ensures ∙ ap (λ ds. length (blocks_of ds)) c.source-source.ensures.documents ∙ length-blocks_of list in
@@ -20,7 +21,7 @@ push_shifted-requires c =
 
 pub loop-block-preserved : goal.loop-block-preserved
 loop-block-preserved c =
-    let list = c.args.list.now in
+    let list = listed c.args.list in
     let block = c.loop-block.block in
     let count : c.blocks-block-end.result ≡ block_count (length list) =
     c.blocks-block-end.ensures ∙ ap (λ ds. length (blocks_of ds)) c.source-source.ensures.documents ∙ length-blocks_of list in
@@ -36,7 +37,7 @@ loop-block-preserved c =
 
 pub returns : goal.returns
 returns c =
-    let list = c.args.list.now in
+    let list = listed c.args.list in
     let block = c.loop-block.block in
     let count : c.blocks-block-end.result ≡ block_count (length list) =
     c.blocks-block-end.ensures ∙ ap (λ ds. length (blocks_of ds)) c.source-source.ensures.documents ∙ length-blocks_of list in

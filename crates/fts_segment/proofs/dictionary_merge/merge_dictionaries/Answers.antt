@@ -21,7 +21,7 @@ merge_terms-requires-clause-rise c =
 pub returns : goal.returns
 returns c =
     let d = c.in_ok-dictionary.dictionary in
-    let P : List PartValue → Type 0 = λ ps. IsJoined ps d.names d.lists.items (term_position_lists d.positions) in
+    let P : List PartValue → Type 0 = λ ps. IsJoined ps d.names d.lists (term_position_lists d.positions) in
     terms-joined c.args.kind c.args.field c.args.sources.now c.in_ok-parts.parts.items d c.requires.terms c.in_ok-parts.ensures.bits c.in_ok-parts.ensures.are
     c.in_ok-parts.ensures.few
     (subst P c.deref_mut.ensures.value c.in_ok-dictionary.ensures)

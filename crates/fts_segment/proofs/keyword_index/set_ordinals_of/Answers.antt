@@ -1,6 +1,7 @@
 use Rattle.std.proofs.Common.{◌≡◌, ◌<◌, ◌≤◌, ◌*◌, [], All, length, get_or, take, drop, sym, subst, ap, ◌∙◌, arith}
 use Rattle.std.proofs.lemmas.List.{take_all}
 use Rattle.std.proofs.lemmas.List.Elements.{All-take, All-drop}
+use Rattle.fts_pack.specs.ListRef.{listed}
 use Rattle.fts_pack.specs.Documents.{block_count, blocks_of, block_at}
 use Rattle.fts_pack.specs.SourceLaws.{length-blocks_of, get_or-blocks_of}
 use Rattle.fts_segment.specs.Keywords.{with_ordinal}
@@ -9,9 +10,9 @@ use Rattle.fts_segment.proofs.keyword_index.set_ordinals_of.Goals as goal
 use Rattle.fts_segment.proofs.keyword_index.set_ordinals_of.Goals.{After-open-count}
 
 -- the block that was opened
-opened_of : (c : After-open-count) → take c.open-count.result c.open-count.new.out ≡ block_at c.args.list.now c.loop-block.block
+opened_of : (c : After-open-count) → take c.open-count.result c.open-count.new.out ≡ block_at (listed c.args.list) c.loop-block.block
 opened_of c =
-    let list = c.args.list.now in
+    let list = listed c.args.list in
     let block = c.loop-block.block in
     let count : c.blocks-block-end.result ≡ block_count (length list) =
     c.blocks-block-end.ensures ∙ ap (λ ds. length (blocks_of ds)) c.source-source.ensures.documents ∙ length-blocks_of list in
@@ -20,7 +21,7 @@ opened_of c =
 
 pub set_ordinals-requires : goal.set_ordinals-requires
 set_ordinals-requires c =
-    let list = c.args.list.now in
+    let list = listed c.args.list in
     let block = c.loop-block.block in
     let old = c.args.ordinals.now in
     let size : length c.loop-block.ordinals ≡ length old =
@@ -32,14 +33,14 @@ set_ordinals-requires c =
 pub loop-block-preserved : goal.loop-block-preserved
 loop-block-preserved c = record {
   source = c.open-count.ensures.same ∙ c.loop-block.invariant.source;
-  set = with_block c.args.ordinal c.args.ordinals.now c.loop-block.ordinals c.set_ordinals.new.ordinals c.args.list.now c.loop-block.block
+  set = with_block c.args.ordinal c.args.ordinals.now c.loop-block.ordinals c.set_ordinals.new.ordinals (listed c.args.list) c.loop-block.block
       c.loop-block.invariant.set
       (c.set_ordinals.ensures ∙ ap (with_ordinal c.args.ordinal c.loop-block.ordinals) (opened_of (goal.at.loop-block-preserved c).After-open-count));
 }
 
 pub returns : goal.returns
 returns c =
-    let list = c.args.list.now in
+    let list = listed c.args.list in
     let block = c.loop-block.block in
     let count : c.blocks-block-end.result ≡ block_count (length list) =
     c.blocks-block-end.ensures ∙ ap (λ ds. length (blocks_of ds)) c.source-source.ensures.documents ∙ length-blocks_of list in

@@ -22,7 +22,7 @@ loop-number-preserved c =
     record {
       names = names_step groups names l.number places (get_or items l.number d).now l.writer.names c.put.new.writer.names within count here c.get.ensures
           c.in_ok-put.ensures.names l.invariant.names;
-      lists = listed_step docs_in groups l.number places l.writer.lists.items c.put.new.writer.lists.items inside c.get.ensures c.in_ok-put.ensures.lists
+      lists = listed_step docs_in groups l.number places l.writer.lists c.put.new.writer.lists inside c.get.ensures c.in_ok-put.ensures.lists
           l.invariant.lists;
       positions = listed_step position_lists_of groups l.number places (logged_term_position_lists l.writer.positions)
           (logged_term_position_lists c.put.new.writer.positions) inside c.get.ensures c.in_ok-put.ensures.positions l.invariant.positions;

@@ -7,7 +7,7 @@ use Rattle.fts_segment.proofs.postings_writer.write_terms.Given as goal
 abbrev pub invariant-loop-number : goal.invariant-loop-number
 invariant-loop-number l = record {
   names : l.writer.names ++ names_listed (drop l.number l.groups) (drop l.number (map (λ n. n.now) l.names)) ≡ names_listed l.groups (map (λ n. n.now) l.names);
-  lists : l.writer.lists.items ++ listed_by docs_in (drop l.number l.groups) ≡ listed_by docs_in l.groups;
+  lists : l.writer.lists ++ listed_by docs_in (drop l.number l.groups) ≡ listed_by docs_in l.groups;
   positions : logged_term_position_lists l.writer.positions ++ listed_by position_lists_of (drop l.number l.groups) ≡ listed_by position_lists_of l.groups;
   is : IsPositionLog l.writer.positions;
 }

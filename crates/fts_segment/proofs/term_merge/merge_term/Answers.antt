@@ -40,7 +40,7 @@ pub returns-then-is_empty-clause-lists : goal.returns-then-is_empty-clause-lists
 returns-then-is_empty-clause-lists c =
     let a = (goal.at.returns-then-is_empty-clause-lists c).After-is_empty in
     let postings = flat_map (given c.args.term.now) c.args.parts.now in
-    none_put c.args.writer.now.lists.items (documents postings) postings
+    none_put c.args.writer.now.lists (documents postings) postings
     (none_of a (eqb-true (vec_len c.take_from_each.new.docs) 0 (sym c.is_empty.ensures ∙ c.if-is_empty.true)))
 
 pub returns-then-is_empty-clause-positions : goal.returns-then-is_empty-clause-positions
@@ -77,9 +77,9 @@ returns-clause-names c =
 pub returns-clause-lists : goal.returns-clause-lists
 returns-clause-lists c =
     let a = (goal.at.returns-clause-lists c).After-is_empty in
-    let lists = c.args.writer.now.lists.items in
+    let lists = c.args.writer.now.lists in
     let postings = flat_map (given c.args.term.now) c.args.parts.now in
-    some_put lists c.end_term.new.self.lists.items (documents postings) postings
+    some_put lists c.end_term.new.self.lists (documents postings) postings
     (λ none. eqb-false (vec_len c.take_from_each.new.docs) 0 (sym c.is_empty.ensures ∙ c.if-is_empty.false) (empty_of a none))
     (c.in_ok-end_term.ensures.lists ∙ ap (λ ds. lists ++ ds ∷ []) (c.deref.ensures.value ∙ docs_of a))
 

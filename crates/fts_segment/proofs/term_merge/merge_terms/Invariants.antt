@@ -5,7 +5,7 @@ use Rattle.fts_segment.proofs.term_merge.merge_terms.Given as goal
 
 abbrev pub invariant-loop-term : goal.invariant-loop-term
 invariant-loop-term l = record {
-  joining : IsJoining l.fn.parts l.parts l.writer.names l.writer.lists.items (logged_term_position_lists l.writer.positions);
+  joining : IsJoining l.fn.parts l.parts l.writer.names l.writer.lists (logged_term_position_lists l.writer.positions);
   is : IsPositionLog l.writer.positions;
 }
 

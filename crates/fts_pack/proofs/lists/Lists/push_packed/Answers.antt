@@ -1,5 +1,5 @@
 use Rattle.std.proofs.Common.{[], ◌∷◌, ◌++◌, ◌∙◌, ap, length, refl, arith}
-use Rattle.fts_pack.proofs.LongListLemmas.{extends_equal, extends_more, extends_same}
+use Rattle.fts_pack.proofs.PackedListLemmas.{extends_equal, extends_more, extends_same}
 use Rattle.fts_pack.proofs.ListsLemmas.{buffers, with_packed, IsExtended-packed, end_of-all, kept, on_err, pushed-packed}
 use Rattle.fts_pack.proofs.lists.Lists.push_packed.Goals as goal
 

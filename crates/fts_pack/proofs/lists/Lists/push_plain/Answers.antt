@@ -1,5 +1,5 @@
 use Rattle.std.proofs.Common.{[], ◌∷◌, ◌++◌, ◌∙◌, ap, length, arith}
-use Rattle.fts_pack.proofs.LongListLemmas.{extends_more}
+use Rattle.fts_pack.proofs.PackedListLemmas.{extends_more}
 use Rattle.fts_pack.proofs.ListsLemmas.{buffers, with_plain, IsExtended-plain, end_of-all, kept, on_err, pushed-plain}
 use Rattle.fts_pack.proofs.lists.Lists.push_plain.Goals as goal
 

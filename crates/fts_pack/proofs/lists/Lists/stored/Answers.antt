@@ -1,10 +1,11 @@
 use Rattle.std.proofs.Common.{◌≡◌, ◌<◌, ◌-◌, [], IfSome, ◌∙◌, sym, ap, ap₂, subst, length, get_or, take, drop, arith}
-use Rattle.fts_pack.specs.DenseList.{AreBitsOf}
+use Rattle.fts_pack.specs.ListBits.{AreBitsOf}
 use Rattle.fts_pack.specs.Documents.{block_count}
-use Rattle.fts_pack.specs.LongList.{IsLongList, kept_documents}
+use Rattle.fts_pack.specs.PackedList.{IsPackedList, kept_documents}
 use Rattle.fts_pack.specs.Lists.{blocks_from}
+use Rattle.fts_pack.specs.StoredList.{documents_packed}
 use Rattle.fts_pack.proofs.DocumentsLemmas.{block_count-div_ceil}
-use Rattle.fts_pack.proofs.LongListLemmas.{length-kept_documents}
+use Rattle.fts_pack.proofs.PackedListLemmas.{length-kept_documents}
 use Rattle.fts_pack.proofs.ListsLemmas.{buffers, bits_borrowed, length-lists_in, list_read, long_read, place-plain}
 use Rattle.fts_pack.proofs.lists.Lists.stored.Goals as goal
 
@@ -83,8 +84,8 @@ new-requires c = let n = c.self.inside in
     let size : c.div_ceil.result ≡ block_count count = omega (arith, c.div_ceil.ensures, block_count-div_ceil count) in
     let blocks : c.split_at-3.result.0.now ≡ blocks_from b count long.first =
     c.split_at-3.ensures.front ∙ ap₂ take size (c.split_at-2.ensures.back ∙ ap (drop long.first) c.deref-2.ensures.value) in
-    subst (IsLongList count c.split_at-3.result.0.now) (sym c.deref-3.ensures.value)
-    (subst (λ bs. IsLongList count bs b.words) (sym blocks) l.1.is)
+    subst (IsPackedList count c.split_at-3.result.0.now) (sym c.deref-3.ensures.value)
+    (subst (λ bs. IsPackedList count bs b.words) (sym blocks) l.1.is)
 
 pub returns-clause-documents : goal.returns-clause-documents
 returns-clause-documents c = let n = c.self.inside in
@@ -114,7 +115,7 @@ returns-clause-form c = let n = c.self.inside in
     let size : c.div_ceil.result ≡ block_count count = omega (arith, c.div_ceil.ensures, block_count-div_ceil count) in
     let blocks : c.split_at-3.result.0.now ≡ blocks_from b count long.first =
     c.split_at-3.ensures.front ∙ ap₂ take size (c.split_at-2.ensures.back ∙ ap (drop long.first) c.deref-2.ensures.value) in
-    let kept : c.new.result ≡ kept_documents b.words 0 count (blocks_from b count long.first) =
+    let kept : documents_packed c.new.result ≡ kept_documents b.words 0 count (blocks_from b count long.first) =
     c.new.ensures ∙ ap₂ (λ ws bs. kept_documents ws 0 count bs) c.deref-3.ensures.value blocks in
     let documents = get_or c.args.self.now c.args.number [] in
     let bits : IfSome c.as_ref.result (λ bs. AreBitsOf documents bs.now) =

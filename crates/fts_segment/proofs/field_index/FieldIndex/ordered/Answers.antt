@@ -7,10 +7,9 @@ use Rattle.fts_segment.proofs.field_index.FieldIndex.ordered.Goals as goal
 pub returns-in-Keywords : goal.returns-in-Keywords
 returns-in-Keywords c vs is =
     let P : FieldIndex → Type 0 = IsFieldIndex c.args.kind vs in
-    IsOrdered-keywords c.args.kind vs _ _ (subst P c.in-Keywords.is is) refl refl c.deref.ensures.value c.deref-in-Keywords.ensures.value
+    IsOrdered-keywords c.args.kind vs _ _ (subst P c.in-Keywords.is is) refl refl refl
 
 pub returns-in-Numbers : goal.returns-in-Numbers
 returns-in-Numbers c vs is =
     let P : FieldIndex → Type 0 = IsFieldIndex c.args.kind vs in
-    IsOrdered-numbers c.args.kind vs _ _ _ (subst P c.in-Numbers.is is) refl refl c.as_slice.ensures.value
-    c.deref-in-Numbers.ensures.value c.deref-in-Numbers-2.ensures.value
+    IsOrdered-numbers c.args.kind vs _ _ _ (subst P c.in-Numbers.is is) refl refl c.as_slice.ensures.value refl

@@ -1,12 +1,7 @@
-use Rattle.std.proofs.Common.{ℕ, List, Option, Some, All, Contains, ap, get_or, length, map, sym, subst, ◌∙◌, arith}
-use Rattle.std.proofs.lemmas.List.{length-map}
-use Rattle.fts_model.specs.Documents.{value_in_field}
+use Rattle.std.proofs.Common.{ℕ, List, Option, Some, All, Contains, map, sym, subst, ◌∙◌, arith}
 use Rattle.fts_segment.specs.Dictionaries.{docs_in}
 use Rattle.fts_segment.specs.Occurrences.{values_in}
 use Rattle.fts_segment.specs.Numbers.{numbers_of, IsNumberIndex}
-use Rattle.fts_segment.specs.Segments.{number_of}
-use Rattle.fts_segment.specs.Sums.{total}
-use Rattle.fts_segment.proofs.CountLemmas.{AreCounted-numbers, total-all}
 use Rattle.fts_segment.proofs.NumberLemmas.{group_docs, groups_rise, IsNumberIndex-listed}
 use Rattle.fts_segment.proofs.number_index.NumberIndex.new.Goals as goal
 
@@ -24,32 +19,6 @@ lists_of-requires-clause-rise c =
     c.deref-4.result.now
     c.deref-3.ensures.value c.deref-2.ensures.value c.deref-4.ensures.value c.in_ok-log.ensures.docs
     (λ t below. c.in_ok-groups.ensures.groups t (omega (arith, c.len.ensures, c.in_ok-numbers.numbers.ok.0))))
-
-pub sums_of-requires : goal.sums_of-requires
-sums_of-requires c =
-    let documents = c.args.documents.now in
-    let values = c.in_ok-values.values.items in
-    let numbers = c.in_ok-numbers.numbers.items in
-    let P : List (Option ℕ) → Type 0 = λ vs. All (λ x. Contains vs (Some x)) numbers in
-    let Q : List (Option ℕ) → Type 0 = λ vs. (x : ℕ) → Contains vs (Some x) → Contains numbers x in
-    let index = IsNumberIndex-listed numbers values c.in_ok-groups.groups
-    (omega (arith, c.in_ok-groups.ensures.count, c.len.ensures, c.in_ok-numbers.numbers.ok.0))
-    (group_docs numbers values c.in_ok-log.log.items c.in_ok-groups.groups c.deref-3.result.now c.deref-2.result.now c.deref-4.result.now
-    c.deref-3.ensures.value c.deref-2.ensures.value c.deref-4.ensures.value c.in_ok-log.ensures.docs
-    (λ t below. c.in_ok-groups.ensures.groups t (omega (arith, c.len.ensures, c.in_ok-numbers.numbers.ok.0))))
-    c.in_ok-numbers.ensures.rises (subst P c.deref.ensures.value c.in_ok-numbers.ensures.occur) (subst Q c.deref.ensures.value c.in_ok-numbers.ensures.whole) in
-    let all = total-all values (map docs_in c.in_ok-groups.groups) (λ k. get_or numbers k 0)
-    (AreCounted-numbers values numbers (map docs_in c.in_ok-groups.groups) index) in
-    omega (
-      arith,
-      c.requires,
-      all,
-      ap total (c.deref-5.ensures.value ∙ c.in_ok-lists.ensures),
-      ap length c.in_ok-values.ensures.numbers,
-      length-map
-          (values_in c.args.field documents) (number_of c.args.kind),
-      length-map documents (λ d. value_in_field d.value c.args.field),
-    )
 
 pub returns-clause-index : goal.returns-clause-index
 returns-clause-index c =

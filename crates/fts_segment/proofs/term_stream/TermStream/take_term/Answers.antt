@@ -1,5 +1,5 @@
-use Rattle.std.proofs.Common.{◌≡◌, ◌<◌, true, [], All, length, get_or, drop, ap, ap₂, sym, subst, ◌∙◌, arith}
-use Rattle.std.proofs.lemmas.List.{get_or_read}
+use Rattle.std.proofs.Common.{◌≡◌, ◌^◌, ◌<◌, true, [], All, length, get_or, drop, ap, ap₂, sym, subst, ◌∙◌, arith}
+use Rattle.fts_pack.specs.ListRef.{listed}
 use Rattle.fts_segment.specs.Parts.{PartValue, begins, given, passed, moved}
 use Rattle.fts_segment.specs.Postings.{postings_of}
 use Rattle.fts_segment.specs.TermPositionLists.{position_lists_in}
@@ -16,12 +16,11 @@ within_of : (c : After-get-positions) → c.self.inside.at < length c.self.insid
 within_of c = begins-within c.args.term.now c.self.inside.dictionary.now.names c.self.inside.at (next_of c)
 
 -- the list of the term's documents
-list_of : (c : After-get-positions) → c.index-list.result.now ≡ get_or c.self.inside.dictionary.now.lists.items c.self.inside.at []
-list_of c = let d = c.self.inside.dictionary.now in
-    get_or_read d.lists.items c.self.inside.at _ (omega (arith, within_of c, c.self.invariant.whole.listed)) c.index-list.ensures []
+list_of : (c : After-get-positions) → listed c.get-list.result ≡ get_or c.self.inside.dictionary.now.lists c.self.inside.at []
+list_of c = c.get-list.ensures
 
 -- the postings that the stream gives for the term
-given_of : (c : After-get-positions) → moved c.self.inside.numbers (postings_of c.index-list.result.now (position_lists_in c.get-positions.result))
+given_of : (c : After-get-positions) → moved c.self.inside.numbers (postings_of (listed c.get-list.result) (position_lists_in c.get-positions.result))
     ≡ given c.args.term.now c.args.self.now
 given_of c =
     let p = c.self.inside in
@@ -42,6 +41,12 @@ copy_postings-requires-clause-numbered c =
     let p = c.self.inside in
     subst (All (λ doc. doc < length p.numbers)) (sym (list_of a)) (c.self.invariant.whole.numbered p.at (within_of a))
 
+pub overflow_add-self : goal.overflow_add-self
+overflow_add-self c =
+    let a = (goal.at.overflow_add-self c).After-get-positions in
+    let fits : c.len.result < 2 ^ 64 = c.len.type_inv in
+    omega (arith, within_of a, c.self.invariant.whole.listed, c.len.ensures, fits)
+
 pub invariant_of-self : goal.invariant_of-self
 invariant_of-self c =
     record { whole = c.self.invariant.whole; next = c.self.invariant.next; lists_are = c.copy_postings.ensures.same ∙ c.self.invariant.lists_are }
@@ -54,8 +59,7 @@ pub returns-in_ok-copy_postings-clause-part : goal.returns-in_ok-copy_postings-c
 returns-in_ok-copy_postings-clause-part c =
     let a = (goal.at.returns-in_ok-copy_postings-clause-part c).After-get-positions in
     let p = c.self.inside in
-    c.fetch.ensures
-    ∙ sym (passed-here c.args.term.now p.at p.dictionary.now p.numbers c.self.invariant.whole (next_of a)) ∙ ap (passed c.args.term.now) c.self.view_is
+    sym (passed-here c.args.term.now p.at p.dictionary.now p.numbers c.self.invariant.whole (next_of a)) ∙ ap (passed c.args.term.now) c.self.view_is
 
 pub returns-in_ok-copy_postings-clause-puts : goal.returns-in_ok-copy_postings-clause-puts
 returns-in_ok-copy_postings-clause-puts c =

@@ -11,7 +11,7 @@ use Rattle.fts_pack.specs.Documents.{gaps, documents_at, block_count, block_at, 
 use Rattle.fts_pack.specs.bits.Digits.{IsWidthOf}
 use Rattle.fts_pack.specs.FourLanes.{words_in_lanes}
 use Rattle.fts_pack.specs.BlockMeta.{numbers_at, IsWithin}
-use Rattle.fts_pack.specs.LongList.{Extends, kept_block, kept_documents, IsSkipAdded, IsKeptBlock, AreKept, IsLongList}
+use Rattle.fts_pack.specs.PackedList.{Extends, kept_block, kept_documents, IsSkipAdded, IsKeptBlock, AreKept, IsPackedList}
 use Rattle.fts_pack.proofs.LaneLemmas.{length-numbers_in_lanes, length-words_in_lanes}
 use Rattle.fts_pack.proofs.PackedLemmas.{numbers_at-append, numbers_at-added, IsWithin-append, IsWithin-added}
 use Rattle.fts_pack.proofs.DocumentsLemmas.{Rises-block, take_block, documents_at-gaps, length-gaps, length-documents_at, after-append, after_last}
@@ -254,10 +254,10 @@ kept_documents-built documents next skips words h =
     let all : min (blocks * 128) (length documents) ≡ length documents = omega arith in
     ap (λ n. kept_documents words 0 n skips) (sym all) ∙ h.documents_are ∙ take_all (blocks * 128) documents (omega arith)
 
-pub IsLongList-built : (documents : List ℕ) (next : ℕ) (skips : List Skip) (words : List ℕ) →
+pub IsPackedList-built : (documents : List ℕ) (next : ℕ) (skips : List Skip) (words : List ℕ) →
     IsBuilt documents (block_count (length documents)) next skips words → IsStrictlyIncreasing documents → length documents < 2 ^ 64 →
-    All (λ document. document < 2 ^ 32) documents → IsLongList (length documents) skips words
-IsLongList-built documents next skips words h rises few fits =
+    All (λ document. document < 2 ^ 32) documents → IsPackedList (length documents) skips words
+IsPackedList-built documents next skips words h rises few fits =
     let blocks = block_count (length documents) in
     let all : min (blocks * 128) (length documents) ≡ length documents = omega arith in
     let same = kept_documents-built documents next skips words h in
@@ -269,11 +269,11 @@ IsLongList-built documents next skips words h rises few fits =
     }
 
 pub long_length : (value : List ℕ) (count : ℕ) (skips : List Skip) (words : List ℕ) → kept_documents words 0 count skips ≡ value →
-    IsLongList count skips words → count ≡ length value
+    IsPackedList count skips words → count ≡ length value
 long_length value count skips words view h = sym (length-kept_documents words 0 count skips h.kept) ∙ ap length view
 
 pub long_blocks : (value : List ℕ) (count : ℕ) (skips : List Skip) (words : List ℕ) → kept_documents words 0 count skips ≡ value →
-    IsLongList count skips words → length skips ≡ block_count (length value)
+    IsPackedList count skips words → length skips ≡ block_count (length value)
 long_blocks value count skips words view h =
     length-kept_skips words 0 count skips h.kept ∙ ap block_count (long_length value count skips words view h)
 
@@ -291,7 +291,7 @@ pub record Reads (value : List ℕ) (count : ℕ) (words : List ℕ) (block : �
   pub fits : All (λ document. document < 2 ^ 32) (block_at value block)
 
 pub block_read : (value : List ℕ) (count : ℕ) (skips : List Skip) (words : List ℕ) (block : ℕ) (skip : Skip) → kept_documents words 0 count skips ≡ value →
-    IsLongList count skips words → block < block_count (length value) → skip ≡ get_or skips block skip → Reads value count words block skip
+    IsPackedList count skips words → block < block_count (length value) → skip ≡ get_or skips block skip → Reads value count words block skip
 block_read value count skips words block skip view h inside skip_is =
     let many = long_length value count skips words view h in
     let blocks = long_blocks value count skips words view h in
@@ -321,7 +321,7 @@ block_read value count skips words block skip view h inside skip_is =
 
 -- the least document of a later block is above the last of the block before
 pub first_of_block : (value : List ℕ) (count : ℕ) (skips : List Skip) (words : List ℕ) (block : ℕ) (skip : Skip) → kept_documents words 0 count skips ≡ value →
-    IsLongList count skips words → block < block_count (length value) → block ≢ 0 → skip ≡ get_or skips (block - 1) skip →
+    IsPackedList count skips words → block < block_count (length value) → block ≢ 0 → skip ≡ get_or skips (block - 1) skip →
     suc skip.last ≡ after 0 (take (block * 128) value)
 first_of_block value count skips words block skip view h inside later skip_is =
     let blocks = long_blocks value count skips words view h in
@@ -337,7 +337,7 @@ head_at_least next (number ∷ numbers) some = omega arith
 
 -- the least document that a block may have fits 32 bits
 pub first_fits : (value : List ℕ) (count : ℕ) (skips : List Skip) (words : List ℕ) (block : ℕ) (d : Skip) → kept_documents words 0 count skips ≡ value →
-    IsLongList count skips words → block < block_count (length value) → after 0 (take (block * 128) value) < 2 ^ 32
+    IsPackedList count skips words → block < block_count (length value) → after 0 (take (block * 128) value) < 2 ^ 32
 first_fits value count skips words block d view h inside =
     let blocks = long_blocks value count skips words view h in
     let skip = get_or skips block d in
@@ -350,8 +350,8 @@ first_fits value count skips words block d view h inside =
     omega (arith, head_at_least first numbers some, all 0 0 some)
 
 -- blocks do not change when words are appended
-pub IsLongList-append : (words more : List ℕ) (count : ℕ) (skips : List Skip) → IsLongList count skips words → IsLongList count skips (words ++ more)
-IsLongList-append words more count skips h =
+pub IsPackedList-append : (words more : List ℕ) (count : ℕ) (skips : List Skip) → IsPackedList count skips words → IsPackedList count skips (words ++ more)
+IsPackedList-append words more count skips h =
     let same = kept_documents-append words more 0 count skips h.kept in
     record {
       count_fits = h.count_fits;

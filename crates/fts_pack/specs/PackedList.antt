@@ -33,7 +33,7 @@ AreKept words next count (skip ∷ skips) =
     IsKeptBlock words next count skip × AreKept words (suc skip.last) (count - 128) skips
 
 -- the blocks have `count` documents, which rise strictly
-pub record IsLongList (count : ℕ) (skips : List Skip) (words : List ℕ) : Type 0 where
+pub record IsPackedList (count : ℕ) (skips : List Skip) (words : List ℕ) : Type 0 where
   pub count_fits : count < 2 ^ 64
   pub kept : AreKept words 0 count skips
   pub rises : IsStrictlyIncreasing (kept_documents words 0 count skips)
@@ -50,5 +50,5 @@ Extends old new = new ≡ old ++ drop (length old) new
 
 -- the blocks of documents were appended to the skip entries
 pub record AreBlocksAdded (documents : List ℕ) (before skips : List Skip) (words : List ℕ) : Type 0 where
-  pub is : IsLongList (length documents) (drop (length before) skips) words
+  pub is : IsPackedList (length documents) (drop (length before) skips) words
   pub documents_are : kept_documents words 0 (length documents) (drop (length before) skips) ≡ documents

@@ -1,5 +1,0 @@
-use Rattle.fts_pack.proofs.LongListLemmas.{long_length}
-use Rattle.fts_pack.proofs.long_list.LongList.len.Goals as goal
-
-pub returns : goal.returns
-returns c = long_length c.args.self.now _ _ _ c.self.view_is c.self.invariant
