@@ -17,37 +17,7 @@ use Rattle.fts_cursor.specs.Dense.{AreWithin, Tells, in_each, in_one, is_dense}
 use Rattle.fts_postings.specs.Windows.{is_marked, marked, passing}
 use Rattle.fts_postings.proofs.PassingLemmas.{passing-append}
 use Rattle.fts_postings.proofs.WindowLemmas.{passing-same, nothing}
-
-or_one : (a b : ℕ) → a < 2 → b < 2 → (max a b == 1) ≡ ((a == 1) || (b == 1))
-or_one zero zero low high = refl
-or_one zero (suc zero) low high = refl
-or_one (suc zero) zero low high = refl
-or_one (suc zero) (suc zero) low high = refl
-or_one (suc (suc a)) b low high = absurd (omega (arith, low))
-or_one a (suc (suc b)) low high = absurd (omega (arith, high))
-
-and_one : (a b : ℕ) → a < 2 → b < 2 → (min a b == 1) ≡ ((a == 1) && (b == 1))
-and_one zero zero low high = refl
-and_one zero (suc zero) low high = refl
-and_one (suc zero) zero low high = refl
-and_one (suc zero) (suc zero) low high = refl
-and_one (suc (suc a)) b low high = absurd (omega (arith, low))
-and_one a (suc (suc b)) low high = absurd (omega (arith, high))
-
-not_one : (a : ℕ) → a < 2 → (1 - a == 1) ≡ not (a == 1)
-not_one zero low = refl
-not_one (suc zero) low = refl
-not_one (suc (suc a)) low = absurd (omega (arith, low))
-
--- words joined
-pub bit_of_or : (a b k : ℕ) → (bit_at (bit_or a b) k == 1) ≡ ((bit_at a k == 1) || (bit_at b k == 1))
-bit_of_or a b k = ap (λ n. n == 1) (bit_at_or a b k) ∙ or_one (bit_at a k) (bit_at b k) (bit_at-lt a k) (bit_at-lt b k)
-
-pub bit_of_and : (a b k : ℕ) → (bit_at (bit_and a b) k == 1) ≡ ((bit_at a k == 1) && (bit_at b k == 1))
-bit_of_and a b k = ap (λ n. n == 1) (bit_at_and a b k) ∙ and_one (bit_at a k) (bit_at b k) (bit_at-lt a k) (bit_at-lt b k)
-
-pub bit_of_not : (a k : ℕ) → a < 2 ^ 64 → k < 64 → (bit_at (bit_not w64 a) k == 1) ≡ not (bit_at a k == 1)
-bit_of_not a k fits inside = ap (λ n. n == 1) (bit_at_not w64 a k fits inside) ∙ not_one (bit_at a k) (bit_at-lt a k)
+use Rattle.fts_postings.proofs.WordsLemmas.{bit_of_and, bit_of_not, bit_of_or}
 
 pub Tells-every : (list : List (Bor (List Bool))) (from : ℕ) → Tells (in_each (take 0 list)) from (2 ^ 64 - 1)
 Tells-every list from k inside = ap (λ n. n == 1) (bit_at_ones 64 k inside)

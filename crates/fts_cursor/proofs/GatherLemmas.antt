@@ -70,13 +70,13 @@ passing-behind p a (suc n) d high =
 
 found_behind : (w : Window) (d : ℕ) → w.last < d → has (found w) d ≡ false
 found_behind w d high = elim (cases_lt w.last w.from) [
-  | inl over ↦ let none : suc w.last - w.from ≡ 0 = omega (arith, over) in ap (λ n. has (passing (is_found w.base w.marks.items) w.from n) d) none
-  | inr stands ↦ passing-behind (is_found w.base w.marks.items) w.from (suc w.last - w.from) d (omega (arith, high, stands))
+  | inl over ↦ let none : suc w.last - w.from ≡ 0 = omega (arith, over) in ap (λ n. has (passing (is_found w.base w.words) w.from n) d) none
+  | inr stands ↦ passing-behind (is_found w.base w.words) w.from (suc w.last - w.from) d (omega (arith, high, stands))
 ]
 
 found_rises : (w : Window) → Rises 0 (found w)
 found_rises w = Rises-from_increasing (found w)
-    (increasing-from_Rises w.from (found w) (Rises-passing (is_found w.base w.marks.items) w.from (suc w.last - w.from)))
+    (increasing-from_Rises w.from (found w) (Rises-passing (is_found w.base w.words) w.from (suc w.last - w.from)))
 
 found_first : (w : Window) (doc : ℕ) → Some doc ≡ slice_get (found w) 0 → doc ≤ w.last
 found_first w doc first = elim (cases_lt w.last doc) [
@@ -414,8 +414,8 @@ passing-up_to p a (suc n) last h =
 found_up_to : (w : Window) → AreUpTo w.last (found w)
 found_up_to w = elim (cases_lt w.last w.from) [
   | inl over ↦ let none : suc w.last - w.from ≡ 0 = omega (arith, over) in
-      subst (λ n. AreUpTo w.last (passing (is_found w.base w.marks.items) w.from n)) (sym none) tt
-  | inr stands ↦ passing-up_to (is_found w.base w.marks.items) w.from (suc w.last - w.from) w.last (omega (arith, stands))
+      subst (λ n. AreUpTo w.last (passing (is_found w.base w.words) w.from n)) (sym none) tt
+  | inr stands ↦ passing-up_to (is_found w.base w.words) w.from (suc w.last - w.from) w.last (omega (arith, stands))
 ]
 
 -- the window's documents come first, and then those of the parts

@@ -10,6 +10,8 @@ use Rattle.std.proofs.lemmas.List.Folds.{list_all-append}
 use Rattle.std.proofs.lemmas.List.Sums.{fold-append, sum_by-cons}
 use Rattle.std.proofs.Math.Bool.{and-false, and-true}
 use Rattle.std.specs.Prelude.{if◌then◌else◌}
+use Rattle.fts_pack.specs.declared.list_ref.ListRef.{ListRef}
+use Rattle.fts_pack.specs.ListRef.{listed}
 use Rattle.fts_model.specs.declared.query.Query.{Query}
 use Rattle.fts_model.proofs.QueriesBoolean.{matches_in}
 use Rattle.fts_pack.specs.Documents.{Rises, block_count, blocks_of}
@@ -114,8 +116,8 @@ no_hits segment (q ∷ qs) some none =
     numbers_are _ segment.documents [] tt (λ d. sym (none d) ∙ in_all-hits segment (q ∷ qs) d ∙ at_all segment.schema (slice_get segment.documents d) q qs)
 
 -- the lists of cursors
-abbrev pub lists_of : List (Bor (List ℕ)) → List (List ℕ)
-lists_of ls = map (λ l. l.now) ls
+abbrev pub lists_of : List ListRef → List (List ℕ)
+lists_of ls = map listed ls
 
 some_in : (xs : List ℕ) (d : ℕ) → has xs d ≡ true → 0 < length xs
 some_in [] d h = absurd (false≢true h)
@@ -132,7 +134,7 @@ record AreOver (ps : List Posting) (lists : List (List ℕ)) : Type 0 where
   pub tied : All IsTied ps
   pub enters : (d : ℕ) → in_all lists d ≡ true → length ps ≤ sum_by (λ p. p.count) ps
 
-are_over : (ps : List Posting) (ls : List (Bor (List ℕ))) → AllZip (λ p l. IsOver p l.now) ps ls → AreOver ps (lists_of ls)
+are_over : (ps : List Posting) (ls : List ListRef) → AllZip (λ p l. IsOver p (listed l)) ps ls → AreOver ps (lists_of ls)
 are_over [] [] h = record { remaining = refl; opened = All-nil (λ p. p.opened ≤ 1); tied = All-nil IsTied; enters = λ d at. omega arith }
 are_over [] (l ∷ ls) h = absurd h
 are_over (p ∷ ps) [] h = absurd h
@@ -143,8 +145,8 @@ are_over (p ∷ ps) (l ∷ ls) h =
       opened = All-cons (λ q. q.opened ≤ 1) p ps (omega (arith, h.0.opened, h.0.tied)) rest.opened;
       tied = All-cons IsTied p ps h.0.tied rest.tied;
       enters = λ d at.
-          let both = and_parts (has l.now d) (in_all (lists_of ls) d) at in
-          omega (arith, h.0.enters (some_in l.now d both.0), h.0.tied, rest.enters d both.1, sum_by-cons (λ q. q.count) p ps);
+          let both = and_parts (has (listed l) d) (in_all (lists_of ls) d) at in
+          omega (arith, h.0.enters (some_in (listed l) d both.0), h.0.tied, rest.enters d both.1, sum_by-cons (λ q. q.count) p ps);
     }
 
 -- a conjunction of cursors over lists, as they were made
@@ -161,7 +163,7 @@ length_zip R [] (y ∷ ys) h = absurd h
 length_zip R (x ∷ xs) [] h = absurd h
 length_zip R (x ∷ xs) (y ∷ ys) h = omega (arith, length_zip R xs ys h.1)
 
-length_lists : (ls : List (Bor (List ℕ))) → length (lists_of ls) ≡ length ls
+length_lists : (ls : List ListRef) → length (lists_of ls) ≡ length ls
 length_lists [] = refl
 length_lists (l ∷ ls) = omega (arith, length_lists ls)
 
@@ -198,17 +200,17 @@ pub record IsConjoinedOver (shortest : List ℕ) (others : List (List ℕ)) (c :
   pub bound : bound_of c ≡ bound_over shortest (length others)
   pub opened : (d : ℕ) → has shortest d ≡ true → in_all others d ≡ true → suc (length others) ≤ counts_of c
 
-pub fresh_others : (ps : List Posting) (ls : List (Bor (List ℕ))) → AllZip (λ p l. IsOver p l.now) ps ls → All (λ p. p.opened ≤ 1) ps
+pub fresh_others : (ps : List Posting) (ls : List ListRef) → AllZip (λ p l. IsOver p (listed l)) ps ls → All (λ p. p.opened ≤ 1) ps
 fresh_others ps ls zip = (are_over ps ls zip).opened
 
-pub conjoined_over : (shortest : List ℕ) (ls : List (Bor (List ℕ))) (lead : Posting) (ps : List Posting) (c : Conjoined) → IsOver lead shortest →
-    AllZip (λ p l. IsOver p l.now) ps ls →
+pub conjoined_over : (shortest : List ℕ) (ls : List ListRef) (lead : Posting) (ps : List Posting) (c : Conjoined) → IsOver lead shortest →
+    AllZip (λ p l. IsOver p (listed l)) ps ls →
     AllFollow (record { lead = lead; others = ps }) c → common_of c ≡ common (remaining_of lead) (each_remaining ps) → IsConjoinedOver shortest (lists_of ls) c
 conjoined_over shortest ls lead ps c over zip follows same =
     let rest = are_over ps ls zip in
     let on = terms-continue (record { lead = lead; others = ps }) c follows (over.tied, rest.tied) in
     let continues = on.0 [] [] in
-    let many : length ps ≡ length (lists_of ls) = omega (arith, length_zip (λ (p : Posting) (l : Bor (List ℕ)). IsOver p l.now) ps ls zip, length_lists ls) in
+    let many : length ps ≡ length (lists_of ls) = omega (arith, length_zip (λ (p : Posting) (l : ListRef). IsOver p (listed l)) ps ls zip, length_lists ls) in
     let lead_is : bound_of (record { lead = lead; others = ps }) ≡ bound_over shortest (length ps) =
     ap (λ (bs : List (List ℕ)). bound_of (record { lead = record lead { blocks = bs }; others = ps })) over.blocks
     ∙ ap₂ (λ (n : ℕ) (xs : List ℕ). let b : Bound = record { blocks = n; lead = xs; others = length ps } in b) (length-blocks_of shortest)

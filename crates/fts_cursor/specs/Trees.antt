@@ -22,7 +22,7 @@ use Rattle.fts_postings.specs.declared.window.Window.{Window}
 
 -- the documents of a window
 abbrev pub found : Window → List ℕ
-found window = found_in window.base window.from window.last window.marks.items
+found window = found_in window.base window.from window.last window.words
 
 -- each of the lists begins after the window
 abbrev pub AreBeyond : Window → List (List ℕ) → Type 0

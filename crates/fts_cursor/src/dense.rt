@@ -69,8 +69,8 @@ impl Dense<'_> {
 #[derive(Drop)]
 pub(crate) struct Row {
     read: bool,
-    from: usize,
-    words: [u64; 16],
+    pub(crate) from: usize,
+    pub(crate) words: [u64; 16],
 }
 
 impl Row {
@@ -113,7 +113,7 @@ impl Row {
 
     /// Reads the words from there on, if those of 128 documents from there on were not read yet.
     #[inline]
-    fn reach(&mut self, dense: &Dense, from: usize)
+    pub(crate) fn reach(&mut self, dense: &Dense, from: usize)
         requires aligned { from % 64 ≡ 0 }
         requires near { from < 2 ^ 63 }
         requires held { HoldsRow (is_dense dense.now) self.old }

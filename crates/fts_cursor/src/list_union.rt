@@ -3,9 +3,11 @@ ghost use Rattle.std.specs.Prelude.{◌≡◌, ◌+◌, ◌≤◌, IfOk, OnOk, �
 ghost use Rattle.std.specs.List.{flat_map};
 ghost use Rattle.std.specs.List.Sorted.{IsStrictlyIncreasing};
 ghost use Rattle.fts_pack.specs.Documents.{block_count};
+ghost use Rattle.fts_pack.specs.ListRange.{lists_in_range};
+ghost use Rattle.fts_pack.specs.ListRef.{listed};
 ghost use Rattle.fts_pack.specs.ListSource.{documents_in, openings_of};
 
-use fts_pack::{Blocks, ListSource};
+use fts_pack::{Blocks, ListRange, ListRef, ListSource};
 use fts_postings::DocSet;
 use fts_postings::stretch::place_of;
 use std::alloc::{AllocError, Global};
@@ -33,14 +35,15 @@ impl ListedCursor {
     /// Over the documents of some lists, and how many blocks were opened to read them: each block of each list.
     pub(crate) fn of_lists(
         alloc: Global,
-        lists: &[fts_pack::List],
+        lists: ListRange<'_>,
     ) -> Result<(ListedCursor, u64), AllocError>
         ensures rises { IfOk result (λ made. IsStrictlyIncreasing made.0) }
         ensures sound { IfOk result (λ made. (d : ℕ) → Contains made.0 d
-            → Contains (flat_map (λ list. list) lists.now) d) }
-        ensures whole { IfOk result (λ made. (d : ℕ) → Contains (flat_map (λ list. list) lists.now) d
+            → Contains (flat_map (λ list. list) (lists_in_range lists.entry)) d) }
+        ensures whole { IfOk result (λ made. (d : ℕ) → Contains (flat_map (λ list. list) (lists_in_range lists.entry)) d
             → Contains made.0 d) }
-        ensures opened { IfOk result (λ made. made.1 ≡ sum_by (λ list. block_count (length list)) lists.now) }
+        ensures opened { IfOk result (λ made. made.1 ≡ sum_by (λ list. block_count (length list))
+            (lists_in_range lists.entry)) }
     {
         let (mut documents, opened) = joined(alloc, lists)?;
         documents.sort_unstable();
@@ -82,24 +85,25 @@ impl DocSet for ListedCursor {
 }
 
 /// The documents of lists, one list after the other, and how many blocks were opened to read them.
-fn joined(alloc: Global, lists: &[fts_pack::List]) -> Result<(Vec<u32>, usize), AllocError>
-    ensures documents { IfOk result (λ all. all.0.items ≡ flat_map (λ list. list) lists.now) }
-    ensures opened { IfOk result (λ all. all.1 ≡ sum_by (λ list. block_count (length list)) lists.now) }
+fn joined(alloc: Global, lists: ListRange<'_>) -> Result<(Vec<u32>, usize), AllocError>
+    ensures documents { IfOk result (λ all. all.0.items ≡ flat_map (λ list. list) (lists_in_range lists.entry)) }
+    ensures opened { IfOk result (λ all. all.1 ≡ sum_by (λ list. block_count (length list))
+        (lists_in_range lists.entry)) }
 {
     // No list is empty.
     let mut documents = Vec::with_capacity(alloc, lists.len())?;
     // Each block has a document, so they are no more than these.
     let mut opened = 0;
-    for list in lists {
-        opened += push_list(&mut documents, list)?;
+    for index in 0..lists.len() {
+        opened += push_list(&mut documents, lists.get(index))?;
     }
     Ok((documents, opened))
 }
 
 /// Puts the documents of a list after others, and gives how many blocks it opened.
-fn push_list(documents: &mut Vec<u32>, list: &fts_pack::List) -> Result<usize, AllocError>
-    ensures documents { OnOk result (documents.new.items ≡ documents.old.items ++ list.now) }
-    ensures opened { IfOk result (λ opened. opened ≡ block_count (length list.now)) }
+fn push_list(documents: &mut Vec<u32>, list: ListRef<'_>) -> Result<usize, AllocError>
+    ensures documents { OnOk result (documents.new.items ≡ documents.old.items ++ listed list.entry) }
+    ensures opened { IfOk result (λ opened. opened ≡ block_count (length (listed list.entry))) }
 {
     let mut source = list.source();
     push_blocks(documents, &mut source)

@@ -8,6 +8,7 @@ ghost use Rattle.fts_model.specs.Queries.{is_number_field, is_ordered_field, is_
 ghost use Rattle.fts_model.specs.QueryValues.{range};
 ghost use Rattle.fts_cursor.specs.Hits.{segment_hits};
 ghost use Rattle.fts_cursor.specs.Most.{OpensRange, least_for, most_for};
+ghost use Rattle.fts_pack.specs.ListRange.{lists_in_range};
 ghost use Rattle.fts_postings.specs.Bounds.{most_at};
 ghost use Rattle.fts_segment.specs.Segments.{column, keywords, ordinals};
 ghost use Rattle.fts_cursor.specs.Ranges.{AreBoundsOf, IsGreatestOf, IsLastOrdinal, IsLeastOf, IsWhole, IsWholeBound};
@@ -21,7 +22,7 @@ use crate::rows::Kept;
 use crate::scan::ScanCursor;
 use crate::tree::Tree;
 use fts_model::{FieldValue, Number};
-use fts_pack::List;
+use fts_pack::ListRange;
 use fts_pack::bits::i64_to_u64;
 use fts_pack::column::Column;
 use fts_segment::Segment;
@@ -136,14 +137,14 @@ fn between<'a>(
     alloc: Global,
     column: &'a Column,
     docs: usize,
-    lists: &[List],
+    lists: ListRange<'_>,
     documents: usize,
     low: u64,
     high: u64,
 ) -> Result<Tree<'a>, AllocError>
     requires few { docs ≤ 2 ^ 32 }
     requires size { length column.now ≡ docs }
-    requires lists { AreBetween column.now low high lists.now }
+    requires lists { AreBetween column.now low high (lists_in_range lists) }
     requires documents { documents ≡ count_between low high column.now }
     ensures remaining { IfOk result (λ t. t.remaining ≡ passing (has_within low high column.now) 0 docs) }
     ensures opens { IfOk result (λ t. OpensRange docs t.standing) }

@@ -2,6 +2,7 @@
 ghost use Rattle.std.specs.Prelude.{◌≡◌, ℕ, ◌^◌, ◌<◌, ◌≤◌, IfOk, [], length, map};
 ghost use Rattle.std.specs.List.{AllZip};
 ghost use Rattle.fts_pack.specs.Documents.{Rises};
+ghost use Rattle.fts_pack.specs.ListRef.{listed};
 ghost use Rattle.fts_postings.specs.Sets.{has};
 ghost use Rattle.fts_cursor.specs.Hits.{is_live};
 ghost use Rattle.fts_cursor.specs.Leading.{IsOver};
@@ -13,18 +14,18 @@ use crate::rows::Kept;
 use crate::scan::ScanCursor;
 use crate::tree::Tree;
 use fts_pack::bits::Bits;
-use fts_pack::{List, ListSource};
+use fts_pack::{ListRef, ListSource};
 use fts_postings::{Conjunction, PostingCursor};
 use std::alloc::{AllocError, Global};
 
 /// The documents that a list, which leads, and others have in common.
 pub(crate) fn of_lists<'a>(
     alloc: Global,
-    shortest: &'a List,
-    others: &[&'a List],
+    shortest: ListRef<'a>,
+    others: &[ListRef<'a>],
 ) -> Result<Tree<'a>, AllocError>
-    requires { Rises 0 shortest.now }
-    ensures { IfOk result (λ t. FindsAll shortest.now (map (λ l. l.now) others.now) t.standing) }
+    requires { Rises 0 (listed shortest) }
+    ensures { IfOk result (λ t. FindsAll (listed shortest.entry) (map listed others.now) t.standing) }
 {
     let Split { bits, rest, opened } = split_of(alloc, others)?;
     if bits.is_empty() {
@@ -42,13 +43,13 @@ pub(crate) fn of_lists<'a>(
 #[derive(Drop)]
 struct Split<'a> {
     bits: Vec<&'a Bits>,
-    rest: Vec<&'a List>,
+    rest: Vec<ListRef<'a>>,
     opened: u64,
 }
 
-fn split_of<'a>(alloc: Global, lists: &[&'a List]) -> Result<Split<'a>, AllocError>
-    ensures { IfOk result (λ split. IsSplit (map (λ l. l.now) lists.now) split.bits.items
-        (map (λ l. l.now) split.rest.items) split.opened) }
+fn split_of<'a>(alloc: Global, lists: &[ListRef<'a>]) -> Result<Split<'a>, AllocError>
+    ensures { IfOk result (λ split. IsSplit (map listed lists.now) split.bits.items
+        (map listed split.rest.items) split.opened) }
 {
     let mut bits = Vec::new(alloc);
     let mut rest = Vec::new(alloc);
@@ -57,7 +58,7 @@ fn split_of<'a>(alloc: Global, lists: &[&'a List]) -> Result<Split<'a>, AllocErr
         match list.bits() {
             Some(told) => {
                 bits.push(told)?;
-                opened += cursor_over(list).openings();
+                opened += cursor_over(*list).openings();
             }
             None => rest.push(*list)?,
         }
@@ -68,10 +69,10 @@ fn split_of<'a>(alloc: Global, lists: &[&'a List]) -> Result<Split<'a>, AllocErr
 /// The cursor if none of the others has bits.
 fn untold<'a>(
     alloc: Global,
-    shortest: &'a List,
-    others: &[&'a List],
+    shortest: ListRef<'a>,
+    others: &[ListRef<'a>],
 ) -> Result<Tree<'a>, AllocError>
-    ensures { IfOk result (λ t. FindsAll shortest.now (map (λ l. l.now) others.now) t.standing) }
+    ensures { IfOk result (λ t. FindsAll (listed shortest.entry) (map listed others.now) t.standing) }
 {
     let lead = cursor_over(shortest);
     let others = cursors_over(alloc, others)?;
@@ -81,15 +82,15 @@ fn untold<'a>(
 /// The cursor if all have bits.
 fn all_told<'a>(
     alloc: Global,
-    shortest: &'a List,
+    shortest: ListRef<'a>,
     first: &'a Bits,
     bits: Vec<&'a Bits>,
     opened: u64,
 ) -> Result<Tree<'a>, AllocError>
-    requires rises { Rises 0 shortest.now }
+    requires rises { Rises 0 (listed shortest) }
     requires few { length first.now ≤ 2 ^ 32 }
-    requires tells { (d : ℕ) → is_live first.now d ≡ has shortest.now d }
-    ensures { IfOk result (λ t. FindsSplit shortest.now bits.entry.items [] opened t.standing) }
+    requires tells { (d : ℕ) → is_live first.now d ≡ has (listed shortest) d }
+    ensures { IfOk result (λ t. FindsSplit (listed shortest.entry) bits.entry.items [] opened t.standing) }
 {
     let opened = opened.saturating_add(cursor_over(shortest).openings());
     let docs = first.len();
@@ -107,14 +108,14 @@ fn all_told<'a>(
 /// The cursor if some of the others have bits.
 fn some_told<'a>(
     alloc: Global,
-    shortest: &'a List,
-    rest: &[&'a List],
+    shortest: ListRef<'a>,
+    rest: &[ListRef<'a>],
     bits: Vec<&'a Bits>,
     opened: u64,
 ) -> Result<Tree<'a>, AllocError>
-    requires { Rises 0 shortest.now }
-    ensures { IfOk result (λ t. FindsSplit shortest.now bits.entry.items
-        (map (λ l. l.now) rest.now) opened t.standing) }
+    requires { Rises 0 (listed shortest) }
+    ensures { IfOk result (λ t. FindsSplit (listed shortest.entry) bits.entry.items
+        (map listed rest.now) opened t.standing) }
 {
     let lead = cursor_over(shortest);
     let others = cursors_over(alloc, rest)?;
@@ -123,8 +124,8 @@ fn some_told<'a>(
 }
 
 /// A cursor over a list.
-pub(crate) fn cursor_over(list: &List) -> PostingCursor<ListSource<'_>>
-    ensures { IsOver result list.now }
+pub(crate) fn cursor_over<'a>(list: ListRef<'a>) -> PostingCursor<ListSource<'a>>
+    ensures { IsOver result (listed list.entry) }
 {
     PostingCursor::new(list.source())
 }
@@ -132,13 +133,13 @@ pub(crate) fn cursor_over(list: &List) -> PostingCursor<ListSource<'_>>
 /// A cursor over each list.
 fn cursors_over<'a>(
     alloc: Global,
-    lists: &[&'a List],
+    lists: &[ListRef<'a>],
 ) -> Result<Vec<PostingCursor<ListSource<'a>>>, AllocError>
-    ensures { IfOk result (λ cursors. AllZip (λ p l. IsOver p l.now) cursors.items lists.now) }
+    ensures { IfOk result (λ cursors. AllZip (λ p l. IsOver p (listed l)) cursors.items lists.now) }
 {
     let mut cursors = Vec::with_capacity(alloc, lists.len())?;
     for list in lists {
-        cursors.push(cursor_over(list))?;
+        cursors.push(cursor_over(*list))?;
     }
     Ok(cursors)
 }

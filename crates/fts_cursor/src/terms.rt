@@ -4,6 +4,7 @@ ghost use Rattle.std.specs.Prelude.{None, Option, Some, [], ◌∷◌, length, m
 ghost use Rattle.std.specs.List.{list_all};
 ghost use Rattle.fts_model.specs.Queries.{matches};
 ghost use Rattle.fts_model.specs.QueryValues.{no_queries, queries, query_list, query_value};
+ghost use Rattle.fts_pack.specs.ListRef.{listed};
 ghost use Rattle.fts_segment.specs.Segments.{numbers_where};
 ghost use Rattle.fts_cursor.specs.Builds.{is_term, only_term_in, term_in};
 ghost use Rattle.fts_cursor.specs.Hits.{segment_hits};
@@ -15,7 +16,7 @@ ghost use Rattle.fts_postings.specs.Sets.{in_all};
 use crate::term_lists::of_lists;
 use crate::tree::Tree;
 use fts_model::{Query, Term};
-use fts_pack::List;
+use fts_pack::ListRef;
 use fts_segment::Segment;
 use std::alloc::{AllocError, Global};
 
@@ -56,8 +57,8 @@ pub(crate) fn of_terms<'a>(
 // Lists, led by the shortest.
 #[derive(Drop)]
 struct Lists<'a> {
-    shortest: &'a List,
-    others: Vec<&'a List>,
+    shortest: ListRef<'a>,
+    others: Vec<ListRef<'a>>,
 }
 
 /// The lists of terms, and none if no document has all of them.
@@ -72,7 +73,7 @@ fn lists_of<'a>(
         let hits = map (λ q. segment_hits segment.now (query_value q)) queries.now in
         MatchOption found
         ((d : ℕ) → in_all hits d ≡ false)
-        (λ lists. IsLed hits lists.shortest.now (map (λ l. l.now) lists.others.items))) }
+        (λ lists. IsLed hits (listed lists.shortest) (map listed lists.others.items))) }
 {
     let Some(mut shortest) = list_of(segment, &queries[0]) else {
         return Ok(None);
@@ -90,11 +91,11 @@ fn lists_of<'a>(
 }
 
 /// The list of a term, and none if no document has it.
-pub(crate) fn list_of<'a>(segment: &'a Segment, query: &Query) -> Option<&'a List>
+pub(crate) fn list_of<'a>(segment: &'a Segment, query: &Query) -> Option<ListRef<'a>>
     requires { is_term (query_value query.now) ≡ true }
     ensures { MatchOption result
         (segment_hits segment.now (query_value query.now) ≡ [])
-        (λ list. list.now ≡ segment_hits segment.now (query_value query.now)) }
+        (λ list. listed list ≡ segment_hits segment.now (query_value query.now)) }
 {
     let Some(term) = term_of(query) else {
         unreachable!();
@@ -157,11 +158,11 @@ fn alone(query: &Query) -> Option<&Term>
 }
 
 /// Two lists, the shorter first.
-fn by_length<'a>(a: &'a List, b: &'a List) -> (&'a List, &'a List)
-    ensures shorter { result.0.now
-        ≡ (if nat_lt (length b.now) (length a.now) then b.now else a.now) }
-    ensures longer { result.1.now
-        ≡ (if nat_lt (length b.now) (length a.now) then a.now else b.now) }
+fn by_length<'a>(a: ListRef<'a>, b: ListRef<'a>) -> (ListRef<'a>, ListRef<'a>)
+    ensures shorter { listed result.0 ≡ (if nat_lt (length (listed b.entry)) (length (listed a.entry))
+        then listed b.entry else listed a.entry) }
+    ensures longer { listed result.1 ≡ (if nat_lt (length (listed b.entry)) (length (listed a.entry))
+        then listed a.entry else listed b.entry) }
 {
     if b.len() < a.len() { (b, a) } else { (a, b) }
 }

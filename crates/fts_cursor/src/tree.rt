@@ -12,6 +12,7 @@ ghost use Rattle.fts_cursor.specs.Standing.{OpensAlong, Walked, at_most};
 ghost use Rattle.fts_cursor.specs.TreeValues.{LeavesList, OpensOne, TreeContinues, all_most, all_openings, remains};
 ghost use Rattle.fts_cursor.specs.Trees.{IsNow, StandsAt, tree_value};
 ghost use Rattle.fts_pack.specs.Documents.{block_count};
+ghost use Rattle.fts_pack.specs.ListRef.{listed};
 
 mod buffered_union;
 mod exclusion;
@@ -25,7 +26,7 @@ use crate::scan::ScanCursor;
 use buffered_union::{BufferedUnion, count_gathered, fill_gathered, gather, refill};
 use exclusion::{Exclusion, settle};
 use fts_pack::bits::Bits;
-use fts_pack::{List, ListSource};
+use fts_pack::{ListRef, ListSource};
 use fts_postings::{Conjunction, DocSet, PostingCursor, Window};
 use intersection::{Intersection, align};
 use std::alloc::{AllocError, Global};
@@ -139,11 +140,11 @@ impl<'a> Tree<'a> {
 
     /// The tree of a list.
     #[inline(never)]
-    pub(crate) fn postings(alloc: Global, list: &'a List) -> Result<Tree<'a>, AllocError>
-        ensures remaining { IfOk result (λ t. t.remaining ≡ list.now) }
-        ensures bound { IfOk result (λ t. t.bound ≡ at_most (block_count (length list.now))) }
+    pub(crate) fn postings(alloc: Global, list: ListRef<'a>) -> Result<Tree<'a>, AllocError>
+        ensures remaining { IfOk result (λ t. t.remaining ≡ listed list.entry) }
+        ensures bound { IfOk result (λ t. t.bound ≡ at_most (block_count (length (listed list.entry)))) }
         ensures whole { IfOk result (λ t. t.whole ≡ true) }
-        ensures list { IfOk result (λ t. t.list ≡ Some list.now) }
+        ensures list { IfOk result (λ t. t.list ≡ Some (listed list.entry)) }
     {
         let postings = PostingCursor::new(list.source());
         Tree::of(alloc, postings.doc(), Node::Postings(postings))
@@ -203,7 +204,7 @@ impl<'a> Tree<'a> {
         ensures remaining { IfOk result (λ t. t.remaining ≡ union (remains parts.entry.items)) }
         ensures most { IfOk result (λ t. most_at t.bound None ≡ all_most parts.entry.items) }
     {
-        let window = Window::new(alloc)?;
+        let window = Window::new();
         let mut buffered = BufferedUnion { parts, window };
         let doc = refill(&mut buffered, 0);
         Tree::of(alloc, doc, Node::Or(buffered))

@@ -4,12 +4,11 @@ pub mod PostingLemmas
 pub mod SetLemmas
 pub mod PassingLemmas
 pub mod CostLemmas
-pub mod BytesLemmas
+pub mod WordsLemmas
 pub mod ConjoinedLemmas
 pub mod UnionLemmas
 pub mod WindowLemmas
 pub mod MarksLemmas
 pub mod MarkingLemmas
 pub mod TakingLemmas
-pub mod WindowBitsLemmas
 mod PlacesLemmas

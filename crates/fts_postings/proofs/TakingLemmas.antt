@@ -43,16 +43,16 @@ marked-ones from marks fits =
     ∙ ones_passing 64 from marks (is_marked from marks) fits (λ k lt. let at : from + k - from ≡ k = omega arith in ap (λ j. bit_at marks j == 1) at)
 
 -- as many are found of a word's documents, from a place up to the last, as there are bits
-pub counted_word : (bytes : List ℕ) (base from word : ℕ) (order : base ≤ from) (of : AreMarksFrom (from - (from - base) % 64) base bytes word) (marks : ℕ)
+pub counted_word : (words : List ℕ) (base from word : ℕ) (order : base ≤ from) (of : AreMarksFrom (from - (from - base) % 64) base words word) (marks : ℕ)
     (is : marks ≡ bit_and word (2 ^ 64 - 2 ^ ((from - base) % 64))) (last mask : ℕ)
     → from ≤ last → mask ≡ 2 ^ (64 - (from - (from - base) % 64 + 63 - last)) - 1 →
-    count_ones (bit_and marks mask) + length (found_in base (from - (from - base) % 64 + 64) last bytes) ≡ length (found_in base from last bytes)
-counted_word bytes base from word order of marks is last mask within mask_is =
+    count_ones (bit_and marks mask) + length (found_in base (from - (from - base) % 64 + 64) last words) ≡ length (found_in base from last words)
+counted_word words base from word order of marks is last mask within mask_is =
     let at = (from - base) % 64 in
     let start = from - at in
     let places = 64 - (start + 63 - last) in
     let more = suc last - (start + 64) in
-    let test = is_found base bytes in
+    let test = is_found base words in
     let inside = bit_and marks mask in
     let some : at ≤ places = omega (arith, order, within) in
     let fits : inside < 2 ^ places = omega (arith, and_le_r marks mask, mask_is, pow_pos places) in
@@ -62,7 +62,7 @@ counted_word bytes base from word order of marks is last mask within mask_is =
     omega (arith, bit_at_and marks mask k, bit_at_ones places k lt, ap (λ n. bit_at n k) mask_is, bit_at-lt marks k) in
     ap (λ j. bit_at marks j == 1) e ∙ ap (λ x. x == 1) b in
     let here : length (passing test from (places - at)) ≡ count_ones inside =
-    ap length (word_part bytes base from word order of marks is places some (omega arith)) ∙ ones_passing places start inside (is_marked start marks) fits
+    ap length (word_part words base from word order of marks is places some (omega arith)) ∙ ones_passing places start inside (is_marked start marks) fits
     same in
     let all : suc last - from ≡ (places - at) + more = omega (arith, order, within) in
     let rest : length (passing test (from + (places - at)) more) ≡ length (passing test (start + 64) more) = elim (cases_lt last (start + 63)) [
@@ -71,25 +71,25 @@ counted_word bytes base from word order of marks is last mask within mask_is =
           ap (λ n. length (passing test (from + (places - at)) n)) none ∙ sym (ap (λ n. length (passing test (start + 64) n)) none)
       | inr long ↦ let next : from + (places - at) ≡ start + 64 = omega (arith, order, long) in ap (λ a. length (passing test a more)) next
     ] in
-    let split : length (found_in base from last bytes) ≡ length (passing test from (places - at)) + length (passing test (from + (places - at)) more) =
+    let split : length (found_in base from last words) ≡ length (passing test from (places - at)) + length (passing test (from + (places - at)) more) =
     ap length (ap (passing test from) all ∙ passing-append test from (places - at) more) ∙ length-append (passing test from (places - at))
     (passing test (from + (places - at)) more) in
     omega (arith, split, here, rest)
 
 -- as many are found of 64 documents as their word has bits
-pub whole_word : (bytes : List ℕ) (base index last word : ℕ) → AreMarksFrom (base + index * 64) base bytes word → word < 2 ^ 64 →
+pub whole_word : (words : List ℕ) (base index last word : ℕ) → AreMarksFrom (base + index * 64) base words word → word < 2 ^ 64 →
     base + index * 64 + 63 ≤ last →
-    count_ones word + length (found_in base (base + (index + 1) * 64) last bytes) ≡ length (found_in base (base + index * 64) last bytes)
-whole_word bytes base index last word of fits long =
+    count_ones word + length (found_in base (base + (index + 1) * 64) last words) ≡ length (found_in base (base + index * 64) last words)
+whole_word words base index last word of fits long =
     let from = base + index * 64 in
     let more = suc last - (from + 64) in
-    let test = is_found base bytes in
+    let test = is_found base words in
     let here : length (passing test from 64) ≡ count_ones word = ones_passing 64 from word test fits (λ k lt. sym (of k lt)) in
     let all : suc last - from ≡ 64 + more = omega (arith, long) in
     let next : base + (index + 1) * 64 ≡ from + 64 = omega arith in
-    let split : length (found_in base from last bytes) ≡ length (passing test from 64) + length (passing test (from + 64) more) =
+    let split : length (found_in base from last words) ≡ length (passing test from 64) + length (passing test (from + 64) more) =
     ap length (ap (passing test from) all ∙ passing-append test from 64 more) ∙ length-append (passing test from 64) (passing test (from + 64) more) in
-    omega (arith, split, here, ap (λ a. length (found_in base a last bytes)) next)
+    omega (arith, split, here, ap (λ a. length (found_in base a last words)) next)
 
 -- what is marked in a word lies below its end
 pub marked_few : (from marks bound : ℕ) → marks < 2 ^ 64 → from + 63 < bound → (k : ℕ) → bit_at marks k ≡ 1 → from + k < bound

@@ -1,9 +1,8 @@
 -- Documents as bits: one more, the first of them, and those from a target on.
-use Rattle.std.proofs.Common.{◌≡◌, ◌≢◌, ℕ, zero, suc, ◌+◌, ◌-◌, ◌%◌, ◌^◌, ◌<◌, ◌≤◌, Bool, true, false, cond, ◌==◌, ◌&&◌, nat_le, nat_lt, max, List, [], ◌∷◌}
-use Rattle.std.proofs.Common.{◌++◌, drop, get_or, length, replicate, set, refl, sym, ap, ap₂, subst, ◌∙◌, inl, inr, arith}
+use Rattle.std.proofs.Common.{◌≡◌, ◌≢◌, ℕ, zero, suc, ◌+◌, ◌-◌, ◌%◌, ◌^◌, ◌<◌, ◌≤◌, Bool, true, false, cond, ◌==◌, ◌&&◌, nat_le, max, List, [], ◌∷◌}
+use Rattle.std.proofs.Common.{◌++◌, drop, refl, sym, ap, ap₂, subst, ◌∙◌, inl, inr, arith}
 use Rattle.std.specs.Int.{bit_at, w64, trailing_zeros}
 use Rattle.std.proofs.lemmas.Bool.{cases_Bool, cases_lt, le-leb, lt-leb}
-use Rattle.std.proofs.lemmas.List.{get_or-replicate, get_or-set_other, get_or-set_same, get_or_past, length-replicate}
 use Rattle.std.specs.Int.RustNames.{bit_and}
 use Rattle.std.proofs.lemmas.Nat.Bits.{bit_at_and, bit_at-lt, bit_at-zero, bit_at-trailing_zeros, bit_at_mask_below, bit_at_mask_inside}
 use Rattle.fts_pack.specs.Documents.{Rises}
@@ -57,7 +56,7 @@ passing-next p q a k n inside lack there gone rest =
     ∙ ap (drop 1) (sym (passing-at p a k n inside lack there))
 
 -- one more passes
-passing-mark : (p q : ℕ → Bool) (a n doc : ℕ) → a ≤ doc → doc < a + n → p doc ≡ true → ((d : ℕ) → a ≤ d → d < a + n → d ≢ doc → p d ≡ q d) →
+pub passing-mark : (p q : ℕ → Bool) (a n doc : ℕ) → a ≤ doc → doc < a + n → p doc ≡ true → ((d : ℕ) → a ≤ d → d < a + n → d ≢ doc → p d ≡ q d) →
     passing p a n ≡ with_one doc (passing q a n)
 passing-mark p q a zero doc low high now others = absurd (omega (arith, low, high))
 passing-mark p q a (suc n) doc low high now others =
@@ -104,7 +103,7 @@ passing-at_least p q a (suc n) t gone rest =
           ]
     ]
 
-unset : (n k : ℕ) → bit_at n k ≡ 0 → (bit_at n k == 1) ≡ false
+pub unset : (n k : ℕ) → bit_at n k ≡ 0 → (bit_at n k == 1) ≡ false
 unset n k is = ap (λ b. b == 1) is
 
 is_set : (n k : ℕ) → bit_at n k ≡ 1 → (bit_at n k == 1) ≡ true
@@ -117,20 +116,6 @@ nothing p a (suc n) none =
 
 pub marked-nothing : (from last : ℕ) → marked from last 0 ≡ []
 marked-nothing from last = nothing (is_marked from 0) from (suc last - from) (λ d up down. unset 0 (d - from) (bit_at-zero (d - from)))
-
--- no place has a mark where the marks are 0
-pub found-nothing : (base from last : ℕ) (marks : List ℕ) → base ≤ from → ((k : ℕ) → k ≤ last - base → get_or marks k 0 ≡ 0) →
-    found_in base from last marks ≡ []
-found-nothing base from last marks order clear =
-    nothing (is_found base marks) from (suc last - from) (λ d up down. ap (nat_lt 0) (clear (d - base) (omega (arith, down, order, up))))
-
--- one more is marked, and the others stay
-pub found-set : (base from last doc : ℕ) (marks : List ℕ) → base ≤ from → from ≤ doc → doc ≤ last → doc - base < length marks →
-    found_in base from last (set marks (doc - base) 1) ≡ with_one doc (found_in base from last marks)
-found-set base from last doc marks order low high room =
-    passing-mark (is_found base (set marks (doc - base) 1)) (is_found base marks) from (suc last - from) doc low (omega (arith, high, low))
-    (ap (nat_lt 0) (get_or-set_same marks (doc - base) 1 0 room))
-    (λ d up down other. ap (nat_lt 0) (get_or-set_other marks (doc - base) (d - base) 1 0 (λ e. other (omega (arith, e, up, order, low)))))
 
 -- what has no mark is left behind
 pub found-ahead : (base from to last : ℕ) (words : List ℕ) → from ≤ to → ((d : ℕ) → from ≤ d → d < to → is_found base words d ≡ false) →
@@ -185,7 +170,7 @@ found-at_least base from target last words =
     ])
 
 -- the marks of 64 documents from a place among them on
-module _ (bytes : List ℕ) (base from word : ℕ) (order : base ≤ from) (of : AreMarksFrom (from - (from - base) % 64) base bytes word) (marks : ℕ)
+module _ (words : List ℕ) (base from word : ℕ) (order : base ≤ from) (of : AreMarksFrom (from - (from - base) % 64) base words word) (marks : ℕ)
     (is : marks ≡ bit_and word (2 ^ 64 - 2 ^ ((from - base) % 64))) where
   abbrev at : ℕ
   at = (from - base) % 64
@@ -196,36 +181,36 @@ module _ (bytes : List ℕ) (base from word : ℕ) (order : base ≤ from) (of :
   inside : (k : ℕ) → at ≤ k → k < 64 → bit_at marks k ≡ bit_at word k
   inside k up down = ap (λ n. bit_at n k) is ∙ omega (arith, bit_at_and word (2 ^ 64 - 2 ^ at) k, bit_at_mask_inside at 64 k up down, bit_at-lt word k)
 
-  found_at : (k d : ℕ) → at ≤ k → k < 64 → d ≡ from - at + k → is_found base bytes d ≡ (bit_at marks k == 1)
-  found_at k d up down same = ap (is_found base bytes) same ∙ sym (of k down) ∙ ap (λ n. n == 1) (sym (inside k up down))
+  found_at : (k d : ℕ) → at ≤ k → k < 64 → d ≡ from - at + k → is_found base words d ≡ (bit_at marks k == 1)
+  found_at k d up down same = ap (is_found base words) same ∙ sym (of k down) ∙ ap (λ n. n == 1) (sym (inside k up down))
 
-  pub none_here : marks ≡ 0 → (d : ℕ) → from ≤ d → d < from - at + 64 → is_found base bytes d ≡ false
+  pub none_here : marks ≡ 0 → (d : ℕ) → from ≤ d → d < from - at + 64 → is_found base words d ≡ false
   none_here zero_marks d up down =
       let k = d - (from - at) in
       found_at k d (omega (arith, up)) (omega (arith, down, up)) (omega (arith, up)) ∙ ap (λ n. bit_at n k == 1) zero_marks ∙ unset 0 k (bit_at-zero k)
 
   -- up to a place of the word, it marks what the word does
-  pub word_part : (places : ℕ) → at ≤ places → places ≤ 64 → passing (is_found base bytes) from (places - at)
+  pub word_part : (places : ℕ) → at ≤ places → places ≤ 64 → passing (is_found base words) from (places - at)
       ≡ passing (is_marked (from - at) marks) (from - at) places
   word_part places more few =
       let start = from - at in
       let n = places - at in
       let begin : start + at ≡ from = omega (arith, order) in
       let whole : places ≡ at + n = omega (arith, more) in
-      passing-same (is_found base bytes) (is_marked start marks) from n (λ d up down. found_at (d - start) d (omega (arith, up, order))
+      passing-same (is_found base words) (is_marked start marks) from n (λ d up down. found_at (d - start) d (omega (arith, up, order))
       (omega (arith, down, order, up, few, more)) (omega (arith, up, order)))
       ∙ sym (ap (passing (is_marked start marks) start) whole
       ∙ passing-ahead (is_marked start marks) start at n (λ d up down. unset marks (d - start) (below (d - start) (omega (arith, down, up))))
       ∙ ap (λ a. passing (is_marked start marks) a n) begin)
 
   -- what it marks, and what the words behind it do
-  pub word_split : (last : ℕ) → from - at + 63 ≤ last → found_in base from last bytes ≡ marked (from - at) (from - at + 63) marks
-      ++ found_in base (from - at + 64) last bytes
+  pub word_split : (last : ℕ) → from - at + 63 ≤ last → found_in base from last words ≡ marked (from - at) (from - at + 63) marks
+      ++ found_in base (from - at + 64) last words
   word_split last long =
       let start = from - at in
       let n = 64 - at in
       let more = suc last - (start + 64) in
-      let test = is_found base bytes in
+      let test = is_found base words in
       let all : suc last - from ≡ n + more = omega (arith, order, long) in
       let next : from + n ≡ start + 64 = omega (arith, order) in
       let whole : 64 ≡ suc (start + 63) - start = omega arith in
@@ -246,21 +231,15 @@ module _ (bytes : List ℕ) (base from word : ℕ) (order : base ≤ from) (of :
       | inr up ↦ up
     ]
 
-    pub lowest_is : is_found base bytes (from - at + lowest) ≡ true
+    pub lowest_is : is_found base words (from - at + lowest) ≡ true
     lowest_is = found_at lowest (from - at + lowest) lowest_from place.0 refl ∙ is_set marks lowest place.1
 
-    pub none_before : (d : ℕ) → from ≤ d → d < from - at + lowest → is_found base bytes d ≡ false
+    pub none_before : (d : ℕ) → from ≤ d → d < from - at + lowest → is_found base words d ≡ false
     none_before d up down =
         let k = d - (from - at) in
         let low : k < lowest = omega (arith, up, down) in
         found_at k d (omega (arith, up)) (omega (arith, low, place.0)) (omega (arith, up)) ∙ unset marks k (place.2 k low)
 
-pub none_replicated : (n k : ℕ) → get_or (replicate {A = ℕ} n 0) k 0 ≡ 0
-none_replicated n k = elim (cases_lt k n) [
-  | inl within ↦ get_or-replicate n k 0 0 within
-  | inr past ↦ get_or_past (replicate {A = ℕ} n 0) k 0 (omega (arith, past, length-replicate {A = ℕ} n 0))
-]
-
 -- the documents of a window
 abbrev pub found : Window → List ℕ
-found w = found_in w.base w.from w.last w.marks.items
+found w = found_in w.base w.from w.last w.words

@@ -20,14 +20,12 @@
 //! ```
 #![tactic(auto)]
 
-mod bytes;
 mod conjunction;
 mod doc_set;
 pub mod marks;
 mod posting;
 pub mod stretch;
 mod window;
-mod window_bits;
 
 pub use conjunction::Conjunction;
 pub use doc_set::DocSet;

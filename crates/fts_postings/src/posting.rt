@@ -105,8 +105,8 @@ impl<B: Blocks> PostingCursor<B> {
         ensures place { (window.new.from ≡ window.old.from) × (window.new.last ≡ window.old.last) }
         ensures places { All (λ d. d ≤ window.old.last) (take result (remaining_of self.old)) }
         ensures marked { (d : ℕ) →
-            has (found_in window.new.base window.new.from window.new.last window.new.marks.items) d
-            ≡ (has (found_in window.old.base window.old.from window.old.last window.old.marks.items) d
+            has (found_in window.new.base window.new.from window.new.last window.new.words) d
+            ≡ (has (found_in window.old.base window.old.from window.old.last window.old.words) d
             || has (take result (remaining_of self.old)) d) }
     {
         let count = window.mark_some(&self.numbers[self.at..self.len]);

@@ -1,15 +1,16 @@
 // The documents found among the next 4,096.
-ghost use Rattle.std.specs.Prelude.{◌≡◌, ℕ, ◌+◌, ◌^◌, ◌<◌, ◌≤◌, ◌∷◌, ◌||◌, [], All, IfOk, IfSome, MatchBool, drop};
-ghost use Rattle.std.specs.Prelude.{false, ◌-◌, ◌%◌, length, slice_get, slice_index, take, true};
+ghost use Rattle.std.specs.Prelude.{◌≡◌, ℕ, ◌+◌, ◌^◌, ◌<◌, ◌≤◌, ◌∷◌, ◌||◌, ◌&&◌, ◌==◌, [], All, IfSome, MatchBool};
+ghost use Rattle.std.specs.Prelude.{drop, false, filter, nat_le, ◌-◌, ◌%◌, length, slice_get, slice_index, take, true};
+ghost use Rattle.std.specs.Int.{bit_at};
 ghost use Rattle.std.specs.List.Sorted.{IsStrictlyIncreasing};
 ghost use Rattle.fts_postings.specs.Sets.{has, with_one};
 ghost use Rattle.fts_postings.specs.Remaining.{at_least};
 ghost use Rattle.fts_postings.specs.Fills.{IsStretch};
-ghost use Rattle.fts_postings.specs.Windows.{AreMarksFrom, found_in, is_found};
+ghost use Rattle.fts_postings.specs.Windows.{AreMarksFrom, found_in, is_found, is_set};
 
+use crate::marks;
 use crate::stretch::place_of;
-use crate::{bytes, marks};
-use std::alloc::{AllocError, Global};
+use fts_pack::bits::Bits;
 
 /// The documents marked among those of `from..=last`, at most 4,096.
 #[derive(Drop)]
@@ -20,27 +21,25 @@ pub struct Window {
     pub from: u64,
     /// The last document that has a place.
     pub last: u32,
-    /// A mark for each document from `base` on: 0 if it isn't found. Marks are bytes: documents of a list are mostly
-    /// close together, and bits of one word would have to be set one after the other.
-    pub marks: Vec<u8>,
+    /// A bit for each document from `base` on, 64 a word, the first of them the lowest: set if the document is found.
+    pub words: [u64; 64],
     pub ghost aligned: { base % 64 ≡ 0 },
     pub ghost order: { base ≤ from },
     pub ghost few: { last ≤ base + 4095 },
     pub ghost fits: { last < 2 ^ 32 },
-    pub ghost room: { length marks.items ≡ 4096 },
 }
 
 impl Window {
     /// A window with nothing marked.
-    pub fn new(alloc: Global) -> Result<Window, AllocError>
-        ensures { IfOk result (λ window. found_in window.base window.from window.last window.marks.items ≡ []) }
+    pub fn new() -> Window
+        ensures { found_in result.base result.from result.last result.words ≡ [] }
     {
-        Ok(Window {
+        Window {
             base: 0,
             from: 0,
             last: 0,
-            marks: vec![in alloc; 0u8; 4096]?,
-        })
+            words: [0; 64],
+        }
     }
 
     /// Begins anew with nothing marked, for `doc` and the documents after it that are no more than `reach` above the
@@ -49,12 +48,11 @@ impl Window {
         requires { reach ≤ 4095 }
         ensures from { self.new.from ≡ doc }
         ensures last { doc ≤ self.new.last }
-        ensures nothing { found_in self.new.base self.new.from self.new.last self.new.marks.items ≡ [] }
+        ensures nothing { found_in self.new.base self.new.from self.new.last self.new.words ≡ [] }
     {
         let base = doc / 64 * 64;
         let last = base.saturating_add(reach).max(doc);
-        // What comes after the last place may be anything.
-        bytes::clear(&mut self.marks, ((last - base) as usize / 64 + 1) * 64);
+        self.words = [0; 64];
         self.base = base;
         self.from = doc as u64;
         self.last = last;
@@ -74,10 +72,11 @@ impl Window {
         requires low { self.old.from ≤ doc }
         requires high { doc ≤ self.old.last }
         ensures place { (self.new.from ≡ self.old.from) × (self.new.last ≡ self.old.last) }
-        ensures marked { found_in self.new.base self.new.from self.new.last self.new.marks.items
-            ≡ with_one doc (found_in self.old.base self.old.from self.old.last self.old.marks.items) }
+        ensures marked { found_in self.new.base self.new.from self.new.last self.new.words
+            ≡ with_one doc (found_in self.old.base self.old.from self.old.last self.old.words) }
     {
-        self.marks[(doc - self.base) as usize] = 1;
+        let place = (doc - self.base) as usize;
+        self.words[place / 64] |= 1 << (place % 64);
     }
 
     /// Marks the first of the documents, up to one that has no place, and gives how many they are.
@@ -89,8 +88,8 @@ impl Window {
         ensures within { result ≤ length docs.now }
         ensures some { 0 < length docs.now → slice_index docs.now 0 ≤ self.old.last → 0 < result }
         ensures places { All (λ d. d ≤ self.old.last) (take result docs.now) }
-        ensures marked { (d : ℕ) → has (found_in self.new.base self.new.from self.new.last self.new.marks.items) d
-            ≡ (has (found_in self.old.base self.old.from self.old.last self.old.marks.items) d
+        ensures marked { (d : ℕ) → has (found_in self.new.base self.new.from self.new.last self.new.words) d
+            ≡ (has (found_in self.old.base self.old.from self.old.last self.old.words) d
             || has (take result docs.now) d) }
     {
         let count = self.count_covered(docs);
@@ -119,33 +118,53 @@ impl Window {
         requires low { All (λ d. self.old.from ≤ d) docs.now }
         requires high { All (λ d. d ≤ self.old.last) docs.now }
         ensures place { (self.new.from ≡ self.old.from) × (self.new.last ≡ self.old.last) }
-        ensures marked { (d : ℕ) → has (found_in self.new.base self.new.from self.new.last self.new.marks.items) d
-            ≡ (has (found_in self.old.base self.old.from self.old.last self.old.marks.items) d || has docs.now d) }
+        ensures marked { (d : ℕ) → has (found_in self.new.base self.new.from self.new.last self.new.words) d
+            ≡ (has (found_in self.old.base self.old.from self.old.last self.old.words) d || has docs.now d) }
     {
-        bytes::mark_each(&mut self.marks, self.base, docs);
+        for doc in docs {
+            self.mark(*doc);
+        }
     }
 
-    /// The marks of the 64 documents from a place on as bits, the first of them the lowest.
+    /// Marks the documents whose bits are set in words of 64 from a place on, as far as there are places.
     #[inline]
-    pub(crate) fn word(&self, start: u64) -> u64
+    pub fn mark_words(&mut self, start: u64, words: &[u64])
+        requires low { self.old.base ≤ start }
+        requires aligned { start % 64 ≡ 0 }
+        ensures place { (self.new.from ≡ self.old.from) × (self.new.last ≡ self.old.last) }
+        ensures base { self.new.base ≡ self.old.base }
+        ensures marked { (d : ℕ) → self.old.base ≤ d → d ≤ self.old.last → is_found self.new.base self.new.words d
+            ≡ (is_found self.old.base self.old.words d || (nat_le start d && is_found start words.now d)) }
+    {
+        let first = (start - self.base as u64) as usize / 64;
+        let count = words.len().min(64usize.saturating_sub(first));
+        for index in 0..count {
+            self.words[first + index] |= words[index];
+        }
+    }
+
+    /// The bits of the 64 documents from a place on, the first of them the lowest.
+    #[inline]
+    fn word(&self, start: u64) -> u64
         requires low { self.now.base ≤ start }
         requires high { start + 64 ≤ self.now.base + 4096 }
-        ensures { AreMarksFrom start self.now.base self.now.marks.items result }
+        requires aligned { (start - self.now.base) % 64 ≡ 0 }
+        ensures { AreMarksFrom start self.now.base self.now.words result }
     {
         let place = (start - self.base as u64) as usize;
-        bytes::word_of(&self.marks[place..])
+        self.words[place / 64]
     }
 
     /// The first document that is marked. Places without marks before it are passed.
     #[inline]
     pub fn first(&mut self) -> Option<u32>
-        ensures first { result ≡ slice_get (found_in self.old.base self.old.from self.old.last self.old.marks.items) 0 }
-        ensures same { found_in self.new.base self.new.from self.new.last self.new.marks.items
-            ≡ found_in self.old.base self.old.from self.old.last self.old.marks.items }
+        ensures first { result ≡ slice_get (found_in self.old.base self.old.from self.old.last self.old.words) 0 }
+        ensures same { found_in self.new.base self.new.from self.new.last self.new.words
+            ≡ found_in self.old.base self.old.from self.old.last self.old.words }
         ensures last { self.new.last ≡ self.old.last }
         ensures stands { IfSome result (λ doc. (self.new.from ≡ doc)
-            × (found_in self.new.base self.new.from self.new.last self.new.marks.items
-            ≡ doc ∷ found_in self.new.base (doc + 1) self.new.last self.new.marks.items)) }
+            × (found_in self.new.base self.new.from self.new.last self.new.words
+            ≡ doc ∷ found_in self.new.base (doc + 1) self.new.last self.new.words)) }
     {
         while self.from <= self.last as u64 {
             if self.pass_word() && self.from <= self.last as u64 {
@@ -160,11 +179,11 @@ impl Window {
     #[inline]
     fn pass_word(&mut self) -> bool
         requires { self.old.from ≤ self.old.last }
-        ensures same { found_in self.new.base self.new.from self.new.last self.new.marks.items
-            ≡ found_in self.old.base self.old.from self.old.last self.old.marks.items }
+        ensures same { found_in self.new.base self.new.from self.new.last self.new.words
+            ≡ found_in self.old.base self.old.from self.old.last self.old.words }
         ensures last { self.new.last ≡ self.old.last }
         ensures further { result ≡ false → self.old.from < self.new.from }
-        ensures marked { result ≡ true → is_found self.new.base self.new.marks.items self.new.from ≡ true }
+        ensures marked { result ≡ true → is_found self.new.base self.new.words self.new.from ≡ true }
     {
         let place = (self.from - self.base as u64) % 64;
         let start = self.from - place;
@@ -184,8 +203,8 @@ impl Window {
         requires { filled < 128 }
         ensures last { self.new.last ≡ self.old.last }
         ensures taken { IsStretch
-            (found_in self.old.base self.old.from self.old.last self.old.marks.items)
-            (found_in self.new.base self.new.from self.new.last self.new.marks.items)
+            (found_in self.old.base self.old.from self.old.last self.old.words)
+            (found_in self.new.base self.new.from self.new.last self.new.words)
             out.old out.new filled result }
     {
         let mut end = filled;
@@ -206,8 +225,8 @@ impl Window {
         requires { filled < 128 }
         ensures last { self.new.last ≡ self.old.last }
         ensures taken { IsStretch
-            (found_in self.old.base self.old.from self.old.last self.old.marks.items)
-            (found_in self.new.base self.new.from self.new.last self.new.marks.items)
+            (found_in self.old.base self.old.from self.old.last self.old.words)
+            (found_in self.new.base self.new.from self.new.last self.new.words)
             out.old out.new filled result }
     {
         let Some(doc) = self.first() else {
@@ -229,9 +248,9 @@ impl Window {
 
     /// How many documents are marked. Passes all.
     pub fn count(&mut self) -> usize
-        ensures count { result ≡ length (found_in self.old.base self.old.from self.old.last self.old.marks.items) }
+        ensures count { result ≡ length (found_in self.old.base self.old.from self.old.last self.old.words) }
         ensures last { self.new.last ≡ self.old.last }
-        ensures none { found_in self.new.base self.new.from self.new.last self.new.marks.items ≡ [] }
+        ensures none { found_in self.new.base self.new.from self.new.last self.new.words ≡ [] }
     {
         let mut count = 0;
         while self.from <= self.last as u64 {
@@ -241,12 +260,35 @@ impl Window {
         count
     }
 
+    /// How many documents are marked and have a bit that is set. Passes all.
+    pub fn count_set(&mut self, bits: &Bits) -> usize
+        ensures count { result ≡ length (filter (is_set bits.now)
+            (found_in self.old.base self.old.from self.old.last self.old.words)) }
+        ensures last { self.new.last ≡ self.old.last }
+        ensures none { found_in self.new.base self.new.from self.new.last self.new.words ≡ [] }
+    {
+        self.keep_set(bits);
+        self.count()
+    }
+
+    /// Leaves only the marked documents that have a bit that is set.
+    fn keep_set(&mut self, bits: &Bits)
+        ensures kept { found_in self.new.base self.new.from self.new.last self.new.words
+            ≡ filter (is_set bits.now) (found_in self.old.base self.old.from self.old.last self.old.words) }
+        ensures last { self.new.last ≡ self.old.last }
+    {
+        let first = self.base as usize / 64;
+        for index in 0..64 {
+            self.words[index] &= bits.word(first + index);
+        }
+    }
+
     /// Passes the documents of the word of the first place, and returns how many of them are marked.
     #[inline]
     fn count_word(&mut self) -> usize
         requires { self.old.from ≤ self.old.last }
-        ensures count { result + length (found_in self.new.base self.new.from self.new.last self.new.marks.items)
-            ≡ length (found_in self.old.base self.old.from self.old.last self.old.marks.items) }
+        ensures count { result + length (found_in self.new.base self.new.from self.new.last self.new.words)
+            ≡ length (found_in self.old.base self.old.from self.old.last self.old.words) }
         ensures last { self.new.last ≡ self.old.last }
         ensures further { self.old.from < self.new.from }
         ensures whole { (self.new.from - self.new.base) % 64 ≡ 0 }
@@ -265,8 +307,8 @@ impl Window {
     #[inline]
     fn count_words(&mut self) -> usize
         requires { (self.old.from - self.old.base) % 64 ≡ 0 }
-        ensures count { result + length (found_in self.new.base self.new.from self.new.last self.new.marks.items)
-            ≡ length (found_in self.old.base self.old.from self.old.last self.old.marks.items) }
+        ensures count { result + length (found_in self.new.base self.new.from self.new.last self.new.words)
+            ≡ length (found_in self.old.base self.old.from self.old.last self.old.words) }
         ensures last { self.new.last ≡ self.old.last }
         ensures further { self.old.from ≤ self.new.from }
     {
@@ -274,7 +316,7 @@ impl Window {
         let end = (self.last as u64 + 1).saturating_sub(self.base as u64) as usize / 64;
         let mut count = 0;
         for index in first..end {
-            count += self.word(self.base as u64 + index as u64 * 64).count_ones() as usize;
+            count += self.words[index].count_ones() as usize;
         }
         self.from = self.from.max(self.base as u64 + end as u64 * 64);
         count
@@ -284,8 +326,8 @@ impl Window {
     #[inline]
     pub fn advance(&mut self)
         ensures last { self.new.last ≡ self.old.last }
-        ensures marked { found_in self.new.base self.new.from self.new.last self.new.marks.items
-            ≡ drop 1 (found_in self.old.base self.old.from self.old.last self.old.marks.items) }
+        ensures marked { found_in self.new.base self.new.from self.new.last self.new.words
+            ≡ drop 1 (found_in self.old.base self.old.from self.old.last self.old.words) }
     {
         if let Some(doc) = self.first() {
             self.from = doc as u64 + 1;
@@ -296,15 +338,15 @@ impl Window {
     #[inline]
     pub fn seek(&mut self, target: u32)
         ensures last { self.new.last ≡ self.old.last }
-        ensures marked { found_in self.new.base self.new.from self.new.last self.new.marks.items
-            ≡ at_least target (found_in self.old.base self.old.from self.old.last self.old.marks.items) }
+        ensures marked { found_in self.new.base self.new.from self.new.last self.new.words
+            ≡ at_least target (found_in self.old.base self.old.from self.old.last self.old.words) }
     {
         self.from = self.from.max(target as u64);
     }
 
     /// An upper bound on the marked documents.
     pub fn cost(&self) -> usize
-        ensures { length (found_in self.now.base self.now.from self.now.last self.now.marks.items) ≤ result }
+        ensures { length (found_in self.now.base self.now.from self.now.last self.now.words) ≤ result }
     {
         (self.last as u64 + 1).saturating_sub(self.from) as usize
     }

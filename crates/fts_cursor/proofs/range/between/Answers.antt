@@ -1,6 +1,7 @@
 -- The documents of the lists, or those of the column within the bounds.
 use Rattle.std.proofs.Common.{◌≡◌, ◌-◌, ◌≤◌, length, min, ap, subst, sym, ◌∙◌, arith}
 use Rattle.std.proofs.lemmas.Result.{IfOk-weaker}
+use Rattle.fts_pack.specs.ListRange.{lists_in_range}
 use Rattle.fts_pack.specs.Documents.{block_count}
 use Rattle.fts_cursor.specs.Scans.{has_within}
 use Rattle.fts_cursor.specs.Standing.{at_most}
@@ -15,7 +16,7 @@ use Rattle.fts_cursor.proofs.range.between.Goals as goal
 pub returns-then-documents-docs-clause-remaining : goal.returns-then-documents-docs-clause-remaining
 returns-then-documents-docs-clause-remaining c =
     let listed = c.in_ok-listed.ensures in
-    IfOk-weaker c.listed.result _ _ (λ t is. is ∙ lists_within c.args.column.now c.args.low c.args.high c.args.lists.now c.requires.lists c.in_ok-listed.listed
+    IfOk-weaker c.listed.result _ _ (λ t is. is ∙ lists_within c.args.column.now c.args.low c.args.high (lists_in_range c.args.lists) c.requires.lists c.in_ok-listed.listed
     listed.rises listed.sound listed.whole
     ∙ ap (passing (has_within c.args.low c.args.high c.args.column.now) 0) c.requires.size) c.listed.ensures.remaining
 
@@ -35,7 +36,7 @@ pub returns-then-documents-docs-clause-opens : goal.returns-then-documents-docs-
 returns-then-documents-docs-clause-opens c =
     let listed = c.in_ok-listed.ensures in
     let documents = c.in_ok-listed.listed in
-    let lists = c.args.lists.now in
+    let lists = lists_in_range c.args.lists in
     let are = lists_within c.args.column.now c.args.low c.args.high lists c.requires.lists documents listed.rises listed.sound listed.whole in
     let size : length documents ≡ c.args.documents = ap length are ∙ count-within c.args.low c.args.high c.args.column.now ∙ sym c.requires.documents in
     let many : block_count (length documents) ≤ c.in_ok-listed.opened =

@@ -1,6 +1,7 @@
 -- The column of either kind of field keeps its values.
 use Rattle.std.proofs.Common.{◌≡◌, ℕ, List, Option, length, ap, ap₂, subst, sym, ◌∙◌}
 use Rattle.std.proofs.lemmas.Result.{IfOk-weaker}
+use Rattle.fts_pack.specs.ListRange.{lists_in_range}
 use Rattle.fts_segment.specs.Between.{AreBetween, count_between}
 use Rattle.fts_postings.specs.Windows.{passing}
 use Rattle.fts_cursor.specs.Ranges.{values_of}
@@ -20,7 +21,7 @@ between-requires-clause-lists c =
     let segment = c.args.segment.now in
     let same : c.column-column.result.now ≡ values_of segment c.args.field =
     by_kind (λ xs. c.column-column.result.now ≡ xs) segment c.args.field c.column-column.ensures.numbers c.column-column.ensures.ordinals in
-    let P : List (Option ℕ) → Type 0 = λ xs. AreBetween xs c.args.low c.args.high c.lists_between-lists.result.now in
+    let P : List (Option ℕ) → Type 0 = λ xs. AreBetween xs c.args.low c.args.high (lists_in_range c.lists_between-lists.result) in
     subst P (sym same) (by_kind P segment c.args.field c.lists_between-lists.ensures.numbers c.lists_between-lists.ensures.ordinals)
 
 pub between-requires-clause-documents : goal.between-requires-clause-documents

@@ -1,5 +1,6 @@
 -- The source has the documents of the list.
 use Rattle.std.proofs.Common.{◌<◌, ap, ◌∙◌, arith}
+use Rattle.fts_pack.specs.ListRef.{listed}
 use Rattle.fts_pack.specs.Documents.{blocks_of}
 use Rattle.fts_cursor.proofs.BoolHits.{one_or_none}
 use Rattle.fts_cursor.proofs.LeadingLemmas.{one_where, one_where_some}
@@ -8,7 +9,7 @@ use Rattle.fts_cursor.proofs.term_lists.cursor_over.Goals as goal
 
 pub returns : goal.returns
 returns c =
-    let documents = c.args.list.now in
+    let documents = listed c.args.list in
     let blocks = c.new.ensures.blocks ∙ ap blocks_of c.source.ensures.documents in
     let once : c.new.result.opened < 2 = one_or_none _ c.new.result.opened c.new.ensures.opened in
     record {

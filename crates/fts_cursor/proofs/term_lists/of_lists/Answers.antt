@@ -3,6 +3,7 @@ use Rattle.std.proofs.Common.{◌≡◌, [], length, rules, subst}
 use Rattle.std.proofs.lemmas.Bool.{eqb-true}
 use Rattle.std.proofs.lemmas.List.{nil_from_length}
 use Rattle.std.proofs.lemmas.Result.{IfOk-weaker}
+use Rattle.fts_pack.specs.ListRef.{listed}
 use Rattle.fts_cursor.specs.Splits.{FindsAll, FindsSplit, IsSplit}
 use Rattle.fts_cursor.specs.TreeValues.{TreeValue}
 use Rattle.fts_cursor.proofs.LeadingLemmas.{lists_of}
@@ -11,8 +12,8 @@ use Rattle.fts_cursor.proofs.term_lists.of_lists.Goals as goal
 pub returns : goal.returns
 returns c =
     let s = c.in_ok-bits.field-0 in
-    IfOk-weaker c.some_told.result _ (λ (t : TreeValue). FindsAll c.args.shortest.now (lists_of c.args.others.now) t.standing)
-    (λ (t : TreeValue) h. subst (λ rest. FindsSplit c.args.shortest.now s.bits.items (lists_of rest) s.opened t.standing) c.deref.ensures.value h
+    IfOk-weaker c.some_told.result _ (λ (t : TreeValue). FindsAll (listed c.args.shortest) (lists_of c.args.others.now) t.standing)
+    (λ (t : TreeValue) h. subst (λ rest. FindsSplit (listed c.args.shortest) s.bits.items (lists_of rest) s.opened t.standing) c.deref.ensures.value h
     (lists_of c.args.others.now) c.in_ok-bits.ensures) c.some_told.ensures
 
 pub returns-then-is_empty : goal.returns-then-is_empty
@@ -23,7 +24,7 @@ returns-in-Some c =
     let s = c.in_ok-bits.field-0 in
     let size : length s.rest.items ≡ 0 = search (rules, eqb-true) in
     let none : s.rest.items ≡ [] = nil_from_length s.rest.items size in
-    IfOk-weaker c.all_told.result _ (λ (t : TreeValue). FindsAll c.args.shortest.now (lists_of c.args.others.now) t.standing)
+    IfOk-weaker c.all_told.result _ (λ (t : TreeValue). FindsAll (listed c.args.shortest) (lists_of c.args.others.now) t.standing)
     (λ (t : TreeValue) h. h (lists_of c.args.others.now) (subst (λ rest. IsSplit (lists_of c.args.others.now) s.bits.items (lists_of rest) s.opened) none
     c.in_ok-bits.ensures)) c.all_told.ensures
 

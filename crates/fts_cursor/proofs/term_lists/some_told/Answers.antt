@@ -1,5 +1,6 @@
 -- What the list and those without bits have, cut by the bits of the others.
 use Rattle.std.proofs.Common.{ap, ◌∙◌, arith}
+use Rattle.fts_pack.specs.ListRef.{listed}
 use Rattle.fts_postings.specs.Bounds.{Bound, most_at}
 use Rattle.fts_cursor.specs.TreeValues.{TreeValue}
 use Rattle.fts_cursor.proofs.LeadingLemmas.{conjoined_over, fresh_others, lists_of}
@@ -12,16 +13,16 @@ new-requires c = record { fresh = fresh_others c.in_ok-others.others.items c.arg
 pub new-filter-requires : goal.new-filter-requires
 new-filter-requires c =
     record {
-      tied = (conjoined_over c.args.shortest.now c.args.rest.now c.cursor_over-lead.result c.in_ok-others.others.items c.new.result
+      tied = (conjoined_over (listed c.args.shortest) c.args.rest.now c.cursor_over-lead.result c.in_ok-others.others.items c.new.result
           c.cursor_over-lead.ensures c.in_ok-others.ensures c.new.ensures.follows c.new.ensures.remaining).fresh;
     }
 
 pub returns : goal.returns
 returns c =
-    let m = conjoined_over c.args.shortest.now c.args.rest.now c.cursor_over-lead.result c.in_ok-others.others.items c.new.result c.cursor_over-lead.ensures
+    let m = conjoined_over (listed c.args.shortest) c.args.rest.now c.cursor_over-lead.result c.in_ok-others.others.items c.new.result c.cursor_over-lead.ensures
     c.in_ok-others.ensures c.new.ensures.follows c.new.ensures.remaining in
     all_three c.filter.result _ _ _ _ (λ (t : TreeValue) remaining openings bound lists split.
-    FindsAll-cut c.args.shortest.now lists c.args.bits.items (lists_of c.args.rest.now) c.args.opened c.requires split c.new.result t.standing m
+    FindsAll-cut (listed c.args.shortest) lists c.args.bits.items (lists_of c.args.rest.now) c.args.opened c.requires split c.new.result t.standing m
     (remaining ∙ c.new-filter.ensures.remaining) (omega (arith, openings, c.new-filter.ensures.openings))
     (λ doc. ap (λ (b : Bound). most_at b doc) bound ∙ c.new-filter.ensures.bound doc)) c.filter.ensures.remaining c.filter.ensures.openings
     c.filter.ensures.bound

@@ -1,7 +1,8 @@
 -- A list more, with bits or without.
 use Rattle.std.proofs.Common.{◌≡◌, ◌+◌, ◌++◌, ◌∷◌, ◌<◌, [], List, ℕ, map, take, get_or, length, refl, ap, sym, subst, ◌∙◌, arith}
-use Rattle.std.specs.Borrow.{Bor}
 use Rattle.std.proofs.lemmas.List.{map-append, take_more}
+use Rattle.fts_pack.specs.declared.list_ref.ListRef.{ListRef}
+use Rattle.fts_pack.specs.ListRef.{listed}
 use Rattle.fts_cursor.specs.Splits.{IsSplit}
 use Rattle.fts_cursor.proofs.LeadingLemmas.{lists_of}
 use Rattle.fts_cursor.proofs.SplitLemmas.{IsSplit-rest, IsSplit-told}
@@ -9,10 +10,10 @@ use Rattle.fts_cursor.proofs.term_lists.split_of.Goals as goal
 use Rattle.fts_cursor.proofs.term_lists.split_of.Goals.{in-Some+in_ok-push-in-Some, in-None+in_ok-push-in-None}
 
 -- the lists so far with one more
-more : (ls : List (Bor (List ℕ))) (i : ℕ) (l : Bor (List ℕ)) → i < length ls → l ≡ get_or ls i l →
-    lists_of (take i ls) ++ l.now ∷ [] ≡ lists_of (take (i + 1) ls)
-more ls i l inside is = ap (λ (m : Bor (List ℕ)). lists_of (take i ls) ++ m.now ∷ []) is
-    ∙ sym (map-append (λ (m : Bor (List ℕ)). m.now) (take i ls) (get_or ls i l ∷ [])) ∙ ap (map (λ (m : Bor (List ℕ)). m.now)) (sym (take_more ls i l inside))
+more : (ls : List (ListRef)) (i : ℕ) (l : ListRef) → i < length ls → l ≡ get_or ls i l →
+    lists_of (take i ls) ++ listed l ∷ [] ≡ lists_of (take (i + 1) ls)
+more ls i l inside is = ap (λ (m : ListRef). lists_of (take i ls) ++ listed m ∷ []) is
+    ∙ sym (map-append listed (take i ls) (get_or ls i l ∷ [])) ∙ ap (map listed) (sym (take_more ls i l inside))
 
 pub overflow_add-opened : goal.overflow_add-opened
 overflow_add-opened c =
@@ -34,12 +35,12 @@ loop-list-preserved c =
       | in-Some+in_ok-push-in-Some w ↦ rw (w.bits-is, w.rest-is, w.opened-is, w.in_ok-push-in-Some.ensures.items)
           (subst (λ ls. IsSplit ls (c.loop-list.bits.items ++ w.in-Some.told ∷ []) (lists_of c.loop-list.rest.items)
           (c.loop-list.opened + w.openings-opened.result)) all
-          (IsSplit-told (lists_of (take i c.args.lists.now)) c.loop-list.bits.items (lists_of c.loop-list.rest.items) c.loop-list.opened c.list-item.result.now
+          (IsSplit-told (lists_of (take i c.args.lists.now)) c.loop-list.bits.items (lists_of c.loop-list.rest.items) c.loop-list.opened (listed c.list-item.result)
           w.in-Some.told w.openings-opened.result _ c.loop-list.invariant w.in-Some.ensures.tells
           (omega (arith, w.openings-opened.ensures.opened, w.cursor_over.ensures.opened, w.cursor_over.ensures.tied))
           (λ some. omega (arith, w.openings-opened.ensures.opened, w.cursor_over.ensures.enters some)) refl))
       | in-None+in_ok-push-in-None w ↦ rw (w.bits-is, w.rest-is, w.opened-is, w.in_ok-push-in-None.ensures.items, map-append)
-          (subst (λ ls. IsSplit ls c.loop-list.bits.items (lists_of c.loop-list.rest.items ++ c.list-item.result.now ∷ []) c.loop-list.opened) all
-          (IsSplit-rest (lists_of (take i c.args.lists.now)) c.loop-list.bits.items (lists_of c.loop-list.rest.items) c.loop-list.opened c.list-item.result.now
+          (subst (λ ls. IsSplit ls c.loop-list.bits.items (lists_of c.loop-list.rest.items ++ (listed c.list-item.result) ∷ []) c.loop-list.opened) all
+          (IsSplit-rest (lists_of (take i c.args.lists.now)) c.loop-list.bits.items (lists_of c.loop-list.rest.items) c.loop-list.opened (listed c.list-item.result)
           c.loop-list.invariant))
     ]

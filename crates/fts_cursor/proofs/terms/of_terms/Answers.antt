@@ -1,6 +1,7 @@
 -- A cursor over the lists of the terms, of which the shortest leads.
 use Rattle.std.proofs.Common.{◌∙◌, arith, subst}
 use Rattle.std.proofs.lemmas.Result.{IfOk-weaker}
+use Rattle.fts_pack.specs.ListRef.{listed}
 use Rattle.fts_cursor.specs.Splits.{FindsAll}
 use Rattle.fts_cursor.specs.TreeValues.{TreeValue}
 use Rattle.fts_cursor.proofs.LeadingLemmas.{lists_of, no_hits}
@@ -21,22 +22,22 @@ pub returns-clause-remaining : goal.returns-clause-remaining
 returns-clause-remaining c =
     let lists = c.in-Some.lists in
     IfOk-weaker c.of_lists.result _ _
-    (λ (t : TreeValue) h. (FindsHits-led c.args.segment.now c.args.queries.now lists.shortest.now (lists_of lists.others.items) t.standing
+    (λ (t : TreeValue) h. (FindsHits-led c.args.segment.now c.args.queries.now (listed lists.shortest) (lists_of lists.others.items) t.standing
     (rw c.in-Some.is at c.in_ok-lists.ensures)
-    (subst (λ ls. FindsAll lists.shortest.now (lists_of ls) t.standing) c.deref.ensures.value h)).hits) c.of_lists.ensures
+    (subst (λ ls. FindsAll (listed lists.shortest) (lists_of ls) t.standing) c.deref.ensures.value h)).hits) c.of_lists.ensures
 
 pub returns-clause-bound : goal.returns-clause-bound
 returns-clause-bound c =
     let lists = c.in-Some.lists in
     IfOk-weaker c.of_lists.result _ _
-    (λ (t : TreeValue) h. (FindsHits-led c.args.segment.now c.args.queries.now lists.shortest.now (lists_of lists.others.items) t.standing
+    (λ (t : TreeValue) h. (FindsHits-led c.args.segment.now c.args.queries.now (listed lists.shortest) (lists_of lists.others.items) t.standing
     (rw c.in-Some.is at c.in_ok-lists.ensures)
-    (subst (λ ls. FindsAll lists.shortest.now (lists_of ls) t.standing) c.deref.ensures.value h)).bound) c.of_lists.ensures
+    (subst (λ ls. FindsAll (listed lists.shortest) (lists_of ls) t.standing) c.deref.ensures.value h)).bound) c.of_lists.ensures
 
 pub returns-clause-opened : goal.returns-clause-opened
 returns-clause-opened c =
     let lists = c.in-Some.lists in
     IfOk-weaker c.of_lists.result _ _
-    (λ (t : TreeValue) h. (FindsHits-led c.args.segment.now c.args.queries.now lists.shortest.now (lists_of lists.others.items) t.standing
+    (λ (t : TreeValue) h. (FindsHits-led c.args.segment.now c.args.queries.now (listed lists.shortest) (lists_of lists.others.items) t.standing
     (rw c.in-Some.is at c.in_ok-lists.ensures)
-    (subst (λ ls. FindsAll lists.shortest.now (lists_of ls) t.standing) c.deref.ensures.value h)).opened) c.of_lists.ensures
+    (subst (λ ls. FindsAll (listed lists.shortest) (lists_of ls) t.standing) c.deref.ensures.value h)).opened) c.of_lists.ensures

@@ -18,7 +18,7 @@ made doc buffered lists now =
     subst (IsNow doc (Or buffered)) (at_least_all 0 0 (union lists) (Rises-union lists) (omega arith)) now
 
 pub refill-doc-requires : goal.refill-doc-requires
-refill-doc-requires c = c.in_ok-window.ensures
+refill-doc-requires c = c.new-window.ensures
 
 pub of-requires : goal.of-requires
 of-requires c = (made c.refill-doc.result c.refill-doc.new.buffered (remains c.args.parts.items) c.refill-doc.ensures.now).stands

@@ -3,6 +3,7 @@ use Rattle.std.proofs.Common.{◌≡◌, Some, ap, arith, length, subst, ◌∙�
 use Rattle.std.specs.List.{flat_map}
 use Rattle.std.specs.List.Sorted.{IsStrictlyIncreasing}
 use Rattle.std.proofs.lemmas.Result.{IfOk-weaker}
+use Rattle.fts_pack.specs.ListRef.{listed}
 use Rattle.fts_pack.specs.Documents.{block_count, blocks_of}
 use Rattle.fts_pack.specs.SourceLaws.{blocks_joined, length-blocks_of}
 use Rattle.fts_postings.proofs.PostingLemmas.{posting_new}
@@ -16,7 +17,7 @@ use Rattle.fts_cursor.proofs.tree.Tree.postings.Goals as goal
 pub of-requires : goal.of-requires
 of-requires c =
     let p = c.new-postings.result in
-    let documents = c.args.list.now in
+    let documents = listed c.args.list in
     let is : p.blocks ≡ blocks_of documents = c.new-postings.ensures.blocks ∙ ap blocks_of c.source.ensures.documents in
     let all = posting_new p documents is c.new-postings.ensures.first.0 c.new-postings.ensures.first.1 in
     record {
@@ -32,21 +33,21 @@ of-requires c =
 pub returns-clause-list : goal.returns-clause-list
 returns-clause-list c =
     let p = c.new-postings.result in
-    let is : p.blocks ≡ blocks_of c.args.list.now = c.new-postings.ensures.blocks ∙ ap blocks_of c.source.ensures.documents in
-    IfOk-weaker c.of.result (λ (t : TreeValue). t ≡ tree_value (Postings p)) (λ t. t.list ≡ Some c.args.list.now)
-    (λ t made. ap (λ (s : TreeValue). s.list) made ∙ ap (λ bs. Some (flat_map (λ block. block) bs)) is ∙ ap Some (blocks_joined c.args.list.now)) c.of.ensures
+    let is : p.blocks ≡ blocks_of (listed c.args.list) = c.new-postings.ensures.blocks ∙ ap blocks_of c.source.ensures.documents in
+    IfOk-weaker c.of.result (λ (t : TreeValue). t ≡ tree_value (Postings p)) (λ t. t.list ≡ Some (listed c.args.list))
+    (λ t made. ap (λ (s : TreeValue). s.list) made ∙ ap (λ bs. Some (flat_map (λ block. block) bs)) is ∙ ap Some (blocks_joined (listed c.args.list))) c.of.ensures
 
 pub returns-clause-remaining : goal.returns-clause-remaining
 returns-clause-remaining c =
     let p = c.new-postings.result in
-    let is : p.blocks ≡ blocks_of c.args.list.now = c.new-postings.ensures.blocks ∙ ap blocks_of c.source.ensures.documents in
-    IfOk-weaker c.of.result (λ (t : TreeValue). t ≡ tree_value (Postings p)) (λ t. t.remaining ≡ c.args.list.now)
-    (λ t made. ap (λ (s : TreeValue). s.remaining) made ∙ posting_new p c.args.list.now is c.new-postings.ensures.first.0 c.new-postings.ensures.first.1)
+    let is : p.blocks ≡ blocks_of (listed c.args.list) = c.new-postings.ensures.blocks ∙ ap blocks_of c.source.ensures.documents in
+    IfOk-weaker c.of.result (λ (t : TreeValue). t ≡ tree_value (Postings p)) (λ t. t.remaining ≡ (listed c.args.list))
+    (λ t made. ap (λ (s : TreeValue). s.remaining) made ∙ posting_new p (listed c.args.list) is c.new-postings.ensures.first.0 c.new-postings.ensures.first.1)
     c.of.ensures
 
 pub returns-clause-bound : goal.returns-clause-bound
 returns-clause-bound c =
     let p = c.new-postings.result in
-    let is : p.blocks ≡ blocks_of c.args.list.now = c.new-postings.ensures.blocks ∙ ap blocks_of c.source.ensures.documents in
-    IfOk-weaker c.of.result (λ (t : TreeValue). t ≡ tree_value (Postings p)) (λ t. t.bound ≡ at_most (block_count (length c.args.list.now)))
-    (λ t made. ap (λ (s : TreeValue). s.bound) made ∙ ap at_most (ap length is ∙ length-blocks_of c.args.list.now)) c.of.ensures
+    let is : p.blocks ≡ blocks_of (listed c.args.list) = c.new-postings.ensures.blocks ∙ ap blocks_of c.source.ensures.documents in
+    IfOk-weaker c.of.result (λ (t : TreeValue). t ≡ tree_value (Postings p)) (λ t. t.bound ≡ at_most (block_count (length (listed c.args.list))))
+    (λ t made. ap (λ (s : TreeValue). s.bound) made ∙ ap at_most (ap length is ∙ length-blocks_of (listed c.args.list))) c.of.ensures

@@ -7,4 +7,4 @@ use Rattle.fts_postings.proofs.window.Window.cost.Goals as goal
 pub returns : goal.returns
 returns c =
     let w = c.args.self.now in
-    omega (arith, scan_cost (is_found w.base w.marks.items) w.from (suc w.last - w.from) 0)
+    omega (arith, scan_cost (is_found w.base w.words) w.from (suc w.last - w.from) 0)

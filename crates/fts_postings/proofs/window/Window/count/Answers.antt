@@ -10,7 +10,7 @@ overflow_add-count c =
     let w = c.args.self.now in
     omega (
       arith,
-      scan_cost (is_found w.base w.marks.items) w.from (suc w.last - w.from) 0,
+      scan_cost (is_found w.base w.words) w.from (suc w.last - w.from) 0,
       c.loop-self.invariant.sum,
       c.count_word-count.ensures.count,
       w.fits,
@@ -21,7 +21,7 @@ overflow_add-count-in-loop-self c =
     let w = c.args.self.now in
     omega (
       arith,
-      scan_cost (is_found w.base w.marks.items) w.from (suc w.last - w.from) 0,
+      scan_cost (is_found w.base w.words) w.from (suc w.last - w.from) 0,
       c.loop-self.invariant.sum,
       c.count_word-count.ensures.count,
       c.count_words-count.ensures.count,
@@ -31,9 +31,9 @@ overflow_add-count-in-loop-self c =
 pub returns-clause-count : goal.returns-clause-count
 returns-clause-count c =
     let w = c.loop-self.self in
-    omega (arith, c.loop-self.invariant.sum, ap length (found-past w.base w.from w.last w.marks.items (omega (arith, c.loop-self-test.false))))
+    omega (arith, c.loop-self.invariant.sum, ap length (found-past w.base w.from w.last w.words (omega (arith, c.loop-self-test.false))))
 
 pub returns-clause-none : goal.returns-clause-none
 returns-clause-none c =
     let w = c.loop-self.self in
-    found-past w.base w.from w.last w.marks.items (omega (arith, c.loop-self-test.false))
+    found-past w.base w.from w.last w.words (omega (arith, c.loop-self-test.false))

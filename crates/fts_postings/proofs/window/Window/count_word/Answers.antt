@@ -14,4 +14,4 @@ returns-clause-count c =
     let marks = bit_and word ((2 ^ 64 - 1) * 2 ^ at % 2 ^ 64) in
     let is = ap (bit_and word) (ones_shl 64 at (omega arith)) in
     let mask = ap (λ k. (2 ^ 64 - 1) / 2 ^ k) c.saturating_sub-behind.ensures ∙ ones_shr 64 (start + 63 - w.last) (omega (arith, c.requires)) in
-    counted_word w.marks.items w.base w.from word w.order c.word.ensures marks is w.last _ c.requires mask
+    counted_word w.words w.base w.from word w.order c.word.ensures marks is w.last _ c.requires mask

@@ -15,7 +15,7 @@ returns-then-marks-eq0-clause-same c =
     let marks = bit_and word ((2 ^ 64 - 1) * 2 ^ at % 2 ^ 64) in
     let is = ap (bit_and word) (ones_shl 64 at (omega arith)) in
     let none : marks ≡ 0 = c.if-marks-eq0.true in
-    sym (found-ahead w.base w.from (w.from - at + 64) w.last w.marks.items (omega arith) (none_here w.marks.items w.base w.from word w.order c.word.ensures
+    sym (found-ahead w.base w.from (w.from - at + 64) w.last w.words (omega arith) (none_here w.words w.base w.from word w.order c.word.ensures
     marks is none))
 
 pub returns-clause-same : goal.returns-clause-same
@@ -27,9 +27,9 @@ returns-clause-same c =
     let is = ap (bit_and word) (ones_shl 64 at (omega arith)) in
     let some : 0 < marks = omega arith in
     let fits : marks < 2 ^ 64 = omega (arith, and_le_r word ((2 ^ 64 - 1) * 2 ^ at % 2 ^ 64)) in
-    let low = lowest_from w.marks.items w.base w.from word w.order c.word.ensures marks is some fits in
-    sym (found-ahead w.base w.from (w.from - at + trailing_zeros w64 marks) w.last w.marks.items (omega (arith, low))
-    (none_before w.marks.items w.base w.from word w.order c.word.ensures marks is some fits))
+    let low = lowest_from w.words w.base w.from word w.order c.word.ensures marks is some fits in
+    sym (found-ahead w.base w.from (w.from - at + trailing_zeros w64 marks) w.last w.words (omega (arith, low))
+    (none_before w.words w.base w.from word w.order c.word.ensures marks is some fits))
 
 pub returns-clause-marked : goal.returns-clause-marked
 returns-clause-marked c _ =
@@ -40,4 +40,4 @@ returns-clause-marked c _ =
     let is = ap (bit_and word) (ones_shl 64 at (omega arith)) in
     let some : 0 < marks = omega arith in
     let fits : marks < 2 ^ 64 = omega (arith, and_le_r word ((2 ^ 64 - 1) * 2 ^ at % 2 ^ 64)) in
-    lowest_is w.marks.items w.base w.from word w.order c.word.ensures marks is some fits
+    lowest_is w.words w.base w.from word w.order c.word.ensures marks is some fits

@@ -8,4 +8,4 @@ pub returns-clause-marked : goal.returns-clause-marked
 returns-clause-marked c =
     let w = c.args.self.now in
     let later : c.max-self.result ≡ max w.from c.args.target = omega arith in
-    ap (λ n. found_in w.base n w.last w.marks.items) later ∙ found-at_least w.base w.from c.args.target w.last w.marks.items
+    ap (λ n. found_in w.base n w.last w.words) later ∙ found-at_least w.base w.from c.args.target w.last w.words

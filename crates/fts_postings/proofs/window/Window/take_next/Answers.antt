@@ -37,8 +37,8 @@ returns-clause-taken c =
     let fits : marks < 2 ^ 64 = omega (arith, and_le_r word ((2 ^ 64 - 1) * 2 ^ at % 2 ^ 64)) in
     let is = ap (bit_and word) (ones_shl 64 at (omega arith)) in
     let stands = c.in-Some.ensures.stands in
-    taken_word (found_in old.base old.from old.last old.marks.items) (found_in w.base (start + 64) w.last w.marks.items) c.args.out.now c.write.new.out w.base
-    start c.in-Some.doc w.last marks c.args.filled c.write.result _ w.marks.items _
+    taken_word (found_in old.base old.from old.last old.words) (found_in w.base (start + 64) w.last w.words) c.args.out.now c.write.new.out w.base
+    start c.in-Some.doc w.last marks c.args.filled c.write.result _ w.words _
     (sym c.first.ensures.same ∙ stands.1) (omega (arith, stands.0)) refl
-    (sym c.first.ensures.same ∙ word_split w.marks.items w.base w.from word w.order c.word.ensures marks is w.last (omega (arith, c.if-start-self.false)))
+    (sym c.first.ensures.same ∙ word_split w.words w.base w.from word w.order c.word.ensures marks is w.last (omega (arith, c.if-start-self.false)))
     (marked-ones start marks fits) c.if-filled-count-gt128.false c.write.ensures.count c.write.ensures.written
