@@ -30,8 +30,8 @@ SCRIPT = (ROOT / "examples/groups.jsonl").read_bytes()
 
 # The limits, as docs/SCRIPT.md has them.
 MOST_OPERATIONS, MOST_MERGED = 1_000_000, 1_048_576
-# From so many documents on, several workers share out a search.
-WORTH_THREADS = 262_144
+# So many documents that some searches are worth threads.
+MANY = 262_144
 # What the runs of the limits may take: processor seconds together, and bytes at the peak of each.
 SECONDS, BYTES = 20, 2 * 10**9
 
@@ -141,34 +141,36 @@ def limits() -> None:
     print(f"program: LaneFull and TooLarge three times in {took:.0f} processor seconds, with {peak / 1e9:.1f} GB at the peak", flush=True)
 
 
-def many_documents() -> tuple[list[str], list[str]]:
-    """The lines before the searches, and the searches: over so many documents that a search by several workers starts threads."""
+def many_documents() -> list[str]:
+    """The lines that make so many documents that a search by several workers may start threads."""
     fields = [{"name": "title", "kind": "text", "default": True}, {"name": "tag", "kind": "keyword"}, {"name": "price", "kind": "u64"}]
-    adds = [{"title": f"a b{' a' * (n % 3)} w{n % 1_000}", "tag": f"t{n % 7}", "price": n * 7_919 % 10_007} for n in range(WORTH_THREADS)]
+    adds = [{"title": f"a b{' a' * (n % 3)} w{n % 1_000}", "tag": f"t{n % 7}", "price": n * 7_919 % 10_007} for n in range(MANY)]
     lines = [{"schema": fields}, *({"add": each} for each in adds), {"commit": True}, {"delete": {"tag": "t6"}}, {"add": {"tag": "t6"}}]
-    lines += [*({"add": each} for each in adds[: WORTH_THREADS // 7 + 1]), {"commit": True}]
-    tops = [{"by": "price", "k": k, "order": order} for k, order in ((10, "falling"), (1_000, "rising"))]
-    searches = [{"query": "*"}, {"query": "w7", "groups": "tag"}, {"query": '"b a a"', "top": tops[0]}, {"query": "price:[5 TO 50]", "groups": "price"},
-                {"query": "+a -tag:t1", "groups": "tag", "top": tops[1]}, {"query": "tag:t6"}]
-    return [json.dumps(line) for line in lines], [json.dumps({"search": search}) for search in searches]
+    return list(map(json.dumps, [*lines, *({"add": each} for each in adds[: MANY // 7 + 1]), {"commit": True}]))
 
 
 def searches_by_threads() -> None:
-    """Searches that are shared out among threads: the replies are those of the plain list, and threads are started for them."""
-    lines, searches = many_documents()
-    before, whole = ("\n".join(each).encode() + b"\n" for each in (lines, lines + searches))
-    wanted = subprocess.run([PLAIN], input=whole, capture_output=True).stdout
+    """Searches of many documents: the replies are those of the plain list. Threads are started for each that takes long, and for no other."""
+    soon = [{"query": "*"}, {"query": "w7", "groups": "tag"}, {"query": "price:[5 TO 50]"}, {"query": "tag:t6"}]
+    tops = [{"by": "price", "k": k, "order": order} for k, order in ((10, "falling"), (1_000, "rising"))]
+    long = [{"query": "*", "groups": "price"}, {"query": '"b a a"', "top": tops[0]}, {"query": "+a -tag:t1", "groups": "tag", "top": tops[1]}]
+    lines = many_documents()
+    scripts = []
+    for searches in ([], soon, long):
+        lines += [json.dumps({"search": search}) for search in searches]
+        scripts.append("\n".join(lines).encode() + b"\n")
+    wanted = subprocess.run([PLAIN], input=scripts[-1], capture_output=True).stdout
     by = [[PROGRAM, "run", "--runs", cut, "--workers", workers] for cut, workers in (("65536", "1"), ("65536", "3"), ("20000", "64"))]
     for words in by:
-        done = subprocess.run(words, input=whole, capture_output=True)
+        done = subprocess.run(words, input=scripts[-1], capture_output=True)
         check(f"many documents: {' '.join(words)}", (done.returncode, done.stdout) == (0, wanted), done.stdout[-400:])
     if not faults.compiler():
         skip("threads of searches", "there is no C compiler")
         return
     with faults.shim() as shim:
         # A commit starts threads too, so the script without its searches is looked at as well.
-        started = [[int(faults.run(shim, words, script, THREADS=1)[2].split()[-1]) for script in (before, whole)] for words in by[:2]]
-    check("threads of searches", started[0] == [0, 0] and started[1][1] - started[1][0] >= len(searches), started)
+        alone, (before, cheap, dear) = ([int(faults.run(shim, words, script, THREADS=1)[2].split()[-1]) for script in scripts] for words in by[:2])
+    check("threads of searches", alone == [0, 0, 0] and before == cheap and dear - cheap >= len(long), (alone, before, cheap, dear))
 
 
 def main() -> int:

@@ -235,7 +235,7 @@ impl<R: AllocGlobal + Threads + Wait + Sync> EngineOver<R> for IndexEngine {
 
     fn search(&mut self, rt: &R, query: &Query, request: &Request) -> Result<Answer, Refusal> {
         let searcher = last_commit(&self.writer, &mut self.reader)?;
-        let workers = threads_for(self.options.workers, searcher.snapshot().entries());
+        let workers = threads_for(self.options.workers, &searcher, query, request);
         let found = searcher.search(rt, rt.alloc(), query, request, workers, &Open)?;
         Ok(found.answer)
     }

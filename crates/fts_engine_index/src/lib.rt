@@ -2,8 +2,8 @@
 //!
 //! [`IndexEngine`] is an engine of scripts over a writer of segments: it submits to rounds of one lane, cuts and merges
 //! as its options say, and searches the last commit through a reader. For every cutting, merging and number of workers
-//! it takes the same steps as a plain list of documents, so no option changes a reply. If the segments are small, one
-//! thread searches them, whatever the number of workers.
+//! it takes the same steps as a plain list of documents, so no option changes a reply. A search takes further threads
+//! only if its estimated work is worth their start, up to the number of workers.
 //!
 //! `LocalEngine` of `fts_engine_local` takes the same steps in the calling thread alone.
 //!

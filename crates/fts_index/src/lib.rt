@@ -11,6 +11,7 @@
 //! - Commits are *published* ([`publications`]). A [`Reader`] in any thread takes the newest one by one look, without a
 //!   lock, and never goes back; a [`Searcher`] keeps the one that it was made of.
 //! - A search asks each segment by a job of its own, and joins the parts ([`Searcher::search`]).
+//!   [`Searcher::cost`] estimates its work, by which a caller chooses how many threads to take.
 //!
 //! ```text
 //! let mut writer = Writer::new(rt, alloc, &schema)?;

@@ -7,7 +7,9 @@ ghost use Rattle.fts_model.specs.QueryValues.{query_value};
 ghost use Rattle.fts_collect.specs.Searches.{IsPartOf};
 ghost use Rattle.fts_index.specs.SearchJobs.{asks, asked_of};
 
+mod findings;
 mod found;
+mod search_cost;
 mod search_job;
 
 pub use found::Found;
@@ -15,6 +17,7 @@ use fts_collect::Part;
 use fts_model::{Query, Refusal, Request};
 use fts_pool::{Gate, run_all};
 use fts_snapshots::EntryList;
+pub(crate) use search_cost::search_cost;
 use search_job::SearchJob;
 use std::alloc::{AllocError, Global};
 use std::sync::Wait;

@@ -1,4 +1,5 @@
 // If any growth is refused to a commit, a reader, a query or a search, all is as before, and the second try succeeds.
+// If it is refused to an estimate, that is another number.
 // The messages for the second try end with "again".
 ghost use Rattle.std.specs.Prelude.{◌≡◌, true};
 ghost use Rattle.dilforec.specs.Queries.{query_fits};
@@ -163,4 +164,22 @@ fn a_refused_growth_of_a_commit_can_be_tried_again(rt: HostRuntime) {
     finds(&rt, &mut reader, 3);
     tell(&rt, &mut reader, &seen, 3);
     finds(&rt, &mut reader, 7);
+}
+
+#[test]
+fn a_cost_is_estimated_also_without_memory(rt: HostRuntime) {
+    let alloc = rt.alloc();
+    let mut writer = writer(&rt, alloc).expect(&rt, "a writer");
+    commit_two(&rt, alloc, &mut writer);
+    let searcher = writer.searcher().expect(&rt, "a searcher");
+    writer.close(&rt);
+    let schema = searcher.snapshot().schema();
+    let text = "(+* -q) tag:[p TO q} title:\"p q\" (+price:>1 +temp:[-1 TO 1])";
+    let query = parsed(&rt, alloc, schema, text);
+    let plain = Request::new(schema, None, None).expect(&rt, "a request");
+    let groups = Request::new(schema, Some("tag"), None).expect(&rt, "groups");
+    let nothing = searcher.cost(&Query::None, &plain);
+    let counted = searcher.cost(&query, &plain);
+    let grouped = searcher.cost(&query, &groups);
+    assert!(rt; nothing <= counted && counted <= grouped);
 }

@@ -10,7 +10,7 @@ ghost use Rattle.fts_index.specs.declared.publications.publication.Publication.{
 ghost use Rattle.fts_index.specs.Publications.{IsFront, IsOneCommit};
 
 use crate::publications::front::Front;
-use crate::searches::{Found, openings_of, segment_parts};
+use crate::searches::{Found, openings_of, search_cost, segment_parts};
 use fts_collect::Part;
 use fts_model::{Query, Refusal, Request, Stamp};
 use fts_pool::Gate;
@@ -61,6 +61,12 @@ impl Searcher {
             × IsPrefix other.now.seen.list all }
     {
         self.front.is_of_commit(&other.front)
+    }
+
+    /// About how many nanoseconds one thread takes for a search: an estimate, by the query's terms in the segment with
+    /// the most documents. It says how many threads a search is worth, and any number is right.
+    pub fn cost(&self, query: &Query, request: &Request) -> u64 {
+        search_cost(self.snapshot().entries(), query, request)
     }
 
     /// What a query finds among all documents of the commit. The segments are searched by up to this many threads, 1 to
