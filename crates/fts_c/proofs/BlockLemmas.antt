@@ -38,8 +38,8 @@ pub record Reached (old : State) (block rest : List ℕ) (now : State) (done : �
   pub left : drop done (lines_of block) ≡ lines_of rest
   pub room : done + length rest ≤ length block
   pub within : done ≤ length (lines_of block)
-  pub reply : string_bytes now.reply ≡ replies old.session (take done (lines_of block))
-  pub session : now.session ≡ after_lines old.session (take done (lines_of block))
+  pub reply : string_bytes now.reply ≡ replies old.session.script (take done (lines_of block))
+  pub session : now.session.script ≡ after_lines old.session.script (take done (lines_of block))
 
 pub reached_next : (old now new : State) (block rest line later : List ℕ) (done : ℕ) (code : ℤ) → Reached old block rest now done →
     lines_of rest ≡ line ∷ lines_of later → length later < length rest → ExecutesNext now line new code → code ≡ OK → Reached old block later new (done + 1)
@@ -49,10 +49,10 @@ reached_next old now new block rest line later done code r first shorter e ok =
       left = n.left;
       room = omega (arith, r.room, shorter);
       within = omega (arith, n.within);
-      reply = e.reply ok ∙ ap (λ v. v ++ reply_to now.session line) r.reply ∙ ap (λ s. replies old.session (take done ls) ++ reply_to s line) r.session
-          ∙ sym (replies-push old.session (take done ls) line) ∙ ap (replies old.session) (sym n.taken);
-      session = e.session ok ∙ ap (λ s. after_line s line) r.session ∙ sym (after_lines-push old.session (take done ls) line)
-          ∙ ap (after_lines old.session) (sym n.taken);
+      reply = e.reply ok ∙ ap (λ v. v ++ reply_to now.session.script line) r.reply ∙ ap (λ s. replies old.session.script (take done ls) ++ reply_to s line) r.session
+          ∙ sym (replies-push old.session.script (take done ls) line) ∙ ap (replies old.session.script) (sym n.taken);
+      session = e.session ok ∙ ap (λ s. after_line s line) r.session ∙ sym (after_lines-push old.session.script (take done ls) line)
+          ∙ ap (after_lines old.session.script) (sym n.taken);
     }
 
 pub reached_stop : (old now new : State) (block rest line later : List ℕ) (done : ℕ) (code : ℤ) → Reached old block rest now done →

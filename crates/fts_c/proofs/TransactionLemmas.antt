@@ -23,9 +23,9 @@ pub fault_not_ok : (s : SessionValue) (line : List ℕ) (code : ℤ) → IsFault
 fault_not_ok s line code f ok = f.untried (f.code_is.tried.0 (inl ok))
 
 -- what became of a line
-pub operated : (old : State) (number : ℕ) (line : List ℕ) (new : State) (taken : Bool) → taken ≡ is_taken old.session line →
-    string_bytes new.reply ≡ cond taken (string_bytes old.reply ++ reply_to old.session line) (text_of number (operate indexes old.session.index line)) →
-    new.session ≡ cond taken (after_line old.session line) old.session → Operates old number line new (Ok taken)
+pub operated : (old : State) (number : ℕ) (line : List ℕ) (new : State) (taken : Bool) → taken ≡ is_taken old.session.script line →
+    string_bytes new.reply ≡ cond taken (string_bytes old.reply ++ reply_to old.session.script line) (text_of number (operate indexes old.session.script.index line)) →
+    new.session.script ≡ cond taken (after_line old.session.script line) old.session.script → Operates old number line new (Ok taken)
 operated old number line new true t r s = record { taken = sym t; reply = r; session = s }
 operated old number line new false t r s = record { refused = sym t; reply = r; session = s }
 
@@ -41,33 +41,33 @@ back_to_start s = ap (λ i. record { number = s.number; index = i }) (option_bac
 
 -- `done` lines of a block were taken, and this is left of it
 pub record Reached (old : State) (block rest : List ℕ) (begun : Savepoint) (now : State) (done : ℕ) : Type 0 where
-  pub begun_is : begun ≡ savepoint_of old.session
+  pub begun_is : begun ≡ savepoint_of old.session.script
   pub left : drop done (lines_of block) ≡ lines_of rest
   pub room : done + length rest ≤ length block
   pub within : done ≤ length (lines_of block)
-  pub session : now.session ≡ after_lines old.session (take done (lines_of block))
-  pub later : after_lines old.session (lines_of block) ≡ after_lines now.session (lines_of rest)
-  pub reply : replies old.session (lines_of block) ≡ string_bytes now.reply ++ replies now.session (lines_of rest)
-  pub refusal : first_refusal old.session (lines_of block) ≡ first_refusal now.session (lines_of rest)
-  pub count : lines_taken old.session (lines_of block) ≡ done + lines_taken now.session (lines_of rest)
-  pub back : rolled_back_to begun now.session ≡ old.session
-  pub kept : begun.uncommitted ≤ count_uncommitted now.session.index
-  pub number : begun.number ≤ now.session.number
+  pub session : now.session.script ≡ after_lines old.session.script (take done (lines_of block))
+  pub later : after_lines old.session.script (lines_of block) ≡ after_lines now.session.script (lines_of rest)
+  pub reply : replies old.session.script (lines_of block) ≡ string_bytes now.reply ++ replies now.session.script (lines_of rest)
+  pub refusal : first_refusal old.session.script (lines_of block) ≡ first_refusal now.session.script (lines_of rest)
+  pub count : lines_taken old.session.script (lines_of block) ≡ done + lines_taken now.session.script (lines_of rest)
+  pub back : rolled_back_to begun now.session.script ≡ old.session.script
+  pub kept : begun.uncommitted ≤ count_uncommitted now.session.script.index
+  pub number : begun.number ≤ now.session.script.number
 
-pub reached_start : (old now : State) (block : List ℕ) (begun : Savepoint) → now.session ≡ old.session → string_bytes now.reply ≡ [] →
-    begun ≡ savepoint_of now.session → Reached old block block begun now 0
+pub reached_start : (old now : State) (block : List ℕ) (begun : Savepoint) → now.session.script ≡ old.session.script → string_bytes now.reply ≡ [] →
+    begun ≡ savepoint_of now.session.script → Reached old block block begun now 0
 reached_start old now block begun same none is =
-    let at : begun ≡ savepoint_of old.session = is ∙ ap savepoint_of same in record {
+    let at : begun ≡ savepoint_of old.session.script = is ∙ ap savepoint_of same in record {
       begun_is = at;
       left = refl;
       room = omega arith;
       within = omega arith;
       session = same;
       later = ap (λ s. after_lines s (lines_of block)) (sym same);
-      reply = ap (λ s. replies s (lines_of block)) (sym same) ∙ ap (λ r. r ++ replies now.session (lines_of block)) (sym none);
+      reply = ap (λ s. replies s (lines_of block)) (sym same) ∙ ap (λ r. r ++ replies now.session.script (lines_of block)) (sym none);
       refusal = ap (λ s. first_refusal s (lines_of block)) (sym same);
       count = ap (λ s. lines_taken s (lines_of block)) (sym same) ∙ omega arith;
-      back = ap (λ (v : Savepoint). rolled_back_to v now.session) is ∙ back_to_start now.session ∙ same;
+      back = ap (λ (v : Savepoint). rolled_back_to v now.session.script) is ∙ back_to_start now.session.script ∙ same;
       kept = omega (arith, ap (λ (v : Savepoint). v.uncommitted) is);
       number = omega (arith, ap (λ (v : Savepoint). v.number) is);
     }
@@ -85,55 +85,55 @@ pub reached_next : (old now new : State) (block rest line later : List ℕ) (beg
 reached_next old now new block rest line later begun done r first shorter t =
     let ls : List (List ℕ) = lines_of block in
     let n : IsNext ls done line (lines_of later) = next_of ls done line (lines_of later) (r.left ∙ first) in
-    let at : SessionValue = after_line now.session line in
-    let counts : lines_taken now.session (line ∷ lines_of later) ≡ 1 + lines_taken at (lines_of later) =
+    let at : SessionValue = after_line now.session.script line in
+    let counts : lines_taken now.session.script (line ∷ lines_of later) ≡ 1 + lines_taken at (lines_of later) =
     ap (λ b. cond b (1 + lines_taken at (lines_of later)) 0) t.taken in
-    let counted : lines_taken now.session (lines_of rest) ≡ 1 + lines_taken at (lines_of later) = ap (lines_taken now.session) first ∙ counts in
-    let more : count_uncommitted now.session.index ≤ count_uncommitted at.index = taken_more now.session line t.taken in
-    let k : Taken now.session line = taken_of now.session line t.taken in record {
+    let counted : lines_taken now.session.script (lines_of rest) ≡ 1 + lines_taken at (lines_of later) = ap (lines_taken now.session.script) first ∙ counts in
+    let more : count_uncommitted now.session.script.index ≤ count_uncommitted at.index = taken_more now.session.script line t.taken in
+    let k : Taken now.session.script line = taken_of now.session.script line t.taken in record {
       begun_is = r.begun_is;
       left = n.left;
       room = omega (arith, r.room, shorter);
       within = omega (arith, n.within);
-      session = t.session ∙ ap (λ s. after_line s line) r.session ∙ sym (after_lines-push old.session (take done ls) line)
-          ∙ ap (after_lines old.session) (sym n.taken);
-      later = r.later ∙ ap (after_lines now.session) first ∙ ap (λ s. after_lines s (lines_of later)) (sym t.session);
-      reply = r.reply ∙ ap (λ l. string_bytes now.reply ++ replies now.session l) first
-          ∙ sym (append_assoc (string_bytes now.reply) (reply_to now.session line) (replies at (lines_of later)))
+      session = t.session ∙ ap (λ s. after_line s line) r.session ∙ sym (after_lines-push old.session.script (take done ls) line)
+          ∙ ap (after_lines old.session.script) (sym n.taken);
+      later = r.later ∙ ap (after_lines now.session.script) first ∙ ap (λ s. after_lines s (lines_of later)) (sym t.session);
+      reply = r.reply ∙ ap (λ l. string_bytes now.reply ++ replies now.session.script l) first
+          ∙ sym (append_assoc (string_bytes now.reply) (reply_to now.session.script line) (replies at (lines_of later)))
           ∙ ap (λ v. v ++ replies at (lines_of later)) (sym t.reply)
           ∙ ap (λ s. string_bytes new.reply ++ replies s (lines_of later)) (sym t.session);
-      refusal = r.refusal ∙ ap (first_refusal now.session) first
-          ∙ refusal_later (operate indexes now.session.index line) (first_refusal at (lines_of later)) t.taken
+      refusal = r.refusal ∙ ap (first_refusal now.session.script) first
+          ∙ refusal_later (operate indexes now.session.script.index line) (first_refusal at (lines_of later)) t.taken
           ∙ ap (λ s. first_refusal s (lines_of later)) (sym t.session);
       count = r.count ∙ ap (λ m. done + m) counted ∙ sum_next done (lines_taken at (lines_of later))
           ∙ ap (λ s. done + 1 + lines_taken s (lines_of later)) (sym t.session);
-      back = ap (rolled_back_to begun) t.session ∙ taken_back begun now.session line t.taken r.kept ∙ r.back;
+      back = ap (rolled_back_to begun) t.session ∙ taken_back begun now.session.script line t.taken r.kept ∙ r.back;
       kept = subst (λ (s : SessionValue). begun.uncommitted ≤ count_uncommitted s.index) (sym t.session) (omega (arith, r.kept, more));
       number = omega (arith, r.number, ap (λ (s : SessionValue). s.number) (t.session ∙ k.after));
     }
 
 -- a line that is refused is the first
 refusal_now : (r : Result (Outcome Index) Refusal) (later : Option Refusal) (old : State) (lines : List (List ℕ)) (number : ℕ) (wanted : Option Refusal) →
-    is_ok r ≡ false → wanted ≡ refusal_or r later → number ≡ old.session.number →
-    (text_of (number + 1) r ≡ replies_unless_refused old.session lines wanted) × (unless_refused old.session lines wanted ≡ old.session)
+    is_ok r ≡ false → wanted ≡ refusal_or r later → number ≡ old.session.script.number →
+    (text_of (number + 1) r ≡ replies_unless_refused old.session.script lines wanted) × (unless_refused old.session.script lines wanted ≡ old.session.script)
 refusal_now (Ok d) later old lines number wanted bad is at = absurd (let false_is : true ≡ false = bad in cc)
 refusal_now (Err e) later old lines number wanted bad is at = (
-  ap (λ n. line_of (refusal_reply e (n + 1))) at ∙ ap (replies_unless_refused old.session lines) (sym is),
-  ap (unless_refused old.session lines) is,
+  ap (λ n. line_of (refusal_reply e (n + 1))) at ∙ ap (replies_unless_refused old.session.script lines) (sym is),
+  ap (unless_refused old.session.script lines) is,
 )
 
 pub reached_refusal : (old now mid new : State) (block rest line later : List ℕ) (begun : Savepoint) (done : ℕ) → Reached old block rest begun now done →
     lines_of rest ≡ line ∷ lines_of later → IsRefused now (begun.number + 1) line mid → string_bytes new.reply ≡ string_bytes mid.reply →
-    new.session ≡ rolled_back_to begun mid.session → Transacts old block new OK done
+    new.session.script ≡ rolled_back_to begun mid.session.script → Transacts old block new OK done
 reached_refusal old now mid new block rest line later begun done r first f same back =
     let ls : List (List ℕ) = lines_of block in
-    let told = refusal_now (operate indexes now.session.index line) (first_refusal (after_line now.session line) (lines_of later)) old ls begun.number
-    (first_refusal old.session ls) f.refused (r.refusal ∙ ap (first_refusal now.session) first) (ap (λ (v : Savepoint). v.number) r.begun_is) in
-    let none : lines_taken now.session (line ∷ lines_of later) ≡ 0 =
-    ap (λ b. cond b (1 + lines_taken (after_line now.session line) (lines_of later)) 0) f.refused in record {
+    let told = refusal_now (operate indexes now.session.script.index line) (first_refusal (after_line now.session.script line) (lines_of later)) old ls begun.number
+    (first_refusal old.session.script ls) f.refused (r.refusal ∙ ap (first_refusal now.session.script) first) (ap (λ (v : Savepoint). v.number) r.begun_is) in
+    let none : lines_taken now.session.script (line ∷ lines_of later) ≡ 0 =
+    ap (λ b. cond b (1 + lines_taken (after_line now.session.script line) (lines_of later)) 0) f.refused in record {
       reply = λ _. same ∙ f.reply ∙ told.0;
       session = λ _. back ∙ ap (rolled_back_to begun) f.session ∙ r.back ∙ sym told.1;
-      counted = λ _. omega (arith, r.count, ap (lines_taken now.session) first ∙ none);
+      counted = λ _. omega (arith, r.count, ap (lines_taken now.session.script) first ∙ none);
       same = λ bad. absurd (bad refl);
       none = λ bad. absurd (bad refl);
       before = λ bad. absurd (bad refl);
@@ -143,7 +143,7 @@ reached_refusal old now mid new block rest line later begun done r first f same 
 
 pub reached_stop : (old now mid new : State) (block rest line later : List ℕ) (begun : Savepoint) (done : ℕ) (code : ℤ) → Reached old block rest begun now done →
     lines_of rest ≡ line ∷ lines_of later → IsStopped now line mid code → string_bytes new.reply ≡ [] →
-    new.session ≡ rolled_back_to begun mid.session → Transacts old block new code done
+    new.session.script ≡ rolled_back_to begun mid.session.script → Transacts old block new code done
 reached_stop old now mid new block rest line later begun done code r first f none back =
     let ls : List (List ℕ) = lines_of block in
     let n : IsNext ls done line (lines_of later) = next_of ls done line (lines_of later) (r.left ∙ first) in record {
@@ -154,22 +154,22 @@ reached_stop old now mid new block rest line later begun done code r first f non
       none = λ _. none;
       before = λ _. omega (arith, r.count);
       within = λ _. n.within;
-      stopped = λ _. subst (λ l. IsCodeOf (after_lines old.session (take done ls)) l code) (sym n.at)
+      stopped = λ _. subst (λ l. IsCodeOf (after_lines old.session.script (take done ls)) l code) (sym n.at)
           (subst (λ s. IsCodeOf s line code) r.session f.code_is);
     }
 
 end_of : (old now : State) (lines : List (List ℕ)) (wanted : Option Refusal) → wanted ≡ None →
-    replies old.session lines ≡ string_bytes now.reply → after_lines old.session lines ≡ now.session →
-    (string_bytes now.reply ≡ replies_unless_refused old.session lines wanted) × (now.session ≡ unless_refused old.session lines wanted)
+    replies old.session.script lines ≡ string_bytes now.reply → after_lines old.session.script lines ≡ now.session.script →
+    (string_bytes now.reply ≡ replies_unless_refused old.session.script lines wanted) × (now.session.script ≡ unless_refused old.session.script lines wanted)
 end_of old now lines wanted is reply after = (
-  sym reply ∙ ap (replies_unless_refused old.session lines) (sym is),
-  sym after ∙ ap (unless_refused old.session lines) (sym is),
+  sym reply ∙ ap (replies_unless_refused old.session.script lines) (sym is),
+  sym after ∙ ap (unless_refused old.session.script lines) (sym is),
 )
 
 pub reached_end : (old now : State) (block rest : List ℕ) (begun : Savepoint) (done : ℕ) → Reached old block rest begun now done → length rest ≡ 0 →
     Transacts old block now OK done
 reached_end old now block [] begun done r none =
-    let told = end_of old now (lines_of block) (first_refusal old.session (lines_of block)) r.refusal (r.reply ∙ append-nil (string_bytes now.reply))
+    let told = end_of old now (lines_of block) (first_refusal old.session.script (lines_of block)) r.refusal (r.reply ∙ append-nil (string_bytes now.reply))
     r.later in record {
       reply = λ _. told.0;
       session = λ _. told.1;

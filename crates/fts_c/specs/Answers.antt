@@ -16,6 +16,6 @@ Answers (calls.Replace delete add) old new code = Replaces old delete.now add.no
 Answers (calls.Search line) old new code = Searches old line.now new code
 Answers (calls.SearchFields line names) old new code = SearchesFields old line.now names.now new code
 Answers (calls.SearchGroups line limit) old new code = SearchesGroups old line.now limit new code
-Answers (calls.LimitMerges limit) old new code = LimitsMerges old new code
+Answers (calls.LimitMerges limit) old new code = LimitsMerges limit old new code
 Answers calls.RunMerge old new code = RunsMerge old new code
 Answers calls.EndMerge old new code = EndsMerge old new code

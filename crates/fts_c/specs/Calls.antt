@@ -11,16 +11,16 @@ use Rattle.fts_c.specs.Codes.{IsCodeOf, IsOfTried}
 -- A session without a reply was put into a place, which holds it now. If memory was refused, the place is as it was.
 pub record Opens {P : Type 0} (session : SessionValue) (held : Option State) (old new : P) (code : ℤ) : Type 0 where
   pub code_is : IsOfTried code
-  pub ok : code ≡ OK → MatchOption held ⊥ (λ s. (s.session ≡ session) × (string_bytes s.reply ≡ []))
+  pub ok : code ≡ OK → MatchOption held ⊥ (λ s. (s.session.script ≡ session) × (string_bytes s.reply ≡ []))
   pub same : code ≡ MEMORY → new ≡ old
 
 -- A line was executed: the reply is the definition's, and the session goes on as it says. At another code there is no
 -- reply, and the session is as it was. A blank line needs no memory.
 pub record Executes (old : State) (line : List ℕ) (new : State) (code : ℤ) : Type 0 where
-  pub code_is : IsCodeOf old.session line code
-  pub reply : code ≡ OK → string_bytes new.reply ≡ reply_to old.session line
-  pub session : code ≡ OK → new.session ≡ after_line old.session line
-  pub same : code ≢ OK → new.session ≡ old.session
+  pub code_is : IsCodeOf old.session.script line code
+  pub reply : code ≡ OK → string_bytes new.reply ≡ reply_to old.session.script line
+  pub session : code ≡ OK → new.session.script ≡ after_line old.session.script line
+  pub same : code ≢ OK → new.session.script ≡ old.session.script
   pub none : code ≢ OK → string_bytes new.reply ≡ []
   pub not_blank : code ≡ MEMORY → is_blank line ≡ false
 
@@ -31,9 +31,9 @@ unless_blank line reply = if is_blank line then [] else reply
 -- A search was answered: the reply is the definition's, and at another code there is none. The session is as it was. A
 -- blank line has an empty reply, and needs no memory.
 pub record Searches (old : State) (line : List ℕ) (new : State) (code : ℤ) : Type 0 where
-  pub code_is : IsCodeOf old.session line code
-  pub reply : code ≡ OK → string_bytes new.reply ≡ unless_blank line (reply_to_search old.session line)
-  pub same : new.session ≡ old.session
+  pub code_is : IsCodeOf old.session.script line code
+  pub reply : code ≡ OK → string_bytes new.reply ≡ unless_blank line (reply_to_search old.session.script line)
+  pub same : new.session.script ≡ old.session.script
   pub none : code ≢ OK → string_bytes new.reply ≡ []
   pub not_blank : code ≡ MEMORY → is_blank line ≡ false
 

@@ -20,7 +20,7 @@ TellsIfOpen (Some old) new out after told = MatchOption new ⊥ (λ s. TellsRepl
 abbrev pub OpensSearcher : {P : Type 0} → Option State → Option State → Option State → P → P → ℤ → Type 0
 OpensSearcher None new held slot after code = (new ≡ None) × (after ≡ slot) × (code ≡ CLOSED)
 OpensSearcher (Some old) new held slot after code =
-    (new ≡ Some old) × Opens (at_commit old.session) held slot after code
+    (new ≡ Some old) × Opens (at_commit old.session.script) held slot after code
 
 -- a place is closed, and the code says whether it was before
 abbrev pub Closes : Option State → Option State → ℤ → Type 0

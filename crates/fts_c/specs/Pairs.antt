@@ -27,8 +27,8 @@ pub record IsFaultOfTwo (s : SessionValue) (delete add : List ℕ) (code : ℤ) 
 -- A deletion and an addition were executed as one: the reply is the definition's, and the session goes on as it says.
 -- At another code there is no reply, and the session is as it was.
 pub record Replaces (old : State) (delete add : List ℕ) (new : State) (code : ℤ) : Type 0 where
-  pub code_is : IsCodeOfTwo old.session delete add code
-  pub reply : code ≡ OK → string_bytes new.reply ≡ reply_to_replace old.session delete add
-  pub session : code ≡ OK → new.session ≡ after_replace old.session delete add
-  pub same : code ≢ OK → new.session ≡ old.session
+  pub code_is : IsCodeOfTwo old.session.script delete add code
+  pub reply : code ≡ OK → string_bytes new.reply ≡ reply_to_replace old.session.script delete add
+  pub session : code ≡ OK → new.session.script ≡ after_replace old.session.script delete add
+  pub same : code ≢ OK → new.session.script ≡ old.session.script
   pub none : code ≢ OK → string_bytes new.reply ≡ []

@@ -16,4 +16,4 @@ AreStatsOf (Some index) stats =
 abbrev pub TellsStats : Option State → Option State → Stats → Stats → ℤ → Type 0
 TellsStats None new before told code = (new ≡ None) × (told ≡ before) × (code ≡ CLOSED)
 TellsStats (Some state) new before told code =
-    (new ≡ Some state) × AreStatsOf state.session.index told × (code ≡ OK)
+    (new ≡ Some state) × AreStatsOf state.session.script.index told × (code ≡ OK)

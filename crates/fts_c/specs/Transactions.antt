@@ -12,21 +12,21 @@ use Rattle.fts_c.specs.Codes.{IsCodeOf}
 
 -- A line of a transaction was taken as on its own, and its reply was appended.
 pub record IsTaken (old : State) (line : List ℕ) (new : State) : Type 0 where
-  pub taken : is_taken old.session line ≡ true
-  pub reply : string_bytes new.reply ≡ string_bytes old.reply ++ reply_to old.session line
-  pub session : new.session ≡ after_line old.session line
+  pub taken : is_taken old.session.script line ≡ true
+  pub reply : string_bytes new.reply ≡ string_bytes old.reply ++ reply_to old.session.script line
+  pub session : new.session.script ≡ after_line old.session.script line
 
 -- A line of a transaction was refused, which is the only reply then, in the line of this number.
 pub record IsRefused (old : State) (number : ℕ) (line : List ℕ) (new : State) : Type 0 where
-  pub refused : is_taken old.session line ≡ false
-  pub reply : string_bytes new.reply ≡ text_of number (operate indexes old.session.index line)
-  pub session : new.session ≡ old.session
+  pub refused : is_taken old.session.script line ≡ false
+  pub reply : string_bytes new.reply ≡ text_of number (operate indexes old.session.script.index line)
+  pub session : new.session.script ≡ old.session.script
 
 -- A line of a transaction has a code, and nothing was done.
 pub record IsStopped (old : State) (line : List ℕ) (new : State) (code : ℤ) : Type 0 where
-  pub code_is : IsCodeOf old.session line code
+  pub code_is : IsCodeOf old.session.script line code
   pub not_ok : code ≢ OK
-  pub session : new.session ≡ old.session
+  pub session : new.session.script ≡ old.session.script
 
 -- What became of a line of a transaction: it was taken, refused, or has a code other than 0.
 abbrev pub Operates : State → ℕ → List ℕ → State → Result Bool ℤ → Type 0
@@ -38,12 +38,12 @@ Operates old number line new (Err code) = IsStopped old line new code
 -- another code than 0, and there is no reply. `done` is how many lines are before that one, and otherwise how many
 -- there are.
 pub record Transacts (old : State) (block : List ℕ) (new : State) (code : ℤ) (done : ℕ) : Type 0 where
-  pub reply : code ≡ OK → string_bytes new.reply ≡ reply_to_transaction old.session (lines_of block)
-  pub session : code ≡ OK → new.session ≡ after_transaction old.session (lines_of block)
-  pub counted : code ≡ OK → done ≡ lines_taken old.session (lines_of block)
-  pub same : code ≢ OK → new.session ≡ old.session
+  pub reply : code ≡ OK → string_bytes new.reply ≡ reply_to_transaction old.session.script (lines_of block)
+  pub session : code ≡ OK → new.session.script ≡ after_transaction old.session.script (lines_of block)
+  pub counted : code ≡ OK → done ≡ lines_taken old.session.script (lines_of block)
+  pub same : code ≢ OK → new.session.script ≡ old.session.script
   pub none : code ≢ OK → string_bytes new.reply ≡ []
-  pub before : code ≢ OK → done ≤ lines_taken old.session (lines_of block)
+  pub before : code ≢ OK → done ≤ lines_taken old.session.script (lines_of block)
   pub within : code ≢ OK → done < length (lines_of block)
-  pub stopped : code ≢ OK → IsCodeOf (after_lines old.session (take done (lines_of block)))
+  pub stopped : code ≢ OK → IsCodeOf (after_lines old.session.script (take done (lines_of block)))
       (slice_index_or (lines_of block) done []) code

@@ -15,10 +15,10 @@ pub const USED_UP: i32 = 3;
 /// The handle is closed.
 pub const CLOSED: i32 = 4;
 
-/// There is nothing that the call could work on.
+/// There is nothing that the call could work on: no schema, no merge that is due, or none that was run to end.
 pub const NOTHING: i32 = 5;
 
-/// What a merge made can't replace its sources any more.
+/// What a merge made can't replace its sources, since one is gone. The merge is given up.
 pub const GONE: i32 = 6;
 
 /// The limit of merges that means none.

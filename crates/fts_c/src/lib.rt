@@ -22,7 +22,7 @@ ghost use Rattle.fts_c.specs.Pairs.{Replaces};
 ghost use Rattle.fts_c.specs.Calls.{copied, Executes, Opens, Searches};
 ghost use Rattle.fts_c.specs.GroupSearches.{SearchesGroups};
 ghost use Rattle.fts_c.specs.Held.{held};
-ghost use Rattle.fts_c.specs.Merges.{BeginsMerge, EndsMerge, LimitsMerges, RunsMerge};
+ghost use Rattle.fts_c.specs.Merges.{BeginsMerge, EndsMerge, LimitsMerges, RunsMerge, limit_of};
 ghost use Rattle.fts_c.specs.Open.{Closes, IfOpen, OpensSearcher, TellsIfOpen};
 ghost use Rattle.fts_c.specs.StatsOf.{TellsStats};
 ghost use Rattle.fts_c.specs.Syntaxes.{IsSyntaxAt, TellsSyntaxAt};
@@ -150,7 +150,7 @@ fn options() -> Options {
 
 /// Puts a session into a place, or returns that memory was refused.
 fn open(slot: &mut Slot, alloc: Global, session: Session<LocalEngine>) -> i32
-    ensures { Opens session slot.new.state slot.old slot.new result }
+    ensures { Opens session.script slot.new.state slot.old slot.new result }
 {
     let reply = String::new(alloc);
     let merge = None;
@@ -413,14 +413,14 @@ pub extern "C" fn dilforec_syntax_at(alloc: Global, query: &[u8], at: &mut usize
 #[unsafe(no_mangle)]
 pub extern "C" fn dilforec_limit_merges(slot: &mut Slot, alloc: Global, limit: u32) -> i32
     ensures { IfOpen slot.old.state slot.new.state result
-        (λ old new. LimitsMerges old new result) }
+        (λ old new. LimitsMerges (limit_of limit) old new result) }
 {
     let limit = if limit == NO_LIMIT { None } else { Some(limit) };
     answer(slot, alloc, Call::LimitMerges(limit))
 }
 
 /// Starts a merge of what is due next, in a place of its own, and forgets the one that was started before: 0, 1 if
-/// memory was refused, 4 if the index is closed, or 5 if nothing is due.
+/// memory was refused, 4 if the index is closed, or 5 if nothing is due, as without a schema.
 #[unsafe(no_mangle)]
 pub extern "C" fn dilforec_merge_begin(index: &mut Slot, slot: &mut Slot, alloc: Global) -> i32
     ensures { BeginsMerge index.old.state index.new.state slot.new.state slot.old slot.new result }

@@ -15,11 +15,13 @@ pub(crate) struct LimitMerges {
 impl Maintenance<LocalEngine> for LimitMerges {
     type Done = ();
 
+    ghost did = { λ work old new _. new ≡ record old { limit = work.limit } };
+
     fn done(self, engine: &mut LocalEngine)
         ensures index { engine.new.index ≡ engine.old.index }
         ensures changes { engine.new.calls ≤ engine.old.calls + 1 }
         ensures counted { 2 ^ 61 ≤ engine.old.calls → engine.new.calls ≡ engine.old.calls }
-        ensures limited { engine.new ≡ record engine.old { limit = self.limit } }
+        ensures did { engine.new ≡ record engine.old { limit = self.limit } }
     {
         engine.limit_merges(self.limit);
     }
@@ -32,11 +34,13 @@ pub(crate) struct BeginMerge;
 impl Maintenance<LocalEngine> for BeginMerge {
     type Done = Result<Option<BegunMerge>, Refusal>;
 
+    ghost did = { λ _ old new begun. Begins old new begun };
+
     fn done(self, engine: &mut LocalEngine) -> Result<Option<BegunMerge>, Refusal>
         ensures index { engine.new.index ≡ engine.old.index }
         ensures changes { engine.new.calls ≤ engine.old.calls + 1 }
         ensures counted { 2 ^ 61 ≤ engine.old.calls → engine.new.calls ≡ engine.old.calls }
-        ensures begun { Begins engine.old engine.new result }
+        ensures did { Begins engine.old engine.new result }
     {
         engine.begin_merge()
     }
@@ -49,11 +53,13 @@ pub(crate) struct EndMerge;
 impl Maintenance<LocalEngine> for EndMerge {
     type Done = Result<bool, Refusal>;
 
+    ghost did = { λ _ old new ended. EndsMerge old new ended };
+
     fn done(self, engine: &mut LocalEngine) -> Result<bool, Refusal>
         ensures index { engine.new.index ≡ engine.old.index }
         ensures changes { engine.new.calls ≤ engine.old.calls + 1 }
         ensures counted { 2 ^ 61 ≤ engine.old.calls → engine.new.calls ≡ engine.old.calls }
-        ensures ended { EndsMerge engine.old engine.new result }
+        ensures did { EndsMerge engine.old engine.new result }
     {
         engine.end_merge()
     }

@@ -1,12 +1,15 @@
 // A session and its last reply, or a merge.
 ghost use Rattle.std.specs.Prelude.{◌≡◌, ◌≢◌, ◌+◌, ◌≤◌, [], None, MatchResult, string_bytes};
+ghost use Rattle.fts_base.specs.Results.{value_if_ok};
+ghost use Rattle.fts_script.specs.session.Sessions.{Maintains};
 ghost use Rattle.fts_c.specs.Blocks.{ExecutesLines, ExecutesNext};
 ghost use Rattle.fts_c.specs.Answers.{Answers};
 ghost use Rattle.fts_c.specs.Calls.{Executes, Searches};
 ghost use Rattle.fts_c.specs.CutSearches.{SearchesFields};
 ghost use Rattle.fts_c.specs.GroupSearches.{SearchesGroups};
 ghost use Rattle.fts_c.specs.Codes.{IsFault, IsTried};
-ghost use Rattle.fts_c.specs.Merges.{EndsMerge, LimitsMerges, NotBegun, RunsMerge};
+ghost use Rattle.fts_c.specs.Merges.{ChangesEngine, EndsMerge, HasBegun, IsCodeOfEnd, IsNotBegun, LimitsMerges};
+ghost use Rattle.fts_c.specs.Merges.{RunsMerge};
 ghost use Rattle.fts_c.specs.Pairs.{AreTried, IsFaultOfTwo, Replaces};
 ghost use Rattle.fts_c.specs.StatsOf.{AreStatsOf};
 ghost use Rattle.fts_c.specs.Transactions.{Operates, Transacts};
@@ -65,12 +68,24 @@ fn code_of(tried: Result<(), AllocError>) -> i32
     }
 }
 
+/// The code of the end of a merge.
+fn code_of_end(ended: Result<bool, Refusal>) -> i32
+    ensures { IsCodeOfEnd ended result }
+{
+    match ended {
+        Ok(true) => OK,
+        Ok(false) => NOTHING,
+        Err(Refusal::Memory) => MEMORY,
+        Err(_) => GONE,
+    }
+}
+
 impl State {
     /// Whether a line is tried; if it isn't, the code that says why.
     fn check(&self, line: &[u8]) -> Result<(), i32>
         ensures { MatchResult result
-            (λ _. IsTried self.now.session line.now)
-            (λ code. IsFault self.now.session line.now code) }
+            (λ _. IsTried self.now.session.script line.now)
+            (λ code. IsFault self.now.session.script line.now code) }
     {
         if line.len() > LONGEST {
             return Err(LINE_TOO_LONG);
@@ -130,7 +145,7 @@ impl State {
 
     /// Executes the next line of a transaction that began at a savepoint, and returns whether it was taken.
     fn operate_next(&mut self, alloc: Global, begun: Savepoint, line: &[u8]) -> Result<bool, i32>
-        requires { begun.number ≤ self.old.session.number }
+        requires { begun.number ≤ self.old.session.script.number }
         ensures { Operates self.old (begun.number + 1) line.now self.new result }
     {
         if let Err(code) = self.check(line) {
@@ -177,8 +192,8 @@ impl State {
     /// Whether two lines are tried; if they aren't, the code that says why.
     fn check_two(&self, delete: &[u8], add: &[u8]) -> Result<(), i32>
         ensures { MatchResult result
-            (λ _. AreTried self.now.session delete.now add.now)
-            (λ code. IsFaultOfTwo self.now.session delete.now add.now code) }
+            (λ _. AreTried self.now.session.script delete.now add.now)
+            (λ code. IsFaultOfTwo self.now.session.script delete.now add.now code) }
     {
         if delete.len() > LONGEST || add.len() > LONGEST {
             return Err(LINE_TOO_LONG);
@@ -254,7 +269,7 @@ impl State {
 
     /// The size of the index.
     pub(crate) fn stats(&self) -> Stats
-        ensures { AreStatsOf self.now.session.index result }
+        ensures { AreStatsOf self.now.session.script.index result }
     {
         match self.session.index() {
             Some(engine) => engine.stats(),
@@ -264,16 +279,20 @@ impl State {
 
     /// Runs maintenance work on the index, if there is one.
     fn maintain<W: Maintenance<LocalEngine> + Drop>(&mut self, work: W) -> Result<W::Done, i32>
-        ensures same { self.new ≡ self.old }
-        ensures done { MatchResult result (λ _. self.old.session.index ≢ None)
-            (λ code. (self.old.session.index ≡ None) × (code ≡ NOTHING)) }
+        ensures same { ChangesEngine self.old self.new }
+        ensures done { MatchResult result (λ _. self.old.session.script.index ≢ None)
+            (λ code. (self.old.session.script.index ≡ None) × (code ≡ NOTHING)) }
+        ensures did { Maintains (W.did work) self.old.session.engine self.new.session.engine (value_if_ok result) }
     {
-        self.session.maintain(work).ok_or(NOTHING)
+        match self.session.maintain(work) {
+            Some(done) => Ok(done),
+            None => Err(NOTHING),
+        }
     }
 
     /// Sets the limit of what commits merge.
     pub(crate) fn limit_merges(&mut self, limit: Option<u32>) -> i32
-        ensures { LimitsMerges self.old self.new result }
+        ensures { LimitsMerges limit self.old self.new result }
     {
         match self.maintain(LimitMerges { limit }) {
             Ok(()) => OK,
@@ -282,17 +301,20 @@ impl State {
     }
 
     /// Starts a merge, in a state of its own with this session, or returns the code that says why not. The memory of
-    /// the state is taken first, so that the index doesn't forget another merge if memory is refused.
+    /// the state is taken before, so that the index doesn't forget another merge if memory is refused.
     pub(crate) fn begin_merge(
         &mut self,
         alloc: Global,
         session: Session<LocalEngine>,
     ) -> Result<Box<State, Global>, i32>
-        ensures same { self.new ≡ self.old }
+        ensures same { ChangesEngine self.old self.new }
         ensures begun { MatchResult result
-            (λ begun. (self.old.session.index ≢ None) × (begun.value.merge ≢ None))
-            NotBegun }
+            (λ begun. HasBegun self.old.session.engine self.new.session.engine begun.value.merge)
+            (λ code. IsNotBegun self.old self.new code) }
     {
+        if self.session.index().is_none() {
+            return Err(NOTHING);
+        }
         let begun = State {
             session,
             reply: String::new(alloc),
@@ -329,10 +351,7 @@ impl State {
         ensures { EndsMerge self.old self.new result }
     {
         match self.maintain(EndMerge) {
-            Ok(Ok(true)) => OK,
-            Ok(Ok(false)) => NOTHING,
-            Ok(Err(Refusal::Memory)) => MEMORY,
-            Ok(Err(_)) => GONE,
+            Ok(ended) => code_of_end(ended),
             Err(code) => code,
         }
     }

@@ -1,8 +1,9 @@
 -- What stays true of an engine of one thread from call to call.
-use Rattle.std.proofs.Common.{◌≡◌, ◌+◌, ◌≤◌, ℕ, zero, suc, cond, true, false, Option, None, Some, List, [], ◌∷◌, ◌++◌, length, take, filter, not, refl, sym, ap, subst, ◌∙◌, arith}
+use Rattle.std.proofs.Common.{◌≡◌, ◌≢◌, ◌+◌, ◌^◌, ◌≤◌, ℕ, nat_lt, zero, suc, cond, true, false, Option, None, Some, Bool, List, [], ◌∷◌, ◌++◌, length, take, filter, not, refl, sym, ap, subst, ◌∙◌, arith}
 use Rattle.std.specs.List.{range_with_len}
-use Rattle.std.specs.Option.{ForSome}
+use Rattle.std.specs.Option.{ForSome, option_map}
 use Rattle.std.proofs.lemmas.List.{length-append, length-take}
+use Rattle.std.proofs.lemmas.Bool.Decides.{nat_tests}
 use Rattle.std.proofs.lemmas.List.Sums.{length-filter, count_by-le-length}
 use Rattle.fts_model.specs.declared.operation.Op.{Op}
 use Rattle.fts_model.specs.declared.operation.Stamped.{Stamped}
@@ -10,23 +11,50 @@ use Rattle.fts_model.specs.declared.cut.Cut.{Cut}
 use Rattle.fts_model.specs.Operations.{op_fits}
 use Rattle.fts_snapshots.specs.Changes.{Commits, Merges}
 use Rattle.fts_snapshots.specs.Entries.{EntryValue, has_live}
-use Rattle.fts_snapshots.specs.LateMerges.{after_end, ended}
+use Rattle.fts_snapshots.specs.LateMerges.{after_end, end_fault, ended, first_gone, gone_fault, is_gone}
 use Rattle.fts_snapshots.specs.MergedSegments.{MergedSegmentValue, merged_of}
 use Rattle.fts_snapshots.specs.Merges.{is_among, without}
-use Rattle.fts_snapshots.specs.Snapshots.{SnapshotValue, segments_and_numbers}
+use Rattle.fts_snapshots.specs.Snapshots.{SnapshotValue, content_of, segments_and_numbers}
 use Rattle.fts_snapshots.specs.Successors.{Fits, Follows}
 use Rattle.fts_snapshots.proofs.FollowLemmas.{fits_further}
 use Rattle.fts_snapshots.specs.Successors.{follows_further}
 use Rattle.fts_model.specs.Operations.{stamps_of}
 use Rattle.fts_model.proofs.StampLemmas.{numbered-push}
-use Rattle.fts_base.specs.declared.refusal.Refusal.TheVariants.{OtherSchema}
+use Rattle.fts_base.specs.declared.refusal.Refusal.{Refusal}
+use Rattle.fts_base.specs.declared.refusal.Refusal.TheVariants.{Memory, OtherSchema, SourceGone, StampsUsedUp}
+use Rattle.fts_base.specs.Results.{first_of}
 use Rattle.fts_model.specs.declared.schema.Field.{Field}
-use Rattle.fts_snapshots.specs.Commits.{misfit}
+use Rattle.fts_snapshots.specs.Commits.{misfit, numbers_fault}
 use Rattle.fts_snapshots.specs.declared.commit_point.CommitPoint.{CommitPoint}
 use Rattle.fts_snapshots.specs.CountedSnapshots.{IsCounted}
 use Rattle.fts_snapshots.specs.LaterCommits.{IsLaterCommit}
-use Rattle.fts_engine_local.specs.LocalIndexes.{IsLocalEngine}
+use Rattle.fts_engine_local.specs.LocalIndexes.{IsLocalEngine, index_at}
 use Rattle.fts_snapshots.proofs.CountedLemmas.{counted_committed, counted_merged, counted_submitted}
+
+-- numbers aren't used up
+numbers_left : (n : ℕ) → n ≤ 2 ^ 62 → numbers_fault n ≡ None
+numbers_left n room =
+    let few : nat_lt (2 ^ 62) n ≡ false = grind (arith, nat_tests) in
+    ap (λ b. cond b (Some StampsUsedUp) None) few
+
+first_alone : {X : Type 0} (a b : Option X) → b ≡ None → first_of a b ≡ a
+first_alone None b none = none
+first_alone (Some x) b none = refl
+
+-- a merge that can't end lacks a source
+pub gone_of : (m : MergedSegmentValue) (s : SnapshotValue) (refusal : Refusal) → s.next_id + 1 ≤ 2 ^ 62 →
+    end_fault s.next_id m s.entries ≡ Some refusal → gone_fault m s.entries ≡ Some refusal
+gone_of m s refusal room is =
+    sym (first_alone (gone_fault m s.entries) (numbers_fault (s.next_id + 1)) (numbers_left (s.next_id + 1) room)) ∙ is
+
+gone_or : (fault : Option ℕ) (b : Bool) (refusal : Refusal) → cond b (option_map SourceGone fault) None ≡ Some refusal → refusal ≢ Memory
+gone_or None true refusal is = λ _. let bad : None ≡ Some refusal = is in cc
+gone_or (Some id) true refusal is = λ memory. let bad : Some (SourceGone id) ≡ Some Memory = is ∙ ap Some memory in cc
+gone_or fault false refusal is = λ _. let bad : None ≡ Some refusal = is in cc
+
+-- the refusal of a merge that lacks a source isn't that of memory
+pub gone_not_memory : (m : MergedSegmentValue) (entries : List EntryValue) (refusal : Refusal) → gone_fault m entries ≡ Some refusal → refusal ≢ Memory
+gone_not_memory m entries refusal is = gone_or (first_gone entries m.ids) (is_gone m entries) refusal is
 
 -- what the started merge makes fits a later snapshot
 fits_later : (begun : Option (List EntryValue)) (old new : SnapshotValue) → ForSome begun (λ job. Fits (merged_of job) old) → Follows old new →
@@ -133,3 +161,11 @@ local_ended m old new uncommitted cut calls begun i is kept = record {
     segments = omega (arith, ap segments_and_numbers is, end_counted m old.snapshot, i.counted.segments);
   };
 }
+
+-- the end of a merge leaves the index as it was
+pub index_ended : (m : MergedSegmentValue) (old new : CommitPoint) (uncommitted : List (Stamped Op)) → new.snapshot ≡ after_end m old.snapshot →
+    content_of new.snapshot ≡ content_of old.snapshot → new.stamp ≡ old.stamp →
+    index_at new.stamp new.snapshot uncommitted ≡ index_at old.stamp old.snapshot uncommitted
+index_ended m old new uncommitted is content stamp =
+    let schema : new.snapshot.schema ≡ old.snapshot.schema = ap (λ (s : SnapshotValue). s.schema) is in
+    λ i. record { schema = schema i; documents = content i; commit_stamp = stamp i; uncommitted = uncommitted }

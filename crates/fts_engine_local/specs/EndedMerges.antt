@@ -3,7 +3,7 @@ use Rattle.std.specs.Prelude.{◌≡◌, ◌≢◌, ◌+◌, ◌^◌, ◌<◌, �
 use Rattle.fts_base.specs.declared.refusal.Refusal.{Refusal}
 use Rattle.fts_base.specs.declared.refusal.Refusal.TheVariants.{Memory}
 use Rattle.fts_snapshots.specs.Entries.{EntryValue}
-use Rattle.fts_snapshots.specs.LateMerges.{after_end, end_fault}
+use Rattle.fts_snapshots.specs.LateMerges.{after_end, end_fault, gone_fault}
 use Rattle.fts_snapshots.specs.MergedSegments.{merged_of}
 use Rattle.fts_engine_local.specs.BegunMerges.{due_job}
 use Rattle.fts_engine_local.specs.LocalIndexes.{LocalValue}
@@ -17,19 +17,22 @@ Begins old new (Ok (Some merge)) =
     (merge.job ≢ None) × (merge.job ≡ due_job old.snapshot.entries) × (new ≡ record old { begun = merge.job })
 Begins old new (Err refusal) = (refusal ≡ Memory) × (new ≡ old)
 
--- the merged segment is in place of its sources in the last commit
+-- nothing refuses the merged segment, and it is in place of its sources in the last commit
 abbrev pub HasEnded : Option (List EntryValue) → LocalValue → LocalValue → Type 0
 HasEnded None old new = ⊥
-HasEnded (Some job) old new = (new.snapshot ≡ after_end (merged_of job) old.snapshot) × (new.begun ≡ None)
+HasEnded (Some job) old new =
+    (end_fault old.snapshot.next_id (merged_of job) old.snapshot.entries ≡ None)
+    × (new.snapshot ≡ after_end (merged_of job) old.snapshot) × (new.begun ≡ None)
 
--- the merged segment can't be in place of its sources, and the merge is given up
+-- the merged segment is refused, since a source is gone, and the merge is given up
 abbrev pub HasFailed : Option (List EntryValue) → LocalValue → LocalValue → Refusal → Type 0
 HasFailed None old new refusal = ⊥
 HasFailed (Some job) old new refusal =
-    (end_fault old.snapshot.next_id (merged_of job) old.snapshot.entries ≡ Some refusal)
+    (gone_fault (merged_of job) old.snapshot.entries ≡ Some refusal)
     × (new.snapshot ≡ old.snapshot) × (new.begun ≡ None)
 
--- what the end of a merge gives
+-- What the end of a merge gives: whether it was ended. It wasn't if none was started, or if the started one wasn't run
+-- or is being run in another thread, which the engine's value doesn't show.
 abbrev pub Ends : LocalValue → LocalValue → Result Bool Refusal → Type 0
 Ends old new (Ok true) = HasEnded old.begun old new
 Ends old new (Ok false) = (new.snapshot ≡ old.snapshot) × (new.begun ≡ old.begun)
@@ -37,12 +40,15 @@ Ends old new (Err refusal) =
     ((refusal ≡ Memory) × (new.snapshot ≡ old.snapshot) × (new.begun ≡ old.begun))
     ⊎ HasFailed old.begun old new refusal
 
--- A merge was ended, if one was started and run; the index is the same. Calls are counted up to 2^61.
+-- A merge was ended, if one was started and run; the index is the same. Calls are counted up to 2^61, and then none is
+-- ended. If no merge was started, none is ended, and no memory is asked for.
 pub record EndsMerge (old new : LocalValue) (result : Result Bool Refusal) : Type 0 where
   pub index : new.index ≡ old.index
   pub calls : new.calls ≤ old.calls + 1
   pub counted : old.calls < 2 ^ 61 → new.calls ≡ old.calls + 1
   pub full : 2 ^ 61 ≤ old.calls → new.calls ≡ old.calls
+  pub used_up : 2 ^ 61 ≤ old.calls → result ≡ Err Memory
+  pub none : old.calls < 2 ^ 61 → old.begun ≡ None → result ≡ Ok false
   pub limit : new.limit ≡ old.limit
   pub merge : new.merge ≡ old.merge
   pub is_merged : new.is_merged ≡ old.is_merged

@@ -211,6 +211,8 @@ pub(crate) fn ended(
     commit: &CommitPoint,
 ) -> Result<Option<Arc<CommitPoint>>, Refusal>
     requires { successors.Fits (merged_of place.now.made) commit.now.snapshot }
+    ensures unrefused { IfOk result (λ next. IfSome next (λ _.
+        end_fault commit.now.snapshot.next_id (merged_of place.now.made) commit.now.snapshot.entries ≡ None)) }
     ensures ended { IfOk result (λ next. IfSome next (λ c.
         (arc_value c).snapshot ≡ after_end (merged_of place.now.made) commit.now.snapshot)) }
     ensures content { IfOk result (λ next. IfSome next (λ c.

@@ -80,7 +80,7 @@ pub struct Responder<E: Engine> {
 impl<E: Engine> Responder<E> {
     /// A responder before the first piece.
     pub fn new(alloc: Global, options: Options) -> Responder<E>
-        ensures session { result.session ≡ start }
+        ensures session { result.session.script ≡ start }
         ensures line { result.line ≡ kept_line [] }
         ensures none_wait { string_bytes result.replies ≡ [] }
     {
@@ -95,16 +95,16 @@ impl<E: Engine> Responder<E> {
     fn answer<R: AllocGlobal + Sync>(&mut self, rt: &R) -> Result<(), AllocError>
     where
         E: EngineOver<R>,
-        requires line_number_fits { self.old.session.number ≤ 2 ^ 61 }
+        requires line_number_fits { self.old.session.script.number ≤ 2 ^ 61 }
         ensures reply { OnOk result (string_bytes self.new.replies
-            ≡ string_bytes self.old.replies ++ reply_to_kept self.old.session self.old.line) }
-        ensures script { OnOk result (self.new.session
-            ≡ after_kept self.old.session self.old.line) }
+            ≡ string_bytes self.old.replies ++ reply_to_kept self.old.session.script self.old.line) }
+        ensures script { OnOk result (self.new.session.script
+            ≡ after_kept self.old.session.script self.old.line) }
         ensures next { OnOk result (self.new.line ≡ kept_line []) }
         ensures err { OnErr result (string_bytes self.new.replies ≡ string_bytes self.old.replies) }
-        ensures kept { OnErr result (self.new.session ≡ self.old.session) }
+        ensures kept { OnErr result (self.new.session.script ≡ self.old.session.script) }
         ensures not_blank { OnErr result (is_blank_kept self.old.line ≡ false) }
-        ensures lines_counted { self.new.session.number ≤ self.old.session.number + 1 }
+        ensures lines_counted { self.new.session.script.number ≤ self.old.session.script.number + 1 }
     {
         match self.line.too_long() {
             Some(blank) => {
@@ -123,17 +123,17 @@ impl<E: Engine> Responder<E> {
     fn end_line<R: AllocGlobal + Sync>(&mut self, rt: &R, piece: &[u8]) -> Result<(), AllocError>
     where
         E: EngineOver<R>,
-        requires line_number_fits { self.old.session.number ≤ 2 ^ 61 }
+        requires line_number_fits { self.old.session.script.number ≤ 2 ^ 61 }
         requires fits_line { length piece.now ≤ longest }
         ensures reply { OnOk result (string_bytes self.new.replies ≡ string_bytes self.old.replies
-            ++ reply_to_kept self.old.session (grown self.old.line piece.now)) }
-        ensures script { OnOk result (self.new.session
-            ≡ after_kept self.old.session (grown self.old.line piece.now)) }
+            ++ reply_to_kept self.old.session.script (grown self.old.line piece.now)) }
+        ensures script { OnOk result (self.new.session.script
+            ≡ after_kept self.old.session.script (grown self.old.line piece.now)) }
         ensures next { OnOk result (self.new.line ≡ kept_line []) }
         ensures err { OnErr result (string_bytes self.new.replies ≡ string_bytes self.old.replies) }
-        ensures kept { OnErr result (self.new.session ≡ self.old.session) }
+        ensures kept { OnErr result (self.new.session.script ≡ self.old.session.script) }
         ensures not_blank { OnErr result (is_blank_kept (grown self.old.line piece.now) ≡ false) }
-        ensures lines_counted { self.new.session.number ≤ self.old.session.number + 1 }
+        ensures lines_counted { self.new.session.script.number ≤ self.old.session.script.number + 1 }
     {
         if self.line.is_empty() {
             // The line is complete in its block, and is read there.
@@ -151,19 +151,19 @@ impl<E: Engine> Responder<E> {
     ) -> Result<usize, AllocError>
     where
         E: EngineOver<R>,
-        requires line_number_fits { self.old.session.number ≤ 2 ^ 61 }
+        requires line_number_fits { self.old.session.script.number ≤ 2 ^ 61 }
         requires some { 0 < length bytes.now }
         requires fits_line { length bytes.now ≤ longest }
         ensures some { IfOk result (λ n. 0 < n) }
         ensures bound { IfOk result (λ n. n ≤ length bytes.now) }
         ensures ok { IfOk result (λ n.
-            Advances self.old.session self.new.session self.old.line self.new.line
+            Advances self.old.session.script self.new.session.script self.old.line self.new.line
             (take n bytes.now) (string_bytes self.old.replies) (string_bytes self.new.replies)) }
         ensures err { OnErr result (string_bytes self.new.replies ≡ string_bytes self.old.replies) }
-        ensures kept { OnErr result (self.new.session ≡ self.old.session) }
+        ensures kept { OnErr result (self.new.session.script ≡ self.old.session.script) }
         ensures not_blank { OnErr result ((start : List ℕ) → self.old.line ≡ kept_line start →
             HasNoEnd start → IsWritten (lines_of (start ++ bytes.now))) }
-        ensures lines_counted { self.new.session.number ≤ self.old.session.number + 1 }
+        ensures lines_counted { self.new.session.script.number ≤ self.old.session.script.number + 1 }
     {
         match memchr(b'\n', bytes) {
             Some(end) => {
@@ -185,19 +185,19 @@ impl<E: Engine> Responder<E> {
     ) -> Result<usize, AllocError>
     where
         E: EngineOver<R>,
-        requires line_number_fits { self.old.session.number + length bytes.now ≤ 2 ^ 61 }
+        requires line_number_fits { self.old.session.script.number + length bytes.now ≤ 2 ^ 61 }
         requires some { 0 < length bytes.now }
         requires fits_line { length bytes.now ≤ longest }
         requires none_wait { string_bytes self.old.replies ≡ [] }
         ensures some { IfOk result (λ n. 0 < n) }
         ensures bound { IfOk result (λ n. n ≤ length bytes.now) }
         ensures ok { IfOk result (λ n.
-            Advances self.old.session self.new.session self.old.line self.new.line
+            Advances self.old.session.script self.new.session.script self.old.line self.new.line
             (take n bytes.now) [] (string_bytes self.new.replies)) }
-        ensures err { OnErr result (AdvancesToStop self.old.session self.new.session self.old.line
+        ensures err { OnErr result (AdvancesToStop self.old.session.script self.new.session.script self.old.line
             bytes.now [] (string_bytes self.new.replies)) }
         ensures lines_counted { IfOk result
-            (λ n. self.new.session.number ≤ self.old.session.number + n) }
+            (λ n. self.new.session.script.number ≤ self.old.session.script.number + n) }
     {
         let mut at = 0;
         while at < bytes.len() && self.replies.len() < MOST_UNSENT {
@@ -216,19 +216,19 @@ impl<E: Engine> Responder<E> {
     ) -> Result<(), Fault>
     where
         E: EngineOver<R>,
-        requires line_number_fits { self.old.session.number + length piece.now ≤ 2 ^ 61 }
+        requires line_number_fits { self.old.session.script.number + length piece.now ≤ 2 ^ 61 }
         requires fits_line { length piece.now ≤ longest }
         requires none_wait { string_bytes self.old.replies ≡ [] }
         ensures ok { OnOk result ((before input : List ℕ) →
-            RunState before ((W.calls writer.old).taken) self.old.session self.old.line input →
-            RunState before ((W.calls writer.new).taken) self.new.session self.new.line (input ++ piece.now)) }
+            RunState before ((W.calls writer.old).taken) self.old.session.script self.old.line input →
+            RunState before ((W.calls writer.new).taken) self.new.session.script self.new.line (input ++ piece.now)) }
         ensures none_wait { OnOk result (string_bytes self.new.replies ≡ []) }
         ensures memory { IsErrOf result Fault.Memory → ((before input : List ℕ) →
-            RunState before ((W.calls writer.old).taken) self.old.session self.old.line input →
+            RunState before ((W.calls writer.old).taken) self.old.session.script self.old.line input →
             Wrote before ((W.calls writer.new).taken)
-            (StopsAfter self.new.session (length piece.now) (input ++ piece.now))) }
+            (StopsAfter self.new.session.script (length piece.now) (input ++ piece.now))) }
         ensures err { OnErr result ((before input : List ℕ) →
-            RunState before ((W.calls writer.old).taken) self.old.session self.old.line input →
+            RunState before ((W.calls writer.old).taken) self.old.session.script self.old.line input →
             Wrote before ((W.calls writer.new).taken) (BeginsOutput (input ++ piece.now))) }
         ensures held { GainsTaken ((W.calls writer.old).taken) ((W.calls writer.new).taken) ((W.calls writer.old).held)
             ((W.calls writer.new).held) }
@@ -239,7 +239,7 @@ impl<E: Engine> Responder<E> {
         ensures memory_alone { IsErrOf result Fault.Memory → (W.calls writer.new).failed ≡ (W.calls writer.old).failed }
         ensures flushes { (W.calls writer.new).flushes ≡ (W.calls writer.old).flushes }
         ensures lines_counted { OnOk result
-            (self.new.session.number ≤ self.old.session.number + length piece.now) }
+            (self.new.session.script.number ≤ self.old.session.script.number + length piece.now) }
     {
         let mut at = 0;
         while at < piece.len() {
@@ -261,10 +261,10 @@ impl<E: Engine> Responder<E> {
     fn end_input<R: AllocGlobal + Sync>(&mut self, rt: &R) -> Result<(), AllocError>
     where
         E: EngineOver<R>,
-        requires line_number_fits { self.old.session.number ≤ 2 ^ 61 }
+        requires line_number_fits { self.old.session.script.number ≤ 2 ^ 61 }
         requires none_wait { string_bytes self.old.replies ≡ [] }
         ensures ok { OnOk result
-            (Finishes self.old.session self.old.line (string_bytes self.new.replies)) }
+            (Finishes self.old.session.script self.old.line (string_bytes self.new.replies)) }
         ensures not_blank { OnErr result (is_blank_kept self.old.line ≡ false) }
     {
         if self.line.is_empty() {
@@ -281,16 +281,16 @@ impl<E: Engine> Responder<E> {
     ) -> Result<(), Fault>
     where
         E: EngineOver<R>,
-        requires line_number_fits { self.session.number ≤ 2 ^ 61 }
+        requires line_number_fits { self.session.script.number ≤ 2 ^ 61 }
         requires none_wait { string_bytes self.replies ≡ [] }
         ensures ok { OnOk result ((before input : List ℕ) →
-            RunState before ((W.calls writer.old).taken) self.session self.line input →
+            RunState before ((W.calls writer.old).taken) self.session.script self.line input →
             Wrote before ((W.calls writer.new).taken) (λ out. out ≡ output input)) }
         ensures memory { IsErrOf result Fault.Memory → ((before input : List ℕ) →
-            RunState before ((W.calls writer.old).taken) self.session self.line input →
+            RunState before ((W.calls writer.old).taken) self.session.script self.line input →
             Wrote before ((W.calls writer.new).taken) (StopsFirst 0 input)) }
         ensures err { OnErr result ((before input : List ℕ) →
-            RunState before ((W.calls writer.old).taken) self.session self.line input →
+            RunState before ((W.calls writer.old).taken) self.session.script self.line input →
             Wrote before ((W.calls writer.new).taken) (BeginsWith (output input))) }
         ensures held { GainsTaken ((W.calls writer.old).taken) ((W.calls writer.new).taken) ((W.calls writer.old).held)
             ((W.calls writer.new).held) }

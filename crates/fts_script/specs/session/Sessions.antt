@@ -1,5 +1,5 @@
 -- What a session answers, compared with what a script does.
-use Rattle.std.specs.Prelude.{◌≡◌, ℕ, ◌+◌, ◌^◌, ◌≤◌, ◌⊎◌, ◌++◌, List, length, Option, MatchOption}
+use Rattle.std.specs.Prelude.{◌≡◌, ℕ, ◌+◌, ◌^◌, ◌≤◌, ◌⊎◌, ◌++◌, List, length, Option, Some, None, MatchOption}
 use Rattle.std.specs.Prelude.{Result, Ok, Err, OnOk, OnErr, string_bytes}
 use Rattle.fts_base.specs.Results.{result_map}
 use Rattle.fts_base.specs.declared.refusal.Refusal.{Refusal}
@@ -19,6 +19,16 @@ printed done = (done.index, line_of done.reply)
 abbrev pub Executes : Result (Outcome Index) Refusal → Option Index → Option Index → Result Reply Refusal → Type 0
 Executes wanted old new (Ok reply) = result_map printed wanted ≡ Ok (new, string_bytes reply.line)
 Executes wanted old new (Err refusal) = (new ≡ old) × ((refusal ≡ Memory) ⊎ (wanted ≡ Err refusal))
+
+-- a session: its script, and the engine that has the script's index, if there is one
+pub record SessionState (E : Type 0) : Type 0 where
+  pub script : SessionValue
+  pub engine : Option E
+
+-- what maintenance work did to an engine and returned, if there is an engine
+abbrev pub Maintains : {E Done : Type 0} → (E → E → Done → Type 0) → Option E → Option E → Option Done → Type 0
+Maintains did None new result = (new ≡ None) × (result ≡ None)
+Maintains did (Some old) new result = MatchOption new ⊥ (λ engine. MatchOption result ⊥ (did old engine))
 
 -- a bound on what an engine counts, if there is one
 abbrev pub ChangesAtMost : {E : Type 0} → (E → ℕ) → ℕ → Option E → Type 0

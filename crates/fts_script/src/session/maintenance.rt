@@ -9,9 +9,13 @@ pub trait Maintenance<E: Engine> {
     /// What the work returns.
     type Done;
 
+    /// What the work does to an engine, and what it returns then.
+    ghost did: { Self → E → E → Self.Done → Type 0 };
+
     /// Does the work.
     fn done(self, engine: &mut E) -> Self::Done
         ensures index { E.index engine.new ≡ E.index engine.old }
         ensures changes { E.changes engine.new ≤ E.changes engine.old + 1 }
-        ensures counted { 2 ^ 61 ≤ E.changes engine.old → E.changes engine.new ≡ E.changes engine.old };
+        ensures counted { 2 ^ 61 ≤ E.changes engine.old → E.changes engine.new ≡ E.changes engine.old }
+        ensures did { did self engine.old engine.new result };
 }

@@ -1,5 +1,5 @@
 // A script, line by line: its state, and its replies.
-ghost use Rattle.std.specs.Prelude.{◌≡◌, ◌+◌, ◌^◌, ◌<◌, ◌≤◌, false, ◌++◌, length, IfOk, OnOk, OnErr, is_none};
+ghost use Rattle.std.specs.Prelude.{◌≡◌, ◌+◌, ◌^◌, ◌<◌, ◌≤◌, false, ◌++◌, None, length, IfOk, OnOk, OnErr, is_none};
 ghost use Rattle.std.specs.Prelude.{option_map, string_bytes, if◌then◌else◌};
 ghost use Rattle.fts_script.specs.session.Text.{is_blank};
 ghost use Rattle.fts_script.specs.session.Finds.{at_commit, reply_to_search};
@@ -12,7 +12,7 @@ ghost use Rattle.fts_script.specs.session.KeptLines.{TooLong, after_kept, reply_
 ghost use Rattle.fts_script.specs.session.Replies.{text_of};
 ghost use Rattle.fts_script.specs.session.Transactions.{is_taken, operate, rolled_back_to, savepoint_of};
 ghost use Rattle.fts_engine.specs.Indexes.{indexes};
-ghost use Rattle.fts_script.specs.session.Sessions.{Appends, ChangesAtMost, IsAnswerable};
+ghost use Rattle.fts_script.specs.session.Sessions.{Appends, ChangesAtMost, IsAnswerable, Maintains};
 
 use crate::session::blank::is_blank;
 use crate::session::commands::{answer_find, answer_whole};
@@ -44,12 +44,14 @@ pub struct Session<E: Engine> {
 
 impl<E: Engine> Model for Session<E> {
     ghost use Rattle.std.specs.Prelude.{option_map};
-    ghost use Rattle.fts_script.specs.session.Outputs.{SessionValue};
-    ghost use Rattle.fts_script.specs.session.Sessions.{ChangesAtMost};
+    ghost use Rattle.fts_script.specs.session.Sessions.{ChangesAtMost, SessionState};
 
-    ghost Value = { SessionValue };
+    ghost Value = { SessionState E };
 
-    ghost view = { λ s. record { number = s.number; index = option_map E.index s.index } };
+    ghost view = { λ s. record {
+      script = record { number = s.number; index = option_map E.index s.index };
+      engine = s.index;
+    } };
 
     ghost invariant = { λ s. ChangesAtMost E.changes s.tries s.index };
 }
@@ -57,7 +59,7 @@ impl<E: Engine> Model for Session<E> {
 impl<E: Engine> Session<E> {
     /// A session before its first line, without a schema.
     pub fn new(options: Options) -> Self
-        ensures { result ≡ start }
+        ensures { result ≡ record { script = start; engine = None } }
     {
         Session {
             options,
@@ -78,12 +80,13 @@ impl<E: Engine> Session<E> {
     ) -> Result<(), AllocError>
     where
         E: EngineOver<R>,
-        requires { IsAnswerable self.old line.now }
-        ensures reply { Appends result (string_bytes out.old) (string_bytes out.new) (reply_to self.old line.now) }
-        ensures script { OnOk result (self.new ≡ after_line self.old line.now) }
-        ensures kept { OnErr result (self.new ≡ self.old) }
+        requires { IsAnswerable self.old.script line.now }
+        ensures reply { Appends result (string_bytes out.old) (string_bytes out.new)
+            (reply_to self.old.script line.now) }
+        ensures script { OnOk result (self.new.script ≡ after_line self.old.script line.now) }
+        ensures kept { OnErr result (self.new.script ≡ self.old.script) }
         ensures not_blank { OnErr result (is_blank line.now ≡ false) }
-        ensures lines_counted { self.new.number ≤ self.old.number + 1 }
+        ensures lines_counted { self.new.script.number ≤ self.old.script.number + 1 }
     {
         let number = self.number + 1;
         if !is_blank(line) {
@@ -104,13 +107,13 @@ impl<E: Engine> Session<E> {
         blank: bool,
         out: &mut String,
     ) -> Result<(), AllocError>
-        requires line_number_fits { self.old.number ≤ 2 ^ 61 }
+        requires line_number_fits { self.old.script.number ≤ 2 ^ 61 }
         ensures reply { Appends result (string_bytes out.old) (string_bytes out.new)
-            (reply_to_kept self.old (TooLong blank)) }
-        ensures script { OnOk result (self.new ≡ after_kept self.old (TooLong blank)) }
-        ensures kept { OnErr result (self.new ≡ self.old) }
+            (reply_to_kept self.old.script (TooLong blank)) }
+        ensures script { OnOk result (self.new.script ≡ after_kept self.old.script (TooLong blank)) }
+        ensures kept { OnErr result (self.new.script ≡ self.old.script) }
         ensures not_blank { OnErr result (blank ≡ false) }
-        ensures lines_counted { self.new.number ≤ self.old.number + 1 }
+        ensures lines_counted { self.new.script.number ≤ self.old.script.number + 1 }
     {
         let number = self.number + 1;
         if !blank {
@@ -130,10 +133,10 @@ impl<E: Engine> Session<E> {
     ) -> Result<(), AllocError>
     where
         E: EngineOver<R>,
-        requires { IsAnswerable self.old line.now }
-        ensures same { self.new ≡ self.old }
+        requires { IsAnswerable self.old.script line.now }
+        ensures same { self.new.script ≡ self.old.script }
         ensures reply { Appends result (string_bytes out.old) (string_bytes out.new)
-            (reply_to_search self.old line.now) }
+            (reply_to_search self.old.script line.now) }
     {
         answer_find(rt, &mut self.index, self.number + 1, line, out)
     }
@@ -149,14 +152,14 @@ impl<E: Engine> Session<E> {
     ) -> Result<(), AllocError>
     where
         E: EngineOver<R> + TakeBack,
-        requires line_number_fits { self.old.number < 2 ^ 61 }
+        requires line_number_fits { self.old.script.number < 2 ^ 61 }
         requires fits_delete { length delete.now ≤ longest }
         requires fits_add { length add.now ≤ longest }
         ensures reply { Appends result (string_bytes out.old) (string_bytes out.new)
-            (reply_to_replace self.old delete.now add.now) }
-        ensures script { OnOk result (self.new ≡ after_replace self.old delete.now add.now) }
-        ensures kept { OnErr result (self.new ≡ self.old) }
-        ensures lines_counted { self.new.number ≤ self.old.number + 2 }
+            (reply_to_replace self.old.script delete.now add.now) }
+        ensures script { OnOk result (self.new.script ≡ after_replace self.old.script delete.now add.now) }
+        ensures kept { OnErr result (self.new.script ≡ self.old.script) }
+        ensures lines_counted { self.new.script.number ≤ self.old.script.number + 2 }
     {
         if self.tries >= MOST_LINES - 1 {
             return Err(AllocError);
@@ -172,7 +175,7 @@ impl<E: Engine> Session<E> {
     pub fn savepoint(&self) -> Savepoint
     where
         E: TakeBack,
-        ensures { result ≡ savepoint_of self.now }
+        ensures { result ≡ savepoint_of self.now.script }
     {
         Savepoint {
             number: self.number,
@@ -192,17 +195,17 @@ impl<E: Engine> Session<E> {
     ) -> Result<bool, AllocError>
     where
         E: EngineOver<R>,
-        requires answerable { IsAnswerable self.old line.now }
-        requires later { begun.number ≤ self.old.number }
-        ensures taken { IfOk result (λ taken. taken ≡ is_taken self.old line.now) }
+        requires answerable { IsAnswerable self.old.script line.now }
+        requires later { begun.number ≤ self.old.script.number }
+        ensures taken { IfOk result (λ taken. taken ≡ is_taken self.old.script line.now) }
         ensures reply { IfOk result (λ taken. string_bytes out.new
-            ≡ (if taken then string_bytes out.old ++ reply_to self.old line.now
-            else text_of (begun.number + 1) (operate indexes self.old.index line.now))) }
-        ensures script { IfOk result (λ taken. self.new
-            ≡ (if taken then after_line self.old line.now else self.old)) }
+            ≡ (if taken then string_bytes out.old ++ reply_to self.old.script line.now
+            else text_of (begun.number + 1) (operate indexes self.old.script.index line.now))) }
+        ensures script { IfOk result (λ taken. self.new.script
+            ≡ (if taken then after_line self.old.script line.now else self.old.script)) }
         ensures err { OnErr result (string_bytes out.new ≡ string_bytes out.old) }
-        ensures kept { OnErr result (self.new ≡ self.old) }
-        ensures lines_counted { self.new.number ≤ self.old.number + 1 }
+        ensures kept { OnErr result (self.new.script ≡ self.old.script) }
+        ensures lines_counted { self.new.script.number ≤ self.old.script.number + 1 }
     {
         if self.tries >= MOST_LINES {
             return Err(AllocError);
@@ -221,7 +224,7 @@ impl<E: Engine> Session<E> {
     pub fn roll_back_to(&mut self, begun: Savepoint)
     where
         E: TakeBack,
-        ensures { self.new ≡ rolled_back_to begun self.old }
+        ensures { self.new.script ≡ rolled_back_to begun self.old.script }
     {
         self.number = begun.number;
         if let Some(engine) = &mut self.index {
@@ -240,10 +243,10 @@ impl<E: Engine> Session<E> {
     ) -> Result<(), AllocError>
     where
         E: EngineOver<R>,
-        requires { IsAnswerable self.old line.now }
-        ensures same { self.new ≡ self.old }
+        requires { IsAnswerable self.old.script line.now }
+        ensures same { self.new.script ≡ self.old.script }
         ensures reply { Appends result (string_bytes out.old) (string_bytes out.new)
-            (reply_to_cut_search self.old line.now names.now) }
+            (reply_to_cut_search self.old.script line.now names.now) }
     {
         answer_find_cut(rt, &mut self.index, self.number + 1, line, names, out)
     }
@@ -259,10 +262,10 @@ impl<E: Engine> Session<E> {
     ) -> Result<(), AllocError>
     where
         E: EngineOver<R>,
-        requires { IsAnswerable self.old line.now }
-        ensures same { self.new ≡ self.old }
+        requires { IsAnswerable self.old.script line.now }
+        ensures same { self.new.script ≡ self.old.script }
         ensures reply { Appends result (string_bytes out.old) (string_bytes out.new)
-            (reply_to_group_search self.old line.now limit) }
+            (reply_to_group_search self.old.script line.now limit) }
     {
         answer_find_frequent(rt, &mut self.index, self.number + 1, line, limit, out)
     }
@@ -271,7 +274,7 @@ impl<E: Engine> Session<E> {
     pub fn fork(&self) -> Result<Session<E>, AllocError>
     where
         E: Fork,
-        ensures { IfOk result (λ fork. fork ≡ at_commit self.now) }
+        ensures { IfOk result (λ fork. fork.script ≡ at_commit self.now.script) }
     {
         let index = match &self.index {
             Some(engine) => Some(engine.fork()?),
@@ -287,8 +290,9 @@ impl<E: Engine> Session<E> {
 
     /// Runs maintenance work on the index, if there is one. It changes no reply.
     pub fn maintain<W: Maintenance<E> + Drop>(&mut self, work: W) -> Option<W::Done>
-        ensures same { self.new ≡ self.old }
-        ensures done { is_none result ≡ is_none self.old.index }
+        ensures same { self.new.script ≡ self.old.script }
+        ensures done { is_none result ≡ is_none self.old.script.index }
+        ensures did { Maintains (W.did work) self.old.engine self.new.engine result }
     {
         if self.tries < MOST_LINES {
             self.tries += 1;
@@ -301,14 +305,15 @@ impl<E: Engine> Session<E> {
 
     /// How many lines there were.
     pub fn lines(&self) -> u64
-        ensures { result ≡ self.now.number }
+        ensures { result ≡ self.now.script.number }
     {
         self.number
     }
 
     /// The index, if there is one.
     pub fn index(&self) -> Option<&E>
-        ensures { option_map (λ engine. E.index engine.now) result ≡ self.now.index }
+        ensures index { option_map (λ engine. E.index engine.now) result ≡ self.now.script.index }
+        ensures engine { option_map (λ engine. engine.now) result ≡ self.now.engine }
     {
         match &self.index {
             Some(engine) => Some(engine),

@@ -107,7 +107,7 @@ returns-in-Err-feed-clause-memory g c = λ e. record {
   input = c.reads.invariant.input ++ take c.in-Ok.n c.read.new.buffer;
   read = append_more (g.R.ScriptIn.calls c.args.reader.now).given _ _ c.reads.invariant.input (take c.in-Ok.n c.read.new.buffer) c.reads.invariant.given c.in-Ok.ensures.given;
   wrote = Wrote-latest StopsFirst _ _ _ (take c.in-Ok.n c.read.new.buffer) (g.R.ScriptIn.calls c.read.new.self).latest c.in-Ok.ensures.latest
-      (Wrote-after _ _ _ c.feed.new.self.session _ (c.in-Err-feed.ensures.memory e _ _ c.reads.invariant.reached));
+      (Wrote-after _ _ _ c.feed.new.self.session.script _ (c.in-Err-feed.ensures.memory e _ _ c.reads.invariant.reached));
 }
 
 pub returns-in-Err-clause-err : goal.returns-in-Err-clause-err

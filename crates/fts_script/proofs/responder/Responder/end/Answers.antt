@@ -7,7 +7,7 @@ returns-in_err-ended-clause-err g c = on_err c.from_residual.result _ (λ before
 pub returns-in_err-send_last-clause-err : goal.returns-in_err-send_last-clause-err
 returns-in_err-send_last-clause-err g c = on_err c.from_residual-in_err-send_last.result _ (λ before input r.
     Wrote-part before (g.W.ScriptOut.calls c.args.writer.now).taken (g.W.ScriptOut.calls c.send_last.new.writer).taken
-    c.args.self.session c.args.self.line input _ c.in_err-send_last.ensures.err.0
+    c.args.self.session.script c.args.self.line input _ c.in_err-send_last.ensures.err.0
     c.in_ok-ended.ensures.ok c.in_err-send_last.ensures.err.1 r)
 
 pub returns-in_err-ended-clause-memory : goal.returns-in_err-ended-clause-memory
@@ -16,6 +16,6 @@ returns-in_err-ended-clause-memory g c = λ _ before input r. Wrote-stop before 
 pub returns-clause-ok : goal.returns-clause-ok
 returns-clause-ok g c = λ before input r.
     Wrote-output before (g.W.ScriptOut.calls c.args.writer.now).taken (g.W.ScriptOut.calls c.send_last.new.writer).taken
-    c.args.self.session c.args.self.line input _ c.in_ok-ended.ensures.ok
+    c.args.self.session.script c.args.self.line input _ c.in_ok-ended.ensures.ok
     c.in_ok-send_last.ensures.ok
     r

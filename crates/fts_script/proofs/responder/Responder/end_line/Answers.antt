@@ -8,13 +8,13 @@ pub returns-then-is_empty-clause-reply : goal.returns-then-is_empty-clause-reply
 returns-then-is_empty-clause-reply g c =
     on_ok_weaker c.answer.result
     (λ h. h ∙ ap (λ v. string_bytes c.args.self.now.replies ++ v)
-    (sym (reply_to_kept-whole c.args.self.now.session c.args.self.now.line c.args.piece.now (c.is_empty.ensures.0 c.if-is_empty.true))))
+    (sym (reply_to_kept-whole c.args.self.now.session.script c.args.self.now.line c.args.piece.now (c.is_empty.ensures.0 c.if-is_empty.true))))
     c.answer.ensures.reply.ok
 
 pub returns-then-is_empty-clause-script : goal.returns-then-is_empty-clause-script
 returns-then-is_empty-clause-script g c =
     on_ok_weaker c.answer.result
-    (λ h. h ∙ sym (after_kept-whole c.args.self.now.session c.args.self.now.line c.args.piece.now (c.is_empty.ensures.0 c.if-is_empty.true)))
+    (λ h. h ∙ sym (after_kept-whole c.args.self.now.session.script c.args.self.now.line c.args.piece.now (c.is_empty.ensures.0 c.if-is_empty.true)))
     c.answer.ensures.script
 
 pub returns-then-is_empty-clause-not_blank : goal.returns-then-is_empty-clause-not_blank
@@ -26,12 +26,12 @@ returns-then-is_empty-clause-not_blank g c =
 pub returns-clause-reply : goal.returns-clause-reply
 returns-clause-reply g c =
     on_ok_weaker c.answer-2.result
-    (λ h. h ∙ ap (λ v. string_bytes c.args.self.now.replies ++ reply_to_kept c.args.self.now.session v) c.in_ok-grow.ensures.ok)
+    (λ h. h ∙ ap (λ v. string_bytes c.args.self.now.replies ++ reply_to_kept c.args.self.now.session.script v) c.in_ok-grow.ensures.ok)
     c.answer-2.ensures.reply
 
 pub returns-clause-script : goal.returns-clause-script
 returns-clause-script g c =
-    on_ok_weaker c.answer-2.result (λ h. h ∙ ap (after_kept c.args.self.now.session) c.in_ok-grow.ensures.ok) c.answer-2.ensures.script
+    on_ok_weaker c.answer-2.result (λ h. h ∙ ap (after_kept c.args.self.now.session.script) c.in_ok-grow.ensures.ok) c.answer-2.ensures.script
 
 pub returns-clause-not_blank : goal.returns-clause-not_blank
 returns-clause-not_blank g c =

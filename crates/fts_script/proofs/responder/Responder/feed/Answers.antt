@@ -11,9 +11,9 @@ pub returns-in-Err-clause-err : goal.returns-in-Err-clause-err
 returns-in-Err-clause-err g c = (λ before input r.
     subst (λ v. Wrote before (g.W.ScriptOut.calls c.send.new.writer).taken (BeginsOutput v)) (whole_is input c.args.piece.now c.loop-at.at)
     (Wrote-cut before (g.W.ScriptOut.calls c.loop-at.writer).taken (g.W.ScriptOut.calls c.send.new.writer).taken
-    c.loop-at.self.session c.loop-at.self.line (input ++ take c.loop-at.at c.args.piece.now) _
+    c.loop-at.self.session.script c.loop-at.self.line (input ++ take c.loop-at.at c.args.piece.now) _
     (string_bytes c.take_lines-taken.new.self.replies) c.in-Err.ensures.err.0
-    (AdvancesFirst-either c.take_lines-taken.result c.loop-at.self.session c.take_lines-taken.new.self.session c.loop-at.self.line
+    (AdvancesFirst-either c.take_lines-taken.result c.loop-at.self.session.script c.take_lines-taken.new.self.session.script c.loop-at.self.line
     c.take_lines-taken.new.self.line _ _ _
     c.take_lines-taken.ensures.ok c.take_lines-taken.ensures.err)
     c.in-Err.ensures.err.1
@@ -21,20 +21,20 @@ returns-in-Err-clause-err g c = (λ before input r.
 
 pub returns-in-Err-taken-clause-memory : goal.returns-in-Err-taken-clause-memory
 returns-in-Err-taken-clause-memory g c = λ _ before input r.
-    Wrote-block before (g.W.ScriptOut.calls c.send.new.writer).taken input c.args.piece.now c.take_lines-taken.new.self.session c.loop-at.at
+    Wrote-block before (g.W.ScriptOut.calls c.send.new.writer).taken input c.args.piece.now c.take_lines-taken.new.self.session.script c.loop-at.at
     (Wrote-first before (g.W.ScriptOut.calls c.loop-at.writer).taken (g.W.ScriptOut.calls c.send.new.writer).taken
-    c.loop-at.self.session c.take_lines-taken.new.self.session c.loop-at.self.line (input ++ take c.loop-at.at c.args.piece.now) _ _
+    c.loop-at.self.session.script c.take_lines-taken.new.self.session.script c.loop-at.self.line (input ++ take c.loop-at.at c.args.piece.now) _ _
     c.in-Err-taken.ensures.err c.in-Ok.ensures.ok
     (c.loop-at.invariant.reached before input r))
 
 pub returns-in-Err-taken-clause-err : goal.returns-in-Err-taken-clause-err
 returns-in-Err-taken-clause-err g c = (λ before input r.
     Wrote-begins before (g.W.ScriptOut.calls c.send.new.writer).taken (input ++ c.args.piece.now) (length c.args.piece.now)
-    (Wrote-stopped before (g.W.ScriptOut.calls c.send.new.writer).taken (input ++ c.args.piece.now) c.take_lines-taken.new.self.session
+    (Wrote-stopped before (g.W.ScriptOut.calls c.send.new.writer).taken (input ++ c.args.piece.now) c.take_lines-taken.new.self.session.script
     (length c.args.piece.now)
-    (Wrote-block before (g.W.ScriptOut.calls c.send.new.writer).taken input c.args.piece.now c.take_lines-taken.new.self.session c.loop-at.at
+    (Wrote-block before (g.W.ScriptOut.calls c.send.new.writer).taken input c.args.piece.now c.take_lines-taken.new.self.session.script c.loop-at.at
     (Wrote-first before (g.W.ScriptOut.calls c.loop-at.writer).taken (g.W.ScriptOut.calls c.send.new.writer).taken
-    c.loop-at.self.session c.take_lines-taken.new.self.session c.loop-at.self.line (input ++ take c.loop-at.at c.args.piece.now) _ _
+    c.loop-at.self.session.script c.take_lines-taken.new.self.session.script c.loop-at.self.line (input ++ take c.loop-at.at c.args.piece.now) _ _
     c.in-Err-taken.ensures.err c.in-Ok.ensures.ok
     (c.loop-at.invariant.reached before input r)))))
 
@@ -46,10 +46,10 @@ loop-at-preserved g c =
       within = within_more block at n c.loop-at.invariant.within c.in-Ok-taken.ensures.bound;
       none_wait = c.in-Ok.ensures.none_wait;
       reached = λ before input r.
-          subst (λ v. RunState before (g.W.ScriptOut.calls c.send.new.writer).taken c.take_lines-taken.new.self.session c.take_lines-taken.new.self.line v)
+          subst (λ v. RunState before (g.W.ScriptOut.calls c.send.new.writer).taken c.take_lines-taken.new.self.session.script c.take_lines-taken.new.self.line v)
           (part_is input block at n)
           (RunState-sent before (g.W.ScriptOut.calls c.loop-at.writer).taken (g.W.ScriptOut.calls c.send.new.writer).taken
-          c.loop-at.self.session c.take_lines-taken.new.self.session c.loop-at.self.line c.take_lines-taken.new.self.line
+          c.loop-at.self.session.script c.take_lines-taken.new.self.session.script c.loop-at.self.line c.take_lines-taken.new.self.line
           (input ++ take at block) _ _
           c.in-Ok-taken.ensures.ok c.in-Ok.ensures.ok
           (c.loop-at.invariant.reached before input r));

@@ -14,9 +14,9 @@ returns-in_ok-end_line-in-Some-clause-ok g c =
     let bytes = c.args.bytes.now in
     let waited = string_bytes c.args.self.now.replies in
     let waits = string_bytes c.end_line.new.self.replies in
-    subst (λ v. Advances c.args.self.now.session c.end_line.new.self.session c.args.self.now.line c.end_line.new.self.line v waited waits)
+    subst (λ v. Advances c.args.self.now.session.script c.end_line.new.self.session.script c.args.self.now.line c.end_line.new.self.line v waited waits)
     (sym (take-ended bytes c.in-Some.end c.in-Some.ensures))
-    (Advances-ended c.args.self.now.session c.end_line.new.self.session c.args.self.now.line c.end_line.new.self.line (take c.in-Some.end bytes) waited waits
+    (Advances-ended c.args.self.now.session.script c.end_line.new.self.session.script c.args.self.now.line c.end_line.new.self.line (take c.in-Some.end bytes) waited waits
     (HasNoEnd-before bytes c.in-Some.end c.in-Some.ensures)
     c.in_ok-end_line-in-Some.ensures.reply
     c.in_ok-end_line-in-Some.ensures.script
@@ -26,9 +26,9 @@ pub returns-in_ok-grow-in-None-clause-ok : goal.returns-in_ok-grow-in-None-claus
 returns-in_ok-grow-in-None-clause-ok g c =
     let bytes = c.args.bytes.now in
     let waits = string_bytes c.args.self.now.replies in
-    subst (λ v. Advances c.args.self.now.session c.args.self.now.session c.args.self.now.line c.grow.new.self v waits waits)
+    subst (λ v. Advances c.args.self.now.session.script c.args.self.now.session.script c.args.self.now.line c.grow.new.self v waits waits)
     (sym (take_all (length bytes) bytes (omega arith)))
-    (Advances-unended c.args.self.now.session c.args.self.now.line c.grow.new.self bytes waits
+    (Advances-unended c.args.self.now.session.script c.args.self.now.line c.grow.new.self bytes waits
     (HasNoEnd-none bytes c.in-None.ensures)
     c.in_ok-grow-in-None.ensures.ok)
 

@@ -6,8 +6,8 @@ abbrev pub invariant-loop-at : goal.invariant-loop-at
 invariant-loop-at g l = record {
   within : l.at ≤ length l.bytes;
   started : l.at ≡ 0 → string_bytes l.self.replies ≡ [];
-  leads : Advances l.fn.self.session l.self.session l.fn.self.line l.self.line (take l.at l.bytes) [] (string_bytes l.self.replies);
-  counted : l.self.session.number ≤ l.fn.self.session.number + l.at;
+  leads : Advances l.fn.self.session.script l.self.session.script l.fn.self.line l.self.line (take l.at l.bytes) [] (string_bytes l.self.replies);
+  counted : l.self.session.script.number ≤ l.fn.self.session.script.number + l.at;
 }
 
 abbrev pub decreases-loop-at : goal.decreases-loop-at
