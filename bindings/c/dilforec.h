@@ -52,8 +52,8 @@ enum {
     DILFOREC_LINE_TOO_LONG = 2, /* a line has more than DILFOREC_LONGEST_LINE bytes */
     DILFOREC_USED_UP = 3,       /* the index took 2^61 lines */
     DILFOREC_CLOSED = 4,        /* the handle is closed */
-    DILFOREC_NOTHING = 5,       /* no schema, no merge that is due, or none to end */
-    DILFOREC_GONE = 6           /* what a merge joined is gone */
+    DILFOREC_NOTHING = 5,       /* no schema, no merge that is due, or none that was run to end */
+    DILFOREC_GONE = 6           /* what a merge joined is gone, and it is given up */
 };
 
 #define DILFOREC_LONGEST_LINE 4194304
@@ -177,8 +177,8 @@ typedef struct {
 } dilforec_merge_t;
 
 /* Begins the merge that is due next: segments of about one size, or one of which over a third is deleted. The index
- * forgets the one that was begun before. DILFOREC_OK, DILFOREC_NOTHING if none is due, DILFOREC_MEMORY or
- * DILFOREC_CLOSED. */
+ * forgets the one that was begun before. DILFOREC_OK; DILFOREC_NOTHING if none is due, as without a schema;
+ * DILFOREC_MEMORY or DILFOREC_CLOSED. */
 int32_t dilforec_merge_begin(dilforec_t *index, dilforec_merge_t *slot);
 
 /* Makes one segment of those of a merge: the long part, which any thread may do while the index is used, or is closed.

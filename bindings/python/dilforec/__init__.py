@@ -29,7 +29,7 @@ from dilforec.values import Answer, Field, Groups, Hit, Stats, Top, i64, keyword
 __version__ = "0.2.0"
 
 if TYPE_CHECKING:
-    from dilforec.index import Index, Merge, Searcher
+    from dilforec.index import Index, Merge, Searcher, Transaction
     from dilforec.library import Busy, Closed, UsedUp
 
 __all__ = [
@@ -37,11 +37,13 @@ __all__ = [
     "Closed", "Field", "Groups", "Hit", "Index", "KeywordTooLong", "LaneFull", "LineTooLong", "Merge", "NameTwice", "NoDefaultField",
     "NoFields", "NoSchema", "NotANumberField", "NotAnObject", "RangeOnText", "Refused", "SchemaTwice", "Searcher",
     "SomeRefused", "Stats", "Syntax", "TextTooLong", "TooDeep", "TooLarge", "TooLong", "TooManyFields", "TooManyTexts", "Top",
-    "Unfinished", "UnknownField", "UsedUp", "WrongKind", "__version__", "i64", "keyword", "quoted", "text", "u64",
+    "Transaction", "Unfinished", "UnknownField", "UsedUp", "WrongKind", "__version__", "i64", "keyword", "quoted",
+    "text", "u64",
 ]
 
 _OF_THE_LIBRARY = {
-    "Busy": "library", "Closed": "library", "Index": "index", "Merge": "index", "Searcher": "index", "UsedUp": "library",
+    "Busy": "library", "Closed": "library", "Index": "index", "Merge": "index", "Searcher": "index",
+    "Transaction": "index", "UsedUp": "library",
 }
 
 

@@ -9,7 +9,8 @@ from typing import Any, Callable, Optional, TypeVar, Union, cast, overload
 
 from dilforec import sentences
 from dilforec.library import (
-    LINE_TOO_LONG, MEMORY, NO_LIMIT, OK, Asking, Channel, Closed, MergeHandle, NothingToMerge, fault, syntax_at,
+    COMMIT, COMMITTED, LINE_TOO_LONG, MEMORY, NO_LIMIT, OK, ROLLBACK, STAMP, Asking, Channel, MergeHandle,
+    NothingToMerge, fault, syntax_at,
 )
 from dilforec.refusals import LineTooLong, NoSchema, Refused, SomeRefused, Syntax, TooDeep, TooLong, Unfinished, refused
 from dilforec.values import Answer, Field, GroupCounts, Groups, Hit, Order, Stats, Top, as_json
@@ -35,6 +36,7 @@ LONGEST_QUERY = 4096
 # What `hits` puts around a query, and the longest range that it adds.
 AROUND = len("+() +:>=-9223372036854775808")
 BLOCK_LINES, BLOCK_BYTES = 1000, 1 << 20
+DELETE_ALL = b'{"delete_all":true}'
 REPLY = re.compile(rb'\{"(?:stamp":([0-9]+)|error":"([A-Za-z]+)","line":([0-9]+))\}\n')
 
 
@@ -115,11 +117,7 @@ class Searching:
 
         LineTooLong if the line has more than 4,194,304 bytes.
         """
-        if isinstance(line, str):
-            line = line.encode("utf-8", "surrogatepass")
-        elif not isinstance(line, (bytes, bytearray, memoryview)):
-            raise TypeError(f"a line is a str or bytes, not {type(line).__name__}")
-        return self._channel.ask(bytes(line))
+        return self._channel.ask(_line(line))
 
     @overload
     def search(self, query: str, *, groups: Union[str, Groups, None] = None, top: Optional[Top] = None,
@@ -279,7 +277,7 @@ class Index(Searching):
 
     def execute(self, line: Union[str, bytes, bytearray, memoryview]) -> bytes:
         """As `Searching.execute`; a schema that is set so is the schema of the index."""
-        reply = super().execute(line)
+        reply = self._channel.change(_line(line))
         if reply.startswith(b'{"fields"'):
             text = line if isinstance(line, str) else bytes(line).decode()
             self._schema = tuple(Field(field["name"], field["kind"], field.get("default", False))
@@ -302,7 +300,7 @@ class Index(Searching):
 
         Refused if it doesn't fit the schema, as UnknownField or WrongKind, or if 1,000,000 operations are uncommitted.
         """
-        return self._stamp(self._channel.ask(_add(document)), b'{"stamp":', document)
+        return self._stamp(self._channel.change(_add(document)), STAMP, document)
 
     def add_many(self, documents: Iterable[Mapping[str, Any]]) -> list[int]:
         """Adds documents, and returns their stamps. It takes less time than an `add` for each.
@@ -337,7 +335,7 @@ class Index(Searching):
         if field not in document or document[field] != value:
             raise ValueError(f"the document has {document.get(field)!r} in {field!r}, and not {value!r}")
         delete = to_line({"delete": {field: value}})
-        return self._stamp(self._channel.replace(delete, _add(document)), b'{"stamp":', document)
+        return self._stamp(self._channel.replace(delete, _add(document)), STAMP, document)
 
     def execute_all(self, commands: Iterable[Mapping[str, Any]]) -> list[int]:
         """Does what commands say, one after the other, all of them or none, and returns their stamps.
@@ -353,7 +351,7 @@ class Index(Searching):
         lines = [to_line(command) for command in given]
         code, done, told = self._channel.transact(b"\n".join(lines), len(lines), has_replies=True)
         if code == LINE_TOO_LONG:
-            raise LineTooLong("LineTooLong", None, f"command {done + 1} has more than {LONGEST_LINE:,} bytes")
+            raise _too_long(done + 1)
         if code:
             raise fault(code)
         if done < len(lines):
@@ -374,19 +372,19 @@ class Index(Searching):
     def delete(self, field: str, value: Union[str, int]) -> int:
         """Deletes the documents of smaller stamps that have a value: a whole keyword, a number, or a word of a text."""
         given = {field: value}
-        return self._stamp(self._channel.ask(to_line({"delete": given})), b'{"stamp":', given)
+        return self._stamp(self._channel.change(to_line({"delete": given})), STAMP, given)
 
     def delete_all(self) -> int:
         """Deletes every document of a smaller stamp."""
-        return self._stamp(self._channel.ask(b'{"delete_all":true}'), b'{"stamp":')
+        return self._stamp(self._channel.change(DELETE_ALL), STAMP)
 
     def commit(self) -> int:
         """Makes what was added and deleted visible, at once, and returns the commit's stamp."""
-        return self._stamp(self._channel.ask(b'{"commit":true}'), b'{"commit":')
+        return self._stamp(self._channel.change(COMMIT), COMMITTED)
 
     def rollback(self) -> int:
         """Gives up what wasn't committed, and returns the stamp of the last commit."""
-        return self._stamp(self._channel.ask(b'{"rollback":true}'), b'{"rollback":')
+        return self._stamp(self._channel.change(ROLLBACK), b'{"rollback":')
 
     def merge(self) -> int:
         """Makes one segment of all, and returns how many documents it has. It changes the result of no search."""
@@ -430,18 +428,113 @@ class Index(Searching):
         return self._channel.end_merge()
 
     @contextlib.contextmanager
-    def transaction(self) -> Iterator[Index]:
-        """Commits at the end, and rolls back at an exception, also one of the commit.
+    def transaction(self) -> Iterator[Transaction]:
+        """Commits at the end of the block all that is done in it; an exception leaves nothing of it.
 
-        That takes along what was uncommitted before, and what other threads add meanwhile.
+            with index.transaction() as transaction:
+                transaction.delete("shelf", "lent")
+                transaction.add({"title": "Programming Pearls"})
+
+        The transaction's own calls wait, and are done as one at the end of the block, or not at all: the exception of
+        the first that is refused tells its number among them, from 1. The calls of the index, such as `index.add`, are
+        done at once and return their stamps; the transaction's come after them. Searches find the last commit.
+
+        What was uncommitted before is committed as the block begins, so that it isn't lost, whatever comes. What other
+        threads do meanwhile by calls of the index counts as done in the block, and a commit or a rollback there, of any
+        thread, ends what was done at once so far. One transaction is under way at a time: that of another thread waits
+        for its end, and one within it raises Busy.
+
+        If there is no memory at the end, MemoryError is raised, and nothing stays. An interrupt may come just when the
+        commit is done: it is raised, all of it stays, and `transaction.commit` tells so.
         """
-        try:
-            yield self
-            self.commit()
-        except BaseException:
-            with contextlib.suppress(Closed):
-                self.rollback()
-            raise
+        with self._channel.turn():
+            if self._channel.has_uncommitted():
+                self.commit()
+            transaction = Transaction(self._channel.lock)
+            try:
+                yield transaction
+                self._end(transaction)
+            except BaseException:
+                self._channel.roll_back()
+                raise
+            finally:
+                transaction.end()
+
+    def _end(self, transaction: Transaction) -> None:
+        """Does what a transaction has collected, and commits."""
+        block, count = transaction.end()
+        code, done, told = self._channel.transact_and_commit(block, count, transaction.keep)
+        if code:
+            raise fault(code)
+        if done < count:
+            raise self._refused_command(told, done + 1, _command(block, done))
+        self._stamp(told, COMMITTED)
+
+
+class Transaction:
+    """What is to be done together at the end of a block of `Index.transaction`. Several threads may add to it.
+
+    TypeError, ValueError and LineTooLong are raised at once, if there is no line for what is given; the refusals of the
+    index come at the end of the block.
+    """
+
+    def __init__(self, lock: contextlib.AbstractContextManager[Any]) -> None:
+        self._lock = lock
+        self._lines: Optional[list[bytes]] = []
+        # How many they were at its end, and the stamp of its commit.
+        self._count = self._commit = 0
+
+    def add(self, document: Mapping[str, Any]) -> None:
+        """Adds a document."""
+        self._take(_add(document))
+
+    def delete(self, field: str, value: Union[str, int]) -> None:
+        """Deletes documents, as `Index.delete` does, also those that the transaction added before."""
+        self._take(to_line({"delete": {field: value}}))
+
+    def delete_all(self) -> None:
+        """Deletes every document, also those that the transaction added before."""
+        self._take(DELETE_ALL)
+
+    def _take(self, line: bytes) -> None:
+        with self._lock:
+            if self._lines is None:
+                raise ValueError("the transaction has ended")
+            if len(line) > LONGEST_LINE:
+                raise _too_long(len(self._lines) + 1)
+            self._lines.append(line)
+
+    def __len__(self) -> int:
+        """How many calls there were."""
+        lines = self._lines
+        return self._count if lines is None else len(lines)
+
+    def __bool__(self) -> bool:
+        # A transaction without calls is one all the same.
+        return True
+
+    @property
+    def commit(self) -> int:
+        """The stamp of the commit. ValueError until it is done."""
+        if not self._commit:
+            raise ValueError("the transaction isn't committed")
+        return self._commit
+
+    @property
+    def stamps(self) -> range:
+        """The stamp of each call, once it is committed: the last numbers before the commit's."""
+        return range(self.commit - self._count, self.commit)
+
+    def end(self) -> tuple[bytes, int]:
+        """Its lines and how many they are, for the index, which ends it; after that it takes none."""
+        with self._lock:
+            self._count = len(self)
+            lines, self._lines = self._lines or [], None
+            return b"\n".join(lines), self._count
+
+    def keep(self, told: bytes) -> None:
+        """Keeps the reply to its commit."""
+        self._commit = int(told[len(COMMITTED):-2])
 
 
 class Searcher(Searching):
@@ -559,6 +652,31 @@ class _Adding:
             raise SomeRefused(self._refusals, self._stamps)
         # Each is a number, then. A copy of the list could find no memory.
         return cast("list[int]", self._stamps)
+
+
+def _too_long(number: int) -> LineTooLong:
+    """Why a command of several can't be done, by its number."""
+    return LineTooLong("LineTooLong", None, f"command {number} has more than {LONGEST_LINE:,} bytes")
+
+
+def _command(block: bytes, place: int) -> Any:
+    """The command in a line of a block; None if it isn't JSON to Python either."""
+    begin = 0
+    for _ in range(place):
+        begin = block.index(b"\n", begin) + 1
+    end = block.find(b"\n", begin)
+    line = block[begin:] if end < 0 else block[begin:end]
+    with contextlib.suppress(ValueError, RecursionError):
+        return json.loads(line.decode("utf-8", "surrogatepass"))
+    return None
+
+
+def _line(given: Union[str, bytes, bytearray, memoryview]) -> bytes:
+    """A line as bytes."""
+    if isinstance(given, str):
+        return given.encode("utf-8", "surrogatepass")
+    _expect(given, (bytes, bytearray, memoryview), "a line is a str or bytes")
+    return bytes(given)
 
 
 def _add(document: Mapping[str, Any]) -> bytes:

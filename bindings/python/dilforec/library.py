@@ -5,9 +5,10 @@ import contextlib
 import ctypes
 import os
 import pathlib
+import re
 import threading
 import weakref
-from collections.abc import Callable, Sequence
+from collections.abc import Callable, Iterator, Sequence
 from typing import Any, Optional, Protocol, TypeVar, runtime_checkable
 
 from dilforec.refusals import LineTooLong
@@ -31,6 +32,12 @@ BRIEF_TRANSACTION = 1 << 14
 # How often replies that are there are taken, if memory is short.
 TRIES = 3
 
+COMMIT, ROLLBACK = b'{"commit":true}', b'{"rollback":true}'
+# How the replies begin of what is uncommitted then, of a commit, and of both calls after which nothing is.
+STAMP, COMMITTED = b'{"stamp":', b'{"commit":'
+SETTLED = COMMITTED, b'{"rollback":'
+STAMPS = re.compile(re.escape(STAMP))
+
 
 class Closed(ValueError):
     """The index, the searcher or the merge was closed."""
@@ -46,7 +53,7 @@ class NothingToMerge(LookupError):
 
 class Busy(RuntimeError):
     """A signal handler, or a finalizer, called an index, a searcher or a merge in the middle of a call on it in its
-    thread."""
+    thread; or a transaction began within another of its thread."""
 
 
 class Handle(ctypes.Structure):
@@ -227,8 +234,16 @@ class Channel(Owner):
         BRIEF.dilforec_searcher, BRIEF.dilforec_stats,
     )
 
+    # Whether something is uncommitted; also if it isn't known, as after an interrupt.
+    _has_uncommitted = False
+    # Whether it has to be rolled back before anything changes.
+    _owes_rollback = False
+    # The thread whose transaction is under way.
+    _turn_of: Optional[int] = None
+
     def __init__(self, opened: Callable[[int], int] = LIBRARY.dilforec_open) -> None:
         self._make_room(FIRST_ROOM)
+        self._turn = threading.Lock()
         super().__init__(opened)
 
     def _make_room(self, size: int) -> None:
@@ -251,6 +266,33 @@ class Channel(Owner):
                 return self._read()
             finally:
                 self._busy = False
+
+    def change(self, line: bytes) -> bytes:
+        """As `ask`, of a line that may change something."""
+        with self.lock:
+            if self._busy:
+                self._check()
+            try:
+                self._busy = True
+                before = self._begin_change()
+                code = self._ask(self._at, line, len(line))
+                if code:
+                    self._has_uncommitted = before
+                    raise fault(code)
+                told = self._read()
+                if not told.startswith(STAMP):
+                    self._has_uncommitted = before and not told.startswith(SETTLED)
+                return told
+            finally:
+                self._busy = False
+
+    def _begin_change(self) -> bool:
+        """Rolls back what has to be, and tells whether something else is uncommitted. From now on it is: an interrupt
+        may come before it is known."""
+        if self._owes_rollback:
+            self._roll_back()
+        before, self._has_uncommitted = self._has_uncommitted, True
+        return before
 
     def ask_each(self, lines: Sequence[bytes], names: Optional[bytes],
                  limits: Sequence[Optional[int]] = ()) -> list[bytes]:
@@ -284,10 +326,14 @@ class Channel(Owner):
             self._check()
             try:
                 self._busy = True
+                before = self._begin_change()
                 code = LIBRARY.dilforec_replace(self._at, delete, len(delete), add, len(add))
                 if code:
+                    self._has_uncommitted = before
                     raise fault(code)
-                return self._read()
+                told = self._read()
+                self._has_uncommitted = before or told.startswith(STAMP)
+                return told
             finally:
                 self._busy = False
 
@@ -304,10 +350,13 @@ class Channel(Owner):
                 if self._room_size < len(lines) * REPLY_TO_CHANGE:
                     self._make_room(len(lines) * REPLY_TO_CHANGE)
                 block, done = b"\n".join(lines), ctypes.c_size_t()
+                before = self._begin_change()
                 code = LIBRARY.dilforec_execute_lines(self._at, block, len(block), ctypes.addressof(done))
                 for _ in range(TRIES if code != CLOSED else 0):
                     with contextlib.suppress(MemoryError):
-                        take(self._view[:self._reply(self._at, self._room_at, self._room_size)])
+                        replies = self._view[:self._reply(self._at, self._room_at, self._room_size)]
+                        self._has_uncommitted = before or STAMPS.search(replies) is not None
+                        take(replies)
                         break
                 return code, done.value
             finally:
@@ -323,18 +372,116 @@ class Channel(Owner):
             self._check()
             try:
                 self._busy = True
-                if has_replies and self._room_size < lines * REPLY_TO_CHANGE:
-                    self._make_room(lines * REPLY_TO_CHANGE)
-                done, told = ctypes.c_size_t(), b""
-                library = BRIEF if len(block) <= BRIEF_TRANSACTION else LIBRARY
-                code = library.dilforec_transaction(self._at, block, len(block), ctypes.addressof(done))
-                for _ in range(TRIES if code == OK and (has_replies or done.value < lines) else 0):
-                    with contextlib.suppress(MemoryError):
-                        told = self._read()
-                        break
-                return code, done.value, told
+                return self._transact(block, lines, has_replies)
             finally:
                 self._busy = False
+
+    def _transact(self, block: bytes, lines: int, has_replies: bool) -> tuple[int, int, bytes]:
+        if has_replies and self._room_size < lines * REPLY_TO_CHANGE:
+            self._make_room(lines * REPLY_TO_CHANGE)
+        done, told = ctypes.c_size_t(), b""
+        library = BRIEF if len(block) <= BRIEF_TRANSACTION else LIBRARY
+        before = self._begin_change()
+        code = library.dilforec_transaction(self._at, block, len(block), ctypes.addressof(done))
+        self._has_uncommitted = before or (code == OK and done.value == lines > 0)
+        for _ in range(TRIES if code == OK and (has_replies or done.value < lines) else 0):
+            with contextlib.suppress(MemoryError):
+                told = self._read()
+                break
+        return code, done.value, told
+
+    def transact_and_commit(self, block: bytes, lines: int, keep: Callable[[bytes], None]) -> tuple[int, int, bytes]:
+        """As `transact`, and then a commit, or else nothing that was uncommitted stays. No other call comes between.
+
+        If all lines were done, the code is the commit's, and so is the reply: a refusal, or what `keep` gets, even if
+        an interrupt comes just then.
+        """
+        with self.lock:
+            self._check()
+            try:
+                self._busy = True
+                try:
+                    return self._transact_and_commit(block, lines, keep)
+                finally:
+                    if self._has_uncommitted:
+                        self._give_up()
+            finally:
+                self._busy = False
+
+    def _transact_and_commit(self, block: bytes, lines: int, keep: Callable[[bytes], None]) -> tuple[int, int, bytes]:
+        code, done, told = self._transact(block, lines, False)
+        if code or done < lines:
+            return code, done, told
+        try:
+            code = self._ask(self._at, COMMIT, len(COMMIT))
+            return code, done, self._keep_commit(keep)
+        except BaseException:
+            self._keep_commit(keep)
+            raise
+
+    def _keep_commit(self, keep: Callable[[bytes], None]) -> bytes:
+        """The last reply. If it is a commit's, and not that to lines which come before, or none, `keep` gets it."""
+        told = self._short_reply()
+        if told.startswith(COMMITTED):
+            self._has_uncommitted = False
+            keep(told)
+        return told
+
+    def roll_back(self) -> None:
+        """Rolls back what is uncommitted; if memory is short, before the next change."""
+        with self.lock:
+            self._check()
+            try:
+                self._busy = True
+                if self._has_uncommitted:
+                    self._give_up()
+            finally:
+                self._busy = False
+
+    def _give_up(self) -> None:
+        self._owes_rollback = True
+        with contextlib.suppress(MemoryError, Closed, UsedUp):
+            self._roll_back()
+
+    def _roll_back(self) -> None:
+        code = self._ask(self._at, ROLLBACK, len(ROLLBACK))
+        if code:
+            raise fault(code)
+        self._has_uncommitted = self._owes_rollback = False
+
+    def has_uncommitted(self) -> bool:
+        """Whether something is uncommitted, and doesn't have to be rolled back. Closed if there is no index any more."""
+        with self.lock:
+            self._check()
+            # Another thread's call, while it runs, has taken the handle.
+            if not self.is_open:
+                raise fault(CLOSED)
+            try:
+                self._busy = True
+                if self._owes_rollback:
+                    self._roll_back()
+                return self._has_uncommitted
+            finally:
+                self._busy = False
+
+    @contextlib.contextmanager
+    def turn(self) -> Iterator[None]:
+        """A transaction's turn; those of other threads wait for its end. Busy within another one of its thread."""
+        if self._turn_of == threading.get_ident():
+            raise Busy("a transaction is under way in this thread, and no other can begin within it")
+        with self._turn:
+            try:
+                self._turn_of = threading.get_ident()
+                yield
+            finally:
+                self._turn_of = None
+
+    def end_turn_of_others(self) -> None:
+        """Rolls back the transaction of a thread that a fork left in its parent."""
+        if self._turn.locked() and self._turn_of != threading.get_ident():
+            self._turn, self._turn_of = threading.Lock(), None
+            with contextlib.suppress(Busy):
+                self.roll_back()
 
     def _read(self) -> bytes:
         length = self._reply(self._at, self._room_at, self._room_size)
@@ -349,6 +496,14 @@ class Channel(Owner):
         own = ctypes.create_string_buffer(length)
         self._reply(self._at, ctypes.addressof(own), length)
         return memoryview(own).cast("B").tobytes()
+
+    def _short_reply(self) -> bytes:
+        """The last reply; nothing if it is longer than one to a line other than a search, or there is no memory."""
+        for _ in range(TRIES):
+            with contextlib.suppress(MemoryError):
+                length: int = self._reply(self._at, self._room_at, self._room_size)
+                return self._view[:length].tobytes() if length <= REPLY_TO_CHANGE else b""
+        return b""
 
     def searcher(self) -> Searches:
         """A channel of its own to the last commit."""
@@ -441,6 +596,9 @@ def after_fork_in_child() -> None:
         else:
             owner.lock = threading.RLock()
             owner.abandon()
+    for owner in HELD[-1]:
+        if isinstance(owner, Channel):
+            owner.end_turn_of_others()
     after_fork()
 
 

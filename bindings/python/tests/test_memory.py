@@ -73,6 +73,40 @@ class Memory(unittest.TestCase):
             index.commit()
             self.assertEqual(len(index), DOCUMENTS)
 
+    def test_transactions(self):
+        """A block that finds no memory leaves nothing of it, and is done once when it is tried again."""
+        def block():
+            with index.transaction() as transaction:
+                index.delete("title", "before")
+                index.add({"title": "rust"})
+                for number in range(DOCUMENTS):
+                    transaction.add({"title": f"rust {number}", "year": number})
+            return transaction
+
+        for asker in b"libdilforec", None:
+            with dilforec.Index(*FIELDS) as index:
+                index.add({"title": "before"})
+                before = self.refusals
+                self.assertEqual(self.again(block, asker).stamps, range(5, DOCUMENTS + 5))
+                self.assertGreater(self.refusals, before + 5)
+                self.assertEqual((len(index), index.commit()), (DOCUMENTS + 1, DOCUMENTS + 6))
+
+    def test_rollbacks(self):
+        """A rollback at the end of a block that finds no memory is made before the next change."""
+        with dilforec.Index(*FIELDS) as index:
+            for growth in range(1, 1_000_000):
+                with self.assertRaises(ZeroDivisionError), index.transaction():
+                    index.add({"title": "rust"})
+                    REFUSE(growth, b"libdilforec")
+                    raise ZeroDivisionError
+                if REFUSE(0, None) < growth:
+                    break
+                type(self).refusals += 1
+                self.assertEqual((index.add({"title": "hand"}), index.rollback()), (1, 0))
+            with index.transaction() as transaction:
+                transaction.add({"title": "rust"})
+            self.assertEqual((list(transaction.stamps), len(index)), ([1], 1))
+
     def test_merges(self):
         """A merge that finds no memory is begun, run or ended when it is tried again."""
         with dilforec.Index(*FIELDS) as index:

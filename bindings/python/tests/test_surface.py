@@ -231,11 +231,11 @@ class Calls(unittest.TestCase):
                     self.assertEqual([hit.document for hit in hits], wanted)
 
     def test_transaction(self):
-        """It commits at the end, and rolls back at an exception."""
+        """It commits at the end, and rolls back at an exception; test_transactions.py has the rest."""
         with opened() as index:
-            with index.transaction() as same:
+            with index.transaction() as transaction:
                 index.add({"title": "rust"})
-            self.assertIs(same, index)
+            self.assertIsInstance(transaction, dilforec.Transaction)
             self.assertEqual(len(index), 1)
             with self.assertRaises(ZeroDivisionError), index.transaction():
                 index.add({"title": "rust"})

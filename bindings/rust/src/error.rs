@@ -58,10 +58,11 @@ impl fmt::Display for NotAll {
 
 impl std::error::Error for NotAll {}
 
-/// The first line of [`Index::execute_all`](crate::Index::execute_all) that can't be done. No line was done.
+/// The first line of [`Index::execute_all`](crate::Index::execute_all), or of a [`Transaction`](crate::Transaction),
+/// that can't be done. No line was done.
 #[derive(Clone, Debug, PartialEq, Eq)]
 pub struct NotOne {
-    /// The number of the line, from 0.
+    /// The number of the line, from 0; how many there are, if a transaction's commit can't be done.
     pub line: usize,
     /// Why it can't be done.
     pub error: Error,

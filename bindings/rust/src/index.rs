@@ -3,6 +3,7 @@ use crate::json::{Line, Reader};
 use crate::sys::{self, Raw};
 use crate::values::{Answer, Document, Field, Search, Stats, Value};
 use crate::{Error, NotAll, NotOne};
+use std::ops::Range;
 
 /// A block of lines is handed over once it has as many, or as many bytes.
 const BLOCK_LINES: usize = 1000;
@@ -11,11 +12,16 @@ const BLOCK_BYTES: usize = 1 << 20;
 /// The most bytes of a line.
 const LONGEST_LINE: usize = 4_194_304;
 
+const ROLLBACK: &str = r#"{"rollback":true}"#;
+
 /// An index. It forgets everything when it is dropped.
 #[derive(Debug)]
 pub struct Index {
     raw: Raw,
     reply: Vec<u8>,
+    has_uncommitted: bool,
+    /// Whether what is uncommitted has to be rolled back before anything changes.
+    owes_rollback: bool,
 }
 
 // SAFETY: the library keeps nothing that belongs to a thread, and a handle is used through `&mut` alone.
@@ -27,7 +33,7 @@ impl Index {
         let mut raw = Raw::CLOSED;
         // SAFETY: the slot is ours, and closed.
         Error::of(unsafe { sys::dilforec_open(&mut raw) })?;
-        Ok(Index { raw, reply: Vec::new() })
+        Ok(Index { raw, reply: Vec::new(), has_uncommitted: false, owes_rollback: false })
     }
 
     /// Opens an index with a schema.
@@ -46,11 +52,22 @@ impl Index {
 
     /// The reply to a line of a script, with its LF; nothing to a blank line. A refusal is a reply here.
     pub fn reply_to(&mut self, line: impl AsRef<[u8]>) -> Result<&str, Error> {
+        self.settle()?;
         let line = line.as_ref();
         self.reply_after(|raw| {
             // SAFETY: the handle is open until `self` is dropped, and the line is as long as is said.
             unsafe { sys::dilforec_execute(raw, line.as_ptr(), line.len()) }
         })
+    }
+
+    /// Rolls back what has to be.
+    fn settle(&mut self) -> Result<(), Error> {
+        if self.owes_rollback {
+            // SAFETY: as above.
+            self.reply_after(|raw| unsafe { sys::dilforec_execute(raw, ROLLBACK.as_ptr(), ROLLBACK.len()) })?;
+            self.owes_rollback = false;
+        }
+        Ok(())
     }
 
     /// The reply to a call. Room for a short one is made before, so that no error follows a change.
@@ -59,7 +76,13 @@ impl Index {
         Error::of(call(&mut self.raw))?;
         let raw = &mut self.raw;
         // SAFETY: the handle is open until `self` is dropped, and the buffer has the room that is said.
-        sys::read(&mut self.reply, |to, room| unsafe { sys::dilforec_reply(raw, to, room) })
+        let reply = sys::read(&mut self.reply, |to, room| unsafe { sys::dilforec_reply(raw, to, room) })?;
+        if reply.starts_with(r#"{"stamp":"#) {
+            self.has_uncommitted = true;
+        } else if reply.starts_with(r#"{"commit":"#) || reply.starts_with(r#"{"rollback":"#) {
+            self.has_uncommitted = false;
+        }
+        Ok(reply)
     }
 
     fn stamp(&mut self, line: &Line) -> Result<u64, Error> {
@@ -108,6 +131,7 @@ impl Index {
 
     /// Adds a block of the documents of which nothing is told, and tells of them, as far as they were done.
     fn add_block(&mut self, documents: &[Document<'_>], told: &mut Vec<Result<u64, Error>>) -> Result<(), Error> {
+        self.settle()?;
         let begin = told.len();
         let mut block = Block::default();
         let mut taken = Ok(());
@@ -127,6 +151,7 @@ impl Index {
         for place in &block.places[..done] {
             let reply = Error::of_reply(replies.next().unwrap_or_default());
             told[*place] = reply.and_then(|reply| Reader::new(reply).only("stamp"));
+            self.has_uncommitted |= told[*place].is_ok();
         }
         if let Some(place) = block.places.get(done) {
             told.truncate(*place);
@@ -148,6 +173,7 @@ impl Index {
     /// `OtherKey` if the document has nothing in the field. If it is refused, as `WrongKind`, or there is no memory,
     /// the old one stays. The field is a keyword or number field: by a text field, all with the word would be deleted.
     pub fn replace(&mut self, field: &str, document: &Document<'_>) -> Result<u64, Error> {
+        self.settle()?;
         let value = document.get(field).ok_or(Error::OtherKey)?;
         let (mut delete, mut add) = (Line::default(), Line::default());
         delete.delete(field, value)?;
@@ -185,18 +211,58 @@ impl Index {
             block.extend_from_slice(line.as_ref());
             block.push(b'\n');
         }
-        sys::make_room(&mut self.reply, lines.len()).map_err(|error| NotOne { line: 0, error })?;
-        let (raw, mut done) = (&mut self.raw, 0);
-        // SAFETY: the handle is open until `self` is dropped, and the block is as long as is said.
-        let code = unsafe { sys::dilforec_transaction(raw, block.as_ptr(), block.len(), &mut done) };
-        Error::of(code).map_err(|error| NotOne { line: done, error })?;
-        // SAFETY: as above, of the buffer, which has room for the replies to all lines.
-        let replies = sys::read(&mut self.reply, |to, room| unsafe { sys::dilforec_reply(raw, to, room) });
-        for reply in replies.map_err(|error| NotOne { line: done, error })?.lines() {
+        let done = self.transact(&block, lines.len(), lines.len())?;
+        for reply in self.replies().map_err(|error| NotOne { line: done, error })?.lines() {
             let stamp = Error::of_reply(reply).and_then(|reply| Reader::new(reply).only("stamp"));
             stamps.push(stamp.map_err(|error| NotOne { line: done, error })?);
         }
         Ok(stamps)
+    }
+
+    /// Does what the lines of a block say, all of them or none, and gives how many are before the first that is
+    /// refused. There is room for as many replies then.
+    fn transact(&mut self, block: &[u8], lines: usize, replies: usize) -> Result<usize, NotOne> {
+        let room = self.settle().and_then(|()| sys::make_room(&mut self.reply, replies));
+        room.map_err(|error| NotOne { line: 0, error })?;
+        let (raw, mut done) = (&mut self.raw, 0);
+        // SAFETY: the handle is open until `self` is dropped, and the block is as long as is said.
+        let code = unsafe { sys::dilforec_transaction(raw, block.as_ptr(), block.len(), &mut done) };
+        Error::of(code).map_err(|error| NotOne { line: done, error })?;
+        self.has_uncommitted |= lines > 0 && done == lines;
+        Ok(done)
+    }
+
+    /// The replies to the lines of the last block, or the refusal of one.
+    fn replies(&mut self) -> Result<&str, Error> {
+        let raw = &mut self.raw;
+        // SAFETY: the handle is open until `self` is dropped, and the buffer has the room that is said.
+        sys::read(&mut self.reply, |to, room| unsafe { sys::dilforec_reply(raw, to, room) })
+    }
+
+    /// Begins a transaction: what is added and deleted in it is committed by [`Transaction::commit`], all of it or
+    /// nothing. If it is dropped before, nothing is done.
+    ///
+    /// What was uncommitted before is committed first. So it isn't lost, whatever comes.
+    ///
+    /// ```
+    /// # fn main() -> Result<(), Box<dyn std::error::Error>> {
+    /// # use dilforec::{Document, Field, Index};
+    /// # let mut index = Index::with_schema(&[Field::text("title").default(), Field::u64("year")])?;
+    /// let mut transaction = index.transaction()?;
+    /// transaction.delete("year", 1986)?;
+    /// transaction.add(&Document::new().with("title", "Programming Pearls").with("year", 1999))?;
+    /// assert_eq!(transaction.search("pearls")?.count, 0);
+    /// assert_eq!(transaction.commit()?, 1..3);
+    /// assert_eq!(index.search("pearls")?.count, 1);
+    /// # Ok(())
+    /// # }
+    /// ```
+    pub fn transaction(&mut self) -> Result<Transaction<'_>, Error> {
+        self.settle()?;
+        if self.has_uncommitted {
+            self.commit()?;
+        }
+        Ok(Transaction { index: self, lines: Line::default(), count: 0 })
     }
 
     /// Makes what was added and deleted visible, at once, and gives the commit's stamp.
@@ -206,7 +272,7 @@ impl Index {
 
     /// Gives up what wasn't committed, and gives the stamp of the last commit.
     pub fn rollback(&mut self) -> Result<u64, Error> {
-        Reader::new(self.execute(r#"{"rollback":true}"#)?).only("rollback")
+        Reader::new(self.execute(ROLLBACK)?).only("rollback")
     }
 
     /// Searches the last commit.
@@ -314,6 +380,74 @@ impl Drop for Index {
     fn drop(&mut self) {
         // SAFETY: nothing uses the handle after this.
         unsafe { sys::dilforec_close(&mut self.raw) };
+    }
+}
+
+/// What is to be done together, by [`commit`](Transaction::commit). [`Index::transaction`] begins one.
+#[derive(Debug)]
+#[must_use = "a transaction does nothing unless it is committed"]
+pub struct Transaction<'a> {
+    index: &'a mut Index,
+    /// Each with its LF.
+    lines: Line,
+    count: usize,
+}
+
+impl Transaction<'_> {
+    /// Adds a document. Refusals come when the transaction is committed, `LineTooLong` and `Memory` at once.
+    pub fn add(&mut self, document: &Document<'_>) -> Result<(), Error> {
+        self.take(|line| line.add(document))
+    }
+
+    /// Deletes documents as [`Index::delete`] does, also those that the transaction added before.
+    pub fn delete<'v>(&mut self, field: &str, value: impl Into<Value<'v>>) -> Result<(), Error> {
+        self.take(|line| line.delete(field, &value.into()))
+    }
+
+    /// Deletes all documents, also those that the transaction added before.
+    pub fn delete_all(&mut self) -> Result<(), Error> {
+        self.take(|line| line.raw(r#"{"delete_all":true}"#).map(drop))
+    }
+
+    /// Takes a line that is written; at an error, nothing.
+    fn take(&mut self, write: impl FnOnce(&mut Line) -> Result<(), Error>) -> Result<(), Error> {
+        let begin = self.lines.bytes.len();
+        let mut taken = write(&mut self.lines).and_then(|()| self.lines.raw("\n").map(drop));
+        if self.lines.bytes.len() - begin > LONGEST_LINE + 1 {
+            taken = taken.and(Err(Error::LineTooLong));
+        }
+        match taken {
+            Ok(()) => self.count += 1,
+            Err(_) => self.lines.bytes.truncate(begin),
+        }
+        taken
+    }
+
+    /// Searches the last commit, which has nothing of the transaction.
+    pub fn search<'s>(&mut self, search: impl Into<Search<'s>>) -> Result<Answer, Error> {
+        self.index.search(search)
+    }
+
+    /// Does all that was added and deleted, in that order, and commits. Gives the stamps; the end of the range is the
+    /// commit's.
+    ///
+    /// At an error nothing of it stays. `NotOne` has the number of the call that is refused, from 0, or, if it is the
+    /// commit, how many calls there were.
+    pub fn commit(self) -> Result<Range<u64>, NotOne> {
+        let Transaction { index, lines, count } = self;
+        let done = index.transact(&lines.bytes, count, 1)?;
+        let told = if done < count {
+            index.replies().and_then(Error::of_reply).and(Err(Error::Reply))
+        } else {
+            index.commit()
+        };
+        if index.has_uncommitted {
+            index.owes_rollback = true;
+            // What finds no memory now is done before the next change.
+            index.settle().ok();
+        }
+        let commit = told.map_err(|error| NotOne { line: done, error })?;
+        Ok(commit - count as u64..commit)
     }
 }
 

@@ -23,7 +23,7 @@ mod sys;
 mod values;
 
 pub use error::{Error, NotAll, NotOne, Refusal};
-pub use index::{Index, Merge, Searcher};
+pub use index::{Index, Merge, Searcher, Transaction};
 pub use values::{quoted, Answer, Document, Field, Hit, Kind, Order, Search, Stats, Value};
 
 /// One version for the program, the header and the packages.

@@ -56,6 +56,7 @@ fn each_document_is_there_once() -> Result<(), Error> {
     assert_eq!(again(refuse, &mut refusals, || searcher.search(search.clone()))?, answer);
     assert_eq!(index.search("*")?.count, DOCUMENTS);
     refusals += many_are_there_once(refuse)?;
+    refusals += a_transaction_is_done_once(refuse)?;
     assert!(refusals > 1000);
     println!("{refusals} refusals");
     Ok(())
@@ -85,5 +86,23 @@ fn many_are_there_once(refuse: Refuse) -> Result<u64, Error> {
     assert!(stamps.into_iter().eq(1..=DOCUMENTS));
     index.commit()?;
     assert_eq!(index.search("*")?.count, DOCUMENTS);
+    Ok(refusals)
+}
+
+/// Each growth of a transaction is refused in turn, and then nothing of it stays. Tells the refusals.
+fn a_transaction_is_done_once(refuse: Refuse) -> Result<u64, Error> {
+    let mut index = Index::with_schema(&[Field::text("title").default(), Field::u64("year")])?;
+    index.add(&Document::new().with("title", "before"))?;
+    let mut refusals = 0;
+    let stamps = again(refuse, &mut refusals, || {
+        let mut transaction = index.transaction()?;
+        transaction.delete("title", "before")?;
+        for year in 0..DOCUMENTS {
+            transaction.add(&Document::new().with("title", "rust").with("year", year))?;
+        }
+        transaction.commit().map_err(|none| none.error)
+    })?;
+    assert_eq!((stamps, index.search("*")?.count), (3..DOCUMENTS + 4, DOCUMENTS));
+    assert_eq!(index.commit()?, DOCUMENTS + 5);
     Ok(refusals)
 }

@@ -111,6 +111,94 @@ fn lines_are_done_together_or_not_at_all() -> Result<(), Error> {
 }
 
 #[test]
+fn a_transaction_is_committed_whole_or_not_at_all() -> Result<(), Error> {
+    let mut index = Index::with_schema(&fields())?;
+    commit(&mut index)?;
+    let mut transaction = index.transaction()?;
+    transaction.add(&book("hand").with("year", 1))?;
+    transaction.delete("year", 1)?;
+    transaction.add(&book("hand").with("year", 2))?;
+    assert_eq!((transaction.search("hand")?.count, transaction.search("rust")?.count), (0, 1));
+    assert_eq!(transaction.commit(), Ok(3..6));
+    assert_eq!((index.search("hand")?.count, index.search("*")?.count), (1, 2));
+    let late = Document::new().with("year", "late");
+    let mut transaction = index.transaction()?;
+    transaction.delete_all()?;
+    transaction.add(&book("hand"))?;
+    transaction.add(&late)?;
+    transaction.add(&late)?;
+    assert_eq!(transaction.commit(), Err(NotOne { line: 2, error: refused("WrongKind", 12) }));
+    assert_eq!((index.search("*")?.count, index.commit()?, index.search("*")?.count), (2, 7, 2));
+    let mut transaction = index.transaction()?;
+    transaction.delete_all()?;
+    drop(transaction);
+    assert_eq!((index.commit()?, index.search("*")?.count), (8, 2));
+    let mut transaction = index.transaction()?;
+    transaction.delete_all()?;
+    transaction.add(&book("last"))?;
+    assert_eq!((transaction.commit(), index.search("*")?.count), (Ok(9..11), 1));
+    assert_eq!(index.transaction()?.commit(), Ok(12..12));
+    Ok(())
+}
+
+#[test]
+fn a_transaction_commits_first_what_was_uncommitted() -> Result<(), Error> {
+    let changes: [fn(&mut Index) -> bool; 6] = [
+        |index| index.add(&book("rust")).is_ok(),
+        |index| index.add_many(&[book("rust"), Document::new().with("year", "late")]).is_err(),
+        |index| index.execute_all(&[r#"{"add":{"title":"rust"}}"#]).is_ok(),
+        |index| index.delete("year", 7).is_ok(),
+        |index| index.replace("year", &book("rust").with("year", 7)).is_ok(),
+        |index| index.execute(r#"{"delete_all":true}"#).is_ok(),
+    ];
+    for change in changes {
+        let mut index = Index::with_schema(&fields())?;
+        commit(&mut index)?;
+        assert!(change(&mut index));
+        drop(index.transaction()?);
+        let begun = index.rollback()?;
+        assert!(begun > 3, "what was uncommitted is lost: {begun}");
+        assert_eq!(index.transaction()?.commit(), Ok(begun + 1..begun + 1));
+    }
+    let nothing: [fn(&mut Index) -> bool; 6] = [
+        |index| index.add(&book("rust")).is_ok() && index.rollback().is_ok(),
+        |index| index.add(&Document::new().with("year", "late")).is_err(),
+        |index| index.add_many(&[Document::new().with("year", "late")]).is_err(),
+        |index| index.execute_all(&[r#"{"add":{}}"#, r#"{"commit":true}"#]).is_err(),
+        |index| index.replace("year", &book("rust").with("year", "late")).is_err(),
+        |index| index.search("rust").is_ok(),
+    ];
+    for call in nothing {
+        let mut index = Index::with_schema(&fields())?;
+        commit(&mut index)?;
+        assert!(call(&mut index));
+        assert_eq!(index.transaction()?.commit(), Ok(3..3));
+    }
+    let mut index = Index::open()?;
+    assert_eq!(index.transaction()?.commit(), Err(NotOne { line: 0, error: refused("NoSchema", 1) }));
+    let mut transaction = index.transaction()?;
+    transaction.delete_all()?;
+    assert_eq!(transaction.commit(), Err(NotOne { line: 0, error: refused("NoSchema", 2) }));
+    Ok(())
+}
+
+#[test]
+fn a_transaction_takes_many_and_large_documents() -> Result<(), Error> {
+    let mut index = Index::with_schema(&fields())?;
+    let long = "a".repeat(1_048_576);
+    let mut transaction = index.transaction()?;
+    for year in 0..20_000u64 {
+        transaction.add(&book("rust").with("year", year))?;
+    }
+    let longer = (0..5).fold(Document::new(), |document, _| document.with("title", long.as_str()));
+    assert_eq!(transaction.add(&longer), Err(Error::LineTooLong));
+    transaction.add(&book(&long))?;
+    assert_eq!(transaction.commit(), Ok(1..20_002));
+    assert_eq!((index.search("rust")?.count, index.search("*")?.count), (20_000, 20_001));
+    Ok(())
+}
+
+#[test]
 fn four_threads_have_an_index_each() -> Result<(), Error> {
     fn fill(mut index: Index, documents: u64) -> Result<Index, Error> {
         for _ in 0..documents {
