@@ -37,7 +37,7 @@ OF_A_SUBJECT = {
     "fts_pack": {"bits/signed", "bits/widths", "column/value_counts", "four_lanes", "prefix_sums"},
     "fts_parts": {"order", "ranks"},
     "fts_pool": {"deque", "workers"},
-    "fts_postings": {"bytes", "marks", "posting", "stretch", "window_bits"},
+    "fts_postings": {"marks", "posting", "stretch"},
     "fts_query": {"depth", "error", "parser", "reader"},
     "fts_scan": {"answers", "matcher", "operations", "terms"},
     "fts_script": {"session/commands", "session/cut_search", "session/group_search", "streams"},
