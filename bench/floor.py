@@ -9,7 +9,7 @@ sentence, and counted. All programs are in one run: for each kind of search each
 least time counts. Every answer is compared with that of the others. Prints microseconds of processor time for a search, JSON included for
 `fts run` and Groonga, with all documents live and again with a tenth of them deleted; then their ratios to the loops and to CRoaring beside
 the goals, and which fall short. With --instructions it runs `fts run` and the loops under Valgrind's callgrind instead, and prints thousands of
-instructions a search, which other work on the machine doesn't change. With --picture it draws the times by matplotlib as an SVG.
+instructions a search, which other work on the machine doesn't change. With --picture it draws the times as an SVG.
 
 With --before it compares two builds of `fts` alone, by turns: the one above and an earlier one. Its table ends with how many times as long a search
 of each kind takes as before.

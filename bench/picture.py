@@ -6,7 +6,8 @@ import pathlib
 from html import escape
 from typing import Iterable, Mapping, Sequence
 
-COLOURS = ("#1f5fa8", "#d9822b", "#4c9a52", "#b8393c", "#7a5aa6", "#8a6a4f", "#c95fa0", "#6f7f8c")
+# One for each program of bench/floor.py; what has no colour isn't drawn.
+COLOURS = ("#1f5fa8", "#d9822b", "#4c9a52", "#b8393c", "#7a5aa6", "#8a6a4f", "#c95fa0", "#6f7f8c", "#2aa198")
 # Heights of a line of text, of a bar and of the space between groups, and the width of a letter.
 LINE, BAR, SPACE, LETTER = 18, 7, 9, 6.6
 

@@ -13,6 +13,8 @@ import re
 import sys
 from collections.abc import Iterator
 
+from counts import Counts
+
 CRATES = pathlib.Path(__file__).resolve().parents[1] / "crates"
 PAGE = CRATES / "dilforec/CALLING.md"
 
@@ -127,11 +129,9 @@ def main() -> int:
     if sys.argv[1:] != ["--check"]:
         PAGE.write_text(page(), encoding="utf-8")
         return 0
-    good = PAGE.read_text(encoding="utf-8") == page()
-    if not good:
-        print(f"{PAGE} isn't what tests/calling.py writes.")
-    print("1 passed, 0 failed" if good else "0 passed, 1 failed")
-    return not good
+    counts = Counts("calling", quiet=True)
+    counts.check(str(PAGE), PAGE.read_text(encoding="utf-8") == page(), "isn't what tests/calling.py writes")
+    return counts.end()
 
 
 if __name__ == "__main__":

@@ -14,6 +14,7 @@ from case_packing import write_packing
 from case_queries import LONG, t, write_cursors, write_phrases, write_queries
 from case_random import write_cuttings, write_generated, write_joins, write_walks
 from case_words import write_words
+from counts import Counts
 
 
 def write_tokens():
@@ -544,16 +545,16 @@ WRITERS = [write_tokens, write_schemas, write_documents, write_scan, write_queri
 
 
 def check():
-    """Whether the stored cases are those that are written now."""
+    """Compares the stored cases with those that are written now, and returns the status."""
     with tempfile.TemporaryDirectory() as case_model.folder:
         for write in WRITERS:
             write()
         names = sorted({*os.listdir(case_model.folder), *os.listdir(HERE)})
-        same, other, missing = filecmp.cmpfiles(case_model.folder, HERE, names, shallow=False)
-    for name in other + missing:
-        print(f"{name} isn't what tests/cases.py writes.")
-    print(f"{len(same)} passed, {len(other + missing)} failed")
-    return 1 if other + missing else 0
+        same, _, _ = filecmp.cmpfiles(case_model.folder, HERE, names, shallow=False)
+    counts = Counts("cases", quiet=True)
+    for name in names:
+        counts.check(name, name in same, "isn't what tests/cases.py writes")
+    return counts.end()
 
 
 if __name__ == "__main__":

@@ -20,6 +20,8 @@ import sys
 import textwrap
 from typing import Iterator, NamedTuple
 
+from counts import Counts
+
 ROOT = pathlib.Path(__file__).resolve().parents[1]
 CRATES = ROOT / "crates"
 PAGE = ROOT / "docs/DEFINITIONS.md"
@@ -228,8 +230,9 @@ def main() -> int:
         return 0
     for line in difflib.unified_diff(there.splitlines(), wanted.splitlines(), "there", "as written", "", "", 0, ""):
         print(line)
-    print("1 passed, 0 failed" if wanted == there else "0 passed, 1 failed")
-    return 0 if wanted == there else 1
+    counts = Counts("definitions", quiet=True)
+    counts.check("docs/DEFINITIONS.md", wanted == there, "isn't what tests/definitions.py writes")
+    return counts.end()
 
 
 if __name__ == "__main__":

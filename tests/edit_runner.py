@@ -15,6 +15,8 @@ import subprocess
 import sys
 import tempfile
 
+from counts import Counts
+
 ROOT = pathlib.Path(__file__).resolve().parents[1]
 
 SOURCE = """\
@@ -85,13 +87,10 @@ def said(source: str) -> tuple[str, int]:
 
 
 def main() -> int:
-    results: list[bool] = []
+    counts = Counts("edits")
 
     def check(name: str, text: str, wanted: str) -> None:
-        results.append(wanted in text)
-        print(f"edits: {name}: {'ok' if wanted in text else f'FAILED: no {wanted!r} in'}")
-        if wanted not in text:
-            print(text)
+        counts.check(name, wanted in text, f"no {wanted!r} in\n{text}")
 
     text, status = said(SOURCE)
     for name, (*_, wanted) in EDITS.items():
@@ -107,8 +106,7 @@ def main() -> int:
     check("a wrong crate", text, "edits: small: without an edit next isn't proved")
     for name in sorted(GOOD):
         check("an edit of it", text, f"edits: small/{name} isn't tried")
-    print(f"{sum(results)} passed, {len(results) - sum(results)} failed")
-    return 0 if all(results) else 1
+    return counts.end()
 
 
 if __name__ == "__main__":
