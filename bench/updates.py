@@ -260,7 +260,7 @@ def shown(raw: dict[str, Any]) -> str:
     parts = [f"{raw['documents']:,} documents with a key each, and {raw['updates']:,} updates of keys by chance. Microseconds of processor time of "
              "a commit with its updates; megabytes that are resident, less those before the index was opened, and of Lucene those in use in its "
              f"heap once it was swept. '{BESIDE.capitalize()}': commits merge segments of {LIMIT:,} documents at most, and another thread, whose time "
-             "isn't counted, the rest."]
+             "isn't counted, the rest. Lucene's clock, that of its process, has ticks of 10 ms, so its mean says more than its median."]
     for each, programs in raw["each"].items():
         rows = [[f"a commit, {name}", *(number(told["times"][place]) for told in programs.values())]
                 for place, name in enumerate(("mean", "median", "99 of 100 at most", "the slowest"))]
