@@ -42,7 +42,7 @@ LIBRARY = bindings/out/libdilforec.a bindings/out/$(SONAME)
 SOURCES := crates.txt HANDLES $(shell find crates -name out -prune -o \( -name '*.rt' -o -name '*.antt' \) -print)
 
 # Documents and examples keep the folders that they have here, so that their links lead somewhere.
-PAGES := README.md CHANGELOG.md $(wildcard docs/*.md docs/*.svg docs/*.png)
+PAGES := README.md CHANGELOG.md $(wildcard docs/*.md docs/*.png bench/*.md bench/*.svg)
 EXAMPLES := $(wildcard examples/*.jsonl examples/*/*.py examples/packages/available examples/service/* bindings/c/example.c bindings/python/examples/*.py)
 DOCS = $(PAGES) $(EXAMPLES)
 

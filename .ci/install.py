@@ -22,7 +22,8 @@ EXPECTED = [
     "lib/pkgconfig/dilforec.pc", "lib/cmake/dilforec/dilforec-config.cmake", "share/man/man1/fts.1",
     "share/man/man1/dilforec.1",
     "share/man/man3/dilforec.3", "share/bash-completion/completions/fts", "share/zsh/site-functions/_fts",
-    "share/doc/dilforec/README.md", "share/doc/dilforec/docs/SCRIPT.md", "share/doc/dilforec/examples/catalogue.jsonl",
+    "share/doc/dilforec/README.md", "share/doc/dilforec/docs/SCRIPT.md", "share/doc/dilforec/bench/MEASURED-ALL.md",
+    "share/doc/dilforec/examples/catalogue.jsonl",
 ]
 
 # What lintian may say: no licence has been chosen, and there is no bug whose number an upload could close.

@@ -1,5 +1,5 @@
 #!/usr/bin/env python3
-"""Writes docs/MEASURED.md, its appendix docs/MEASURED-ALL.md and the table of README.md whole from what was measured.
+"""Writes docs/MEASURED.md, its appendix bench/MEASURED-ALL.md and the table of README.md whole from what was measured.
 
     python3 bench/report.py [--only PART[,PART..]] [--note TEXT] [--wait MINUTES] [--written]
 
@@ -36,11 +36,13 @@ import summary
 from programs import PROGRAM, ROOT, run
 
 PAGE = ROOT / "docs/MEASURED.md"
-APPENDIX = ROOT / "docs/MEASURED-ALL.md"
+APPENDIX = ROOT / "bench/MEASURED-ALL.md"
 README = ROOT / "README.md"
 # The line of README.md after which the table is.
 MARK = "<!-- bench/report.py writes this table. -->"
 KEPT = ROOT / "bench/measured"
+# What this program writes. A change there is none of what is measured.
+WRITTEN = ("docs", "bench/measured", "bench/MEASURED-ALL.md", "bench/*.svg")
 WIDTH = 140
 # A machine on which less runs or waits to run is quiet.
 QUIET = 1.0
@@ -51,7 +53,7 @@ ADDS = " commits of one add"
 
 
 class Part(NamedTuple):
-    """What `measure` gives is kept; `shown` makes Markdown of it, and `draw` the picture of that name in docs/, if it has one."""
+    """What `measure` gives is kept; `shown` makes Markdown of it, and `draw` the picture of that name beside the appendix, if it has one."""
     name: str
     title: str
     measure: Callable[[], Any]
@@ -109,7 +111,7 @@ PARTS = (
 def commit() -> str:
     """The commit that is checked out, and whether anything but the measurements was changed since."""
     name = run("git", "-C", ROOT, "log", "-1", "--format=%h").strip()
-    changed = run("git", "-C", ROOT, "status", "--porcelain", "--untracked-files=no", "--", ".", ":!docs", ":!bench/measured").strip()
+    changed = run("git", "-C", ROOT, "status", "--porcelain", "--untracked-files=no", "--", ".", *(f":!{path}" for path in WRITTEN)).strip()
     return name + " with changes" if changed else name
 
 
@@ -217,7 +219,7 @@ def introduction() -> str:
     return f"""# What was measured
 
 For those who choose an index or plan a machine: how fast Dilforec is and how much memory it takes, beside SQLite's FTS5 and Lucene. `python3
-bench/report.py` writes this page, and [every table](MEASURED-ALL.md) in the appendix.
+bench/report.py` writes this page, and [every table](../bench/MEASURED-ALL.md) in the appendix.
 
 {summary.shown(kept_by_name)}
 
@@ -276,8 +278,8 @@ def appendix() -> str:
     closing = [f"## Not measured yet\n\n{missing[0].upper()}{missing[1:]}."] if missing else []
     head = (
         "# Every table\n\nFor those who look closer: all that `python3 bench/report.py` measures, part by part; `--only` measures one anew. "
-        "[MEASURED](MEASURED.md) has the documents, the kinds of search, the programs, and what a load is. A dash means that a program has nothing for the "
-        "search. A program is named by its SHA-256.")
+        "[MEASURED](../docs/MEASURED.md) has the documents, the kinds of search, the programs, and what a load is. A dash means that a program has "
+        "nothing for the search. A program is named by its SHA-256.")
     return of_paragraphs("\n\n".join([head, conditions(there), *map(section, there), *closing]))
 
 
@@ -298,7 +300,7 @@ def draw() -> None:
     """Draws the pictures of what was measured."""
     for part in PARTS:
         if part.draw and kept(part):
-            part.draw(kept(part)["raw"], PAGE.parent / part.picture)
+            part.draw(kept(part)["raw"], APPENDIX.parent / part.picture)
 
 
 def main() -> None:

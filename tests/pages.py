@@ -1,5 +1,5 @@
 #!/usr/bin/env python3
-"""Tests the pages: README.md, docs/, CONTRIBUTING.md and CHANGELOG.md.
+"""Tests the pages: README.md, docs/, bench/MEASURED-ALL.md, CONTRIBUTING.md and CHANGELOG.md.
 
     python3 tests/pages.py [PROGRAM]
 
@@ -15,11 +15,11 @@ unless bindings/build.sh has linked them. It takes some seconds, and proves and 
 - The tutorial: its blocks run one after the other, the service too, and print what the page says that they print.
 - Definitions: docs/DEFINITIONS.md is what tests/definitions.py writes. PROOFS.md counts what must be read as tests/reading.py does, and a kit
   that it doesn't name is printed, and counted as skipped. CONTRIBUTING.md has the table of tests/try_crate.py.
-- Numbers: what was measured is in docs/MEASURED.md, its appendix MEASURED-ALL.md and the table of README.md, which is MEASURED's. Elsewhere no
-  page has a number before ns, µs, ms or their words, nor one of these tables with a fraction and three digits or more. A part that was measured
-  over 50 commits ago is printed, and counted as skipped.
+- Numbers: what was measured is in docs/MEASURED.md, its appendix bench/MEASURED-ALL.md and the table of README.md, which is MEASURED's.
+  Elsewhere no page has a number before ns, µs, ms or their words, nor one of these tables with a fraction and three digits or more. A part that
+  was measured over 50 commits ago is printed, and counted as skipped.
 - Versions: each place that has the version has that of the file VERSION.
-- Sentences: none has over 35 words; a word of code counts as one. Each page of docs/ says at its head for whom it is.
+- Sentences: none has over 35 words; a word of code counts as one. Each page of docs/, and the appendix, says at its head for whom it is.
 - README.md has 110 lines at most.
 
 The last lines are 'N skipped', if any, and 'N passed, M failed'.
@@ -51,11 +51,11 @@ from counts import Counts
 ROOT = pathlib.Path(__file__).resolve().parents[1]
 DOCS = ROOT / "docs"
 MEASURED = DOCS / "MEASURED.md"
-APPENDIX = DOCS / "MEASURED-ALL.md"
+APPENDIX = ROOT / "bench/MEASURED-ALL.md"
 # A part of these that was measured more commits ago is old.
 OLD = 50
 TUTORIAL = DOCS / "TUTORIAL.md"
-PAGES = [ROOT / "README.md", *sorted(DOCS.glob("*.md")), ROOT / "CONTRIBUTING.md", ROOT / "CHANGELOG.md"]
+PAGES = [ROOT / "README.md", *sorted(DOCS.glob("*.md")), APPENDIX, ROOT / "CONTRIBUTING.md", ROOT / "CHANGELOG.md"]
 WITH_COMMANDS = [ROOT / "README.md", *(DOCS / f"{name}.md" for name in ("DATA", "EMBEDDING", "SCALE", "SERVICE"))]
 PACKAGE = ROOT / "bindings/python"
 ARCHIVE = ROOT / "bindings/out/libdilforec.a"
@@ -589,8 +589,8 @@ def sentences() -> None:
 
 
 def heads() -> None:
-    """A page of docs/ says under its title whom it is for."""
-    for page in DOCS.glob("*.md"):
+    """A page of docs/, and the appendix, says under its title whom it is for."""
+    for page in [*DOCS.glob("*.md"), APPENDIX]:
         head = next((told for _, told in paragraphs(page.read_text("utf-8"))), "")
         check(f"{named(page)}: its head", head.startswith("For "), f"doesn't say for whom it is: {head}")
 

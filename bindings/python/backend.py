@@ -113,7 +113,8 @@ def sources() -> Iterator[tuple[str, bytes]]:
         if path.is_file() and path != link.SHARED and not any(it.startswith((".", "__pycache__")) for it in name.parts):
             yield name.as_posix(), path.read_bytes()
     documents = f"dilforec-{version()}.data/data/share/doc/dilforec"
-    for path in [TOP / "README.md", TOP / "CHANGELOG.md", *sorted((TOP / "docs").glob("*.*"))]:
+    measured = [TOP / "bench/MEASURED-ALL.md", *sorted((TOP / "bench").glob("*.svg"))]
+    for path in [TOP / "README.md", TOP / "CHANGELOG.md", *sorted((TOP / "docs").glob("*.*")), *measured]:
         yield f"{documents}/{path.relative_to(TOP).as_posix()}", path.read_bytes()
 
 
