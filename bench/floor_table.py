@@ -111,10 +111,11 @@ PROGRAMS = """|program|what it is|
 |Xapian, Groonga|full-text engines in C and C++|"""
 
 DIFFERENT = (
-    "Some kinds of search have several numbers in the appendix. [Searches](../bench/MEASURED-ALL.md#searches-of-100000-documents) ask for each of the 200 "
-    "most frequent words as often. [Inside another program](../bench/MEASURED-ALL.md#inside-another-program) words come as often as documents have them, so "
-    "mostly the most frequent, from two segments. [Without a script](../bench/MEASURED-ALL.md#searches-without-a-script) and "
-    "[in scripts](../bench/MEASURED-ALL.md#scripts-by-the-clock) the time is by the clock; the one opens every block, the other waits for the pipe.")
+    "Some kinds of search have several numbers in the appendix. [Searches](../bench/MEASURED-ALL.md#searches-of-100000-documents) ask for each of "
+    "the 200 most frequent words as often. [Inside another program](../bench/MEASURED-ALL.md#inside-another-program) words come as often as "
+    "documents have them, so mostly the most frequent, from two segments. [Without a script](../bench/MEASURED-ALL.md#searches-without-a-script) "
+    "and [in scripts](../bench/MEASURED-ALL.md#scripts-by-the-clock) the time is by the clock; the one opens every block, the other waits for the "
+    "pipe.")
 
 
 def opening(raw: dict[str, Any]) -> str:
