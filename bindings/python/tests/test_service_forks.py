@@ -11,7 +11,7 @@ import unittest
 
 import dilforec
 from dilforec.service import Stopped, Store
-from service_tools import FIELDS, HERE, Stored
+from service_tools import FIELDS, HERE, Stored, child
 
 
 def descriptors(path):
@@ -40,6 +40,7 @@ def is_left(store, path):
 
 
 def count(snapshot, counts):
+    signal.alarm(20)
     counts.put(snapshot.search("rust").count)
 
 
@@ -57,7 +58,14 @@ class Forks(Stored):
         return pid
 
     def status(self, pid):
-        return os.waitpid(pid, 0)[1]
+        """A child's status. One that hangs before it has set its alarm is aborted after 30 s, so that it tells where."""
+        until = time.monotonic() + 30
+        while (told := os.waitpid(pid, os.WNOHANG)) == (0, 0):
+            if time.monotonic() > until:
+                os.kill(pid, signal.SIGABRT)
+                return os.waitpid(pid, 0)[1]
+            time.sleep(0.002)
+        return told[1]
 
     def test_both_write(self):
         """A child can't write, and what its parent writes is there after a restart."""
@@ -97,55 +105,99 @@ class Forks(Stored):
             while not ended.is_set():
                 store.compact()
 
-        threads = [threading.Thread(target=write, args=(writer,)) for writer in range(3)]
-        threads.append(threading.Thread(target=compact))
+        threads = [threading.Thread(target=write, args=(writer,), daemon=True) for writer in range(3)]
+        threads.append(threading.Thread(target=compact, daemon=True))
         for thread in threads:
             thread.start()
         ends = []
-        for _ in range(20):
-            time.sleep(0.01)
-            ends.append(self.status(self.forked(lambda: is_left(store, self.journal))))
-        ended.set()
-        for thread in threads:
-            thread.join()
-        self.assertEqual(ends, [0] * 20)
+        try:
+            for _ in range(20):
+                time.sleep(0.01)
+                ends.append(self.status(self.forked(lambda: is_left(store, self.journal))))
+        finally:
+            ended.set()
+            for thread in threads:
+                thread.join(60)
+        self.assertEqual((ends, [thread for thread in threads if thread.is_alive()]), ([0] * 20, []))
         store.close()
         self.assertEqual(self.all(self.opened()), added)
+
+    def add_in_both(self, store, ends):
+        """Has a call add a document in the middle of which a child is forked, whose number `ends` gets.
+
+        The parent's is done, and the child's isn't. No wait hangs: an alarm ends the child after 20 s.
+        """
+        main, status = os.getpid(), 2
+        try:
+            status = 0 if store.add({"title": "parent"}) == 1 else 1
+        except Stopped:
+            status = 7
+        finally:
+            if os.getpid() != main:
+                os._exit(status)
+        self.assertEqual((status, os.waitstatus_to_exitcode(self.status(ends[0]))), (0, 7))
+        self.assertEqual(self.all(store), {1: {"title": "parent"}})
+
+    def fork_in_a_call(self, ends):
+        ends.append(os.fork())
+        if ends[0] == 0:
+            signal.alarm(20)
 
     def test_in_a_handler(self):
         """A child of a fork in the middle of a wait isn't left waiting; the parent's change is done."""
         store = self.opened()
         slow = store._journal.disk.sync
-        ends = []
+        begun, ends = [], []
         main = os.getpid()
 
         def handle(*_):
-            if not ends:
-                ends.append(os.fork())
-                if ends[0] == 0:
-                    signal.alarm(20)
+            # One is enough: where a fork takes longer than the time between signals, each would begin within the last.
+            if not begun:
+                begun.append(True)
+                self.fork_in_a_call(ends)
 
         def sync(fd):
             # A signal that comes just before the wait begins is handled after it, so it is sent again.
             end = time.monotonic() + 20
             while not ends and time.monotonic() < end:
-                os.kill(main, signal.SIGUSR1)
+                if not begun:
+                    os.kill(main, signal.SIGUSR1)
                 time.sleep(0.01)
             slow(fd)
 
         before = signal.signal(signal.SIGUSR1, handle)
         try:
             store._journal.disk.sync = sync
-            try:
-                status = 0 if store.add({"title": "parent"}) == 1 else 1
-            except Stopped:
-                status = 7
-            if os.getpid() != main:
-                os._exit(status)
+            self.add_in_both(store, ends)
         finally:
             signal.signal(signal.SIGUSR1, before)
-        self.assertEqual((status, os.waitstatus_to_exitcode(self.status(ends[0]))), (0, 7))
-        self.assertEqual(self.all(store), {1: {"title": "parent"}})
+
+    def test_before_a_wait(self):
+        """A child of a fork between a change's handing in and the wait for it isn't left waiting either."""
+        store = self.opened()
+        slow, hand_in = store._journal.disk.sync, store._worker._hand_in
+        ends = []
+
+        def handed_in(jobs):
+            hand_in(jobs)
+            if not ends:
+                self.fork_in_a_call(ends)
+
+        def sync(fd):
+            end = time.monotonic() + 20
+            while not ends and time.monotonic() < end:
+                time.sleep(0.001)
+            slow(fd)
+
+        store._journal.disk.sync = sync
+        store._worker._hand_in = handed_in
+        self.add_in_both(store, ends)
+
+    def test_within_a_fork(self):
+        """A signal handler may fork in the middle of a fork: no lock that a fork takes is in its way."""
+        program = child(WITHIN, self.journal)
+        told = program.communicate(timeout=60)[0]
+        self.assertEqual((program.returncode, told), (0, b"[0, 0] 2\n"))
 
     def test_readers(self):
         """Processes of multiprocessing search a snapshot that was taken before they were forked."""
@@ -155,17 +207,50 @@ class Forks(Stored):
         kind = multiprocessing.get_context("fork")
         with store.snapshot() as snapshot:
             counts = kind.Queue()
-            readers = [kind.Process(target=count, args=(snapshot, counts)) for _ in range(3)]
+            readers = [kind.Process(target=count, args=(snapshot, counts), daemon=True) for _ in range(3)]
             for reader in readers:
                 reader.start()
+                self.addCleanup(reader.kill)
             store.add({"title": "rust"})
             self.assertEqual([counts.get(timeout=20) for _ in readers], [5, 5, 5])
             for reader in readers:
-                reader.join()
+                reader.join(20)
         self.assertEqual([reader.exitcode for reader in readers], [0, 0, 0])
         with kind.Pool(2) as pool:
-            self.assertEqual(pool.map(abs, [-1, 2]), [1, 2])
+            self.assertEqual(pool.map_async(abs, [-1, 2]).get(20), [1, 2])
         self.assertEqual(len(store), 6)
+
+
+# The hook is called while the fork has all locks but those of the modules that are imported before it.
+WITHIN = """
+import os, signal, sys
+
+signal.alarm(20)
+begun, inner = [], []
+
+def handle(*_):
+    inner.append(os.fork())
+    if inner[0] == 0:
+        os._exit(0)
+
+def hook():
+    if not begun:
+        begun.append(True)
+        signal.raise_signal(signal.SIGUSR1)
+
+signal.signal(signal.SIGUSR1, handle)
+os.register_at_fork(before=hook)
+
+from dilforec.service import Store
+from service_tools import FIELDS
+
+with Store(FIELDS, sys.argv[1]) as store:
+    store.add({})
+    outer = os.fork()
+    if outer == 0:
+        os._exit(0)
+    print([os.waitpid(pid, 0)[1] for pid in (outer, *inner)], store.add({}))
+"""
 
 
 PRELOADED = """
@@ -206,7 +291,10 @@ class Gunicorn(Stored):
             statuses = [self.ask(port) for _ in range(8)]
         finally:
             server.send_signal(signal.SIGTERM)
-            server.wait(30)
+            try:
+                server.wait(30)
+            finally:
+                server.kill()
         self.assertEqual(set(statuses), {b"503"})
         self.assertEqual(self.all(self.opened()), {1: {"title": "before"}})
 

@@ -7,7 +7,6 @@ from __future__ import annotations
 
 import asyncio
 from collections.abc import Awaitable, Callable, Iterator, Mapping
-from concurrent.futures import ThreadPoolExecutor
 from contextlib import contextmanager, suppress
 from functools import partial
 from http import HTTPStatus
@@ -44,6 +43,8 @@ class Asgi:
         self._body_seconds = body_seconds
         # The bytes of all bodies that are held.
         self._held = 0
+        # Once it is imported, each fork takes its lock, and a signal handler that forks within one waits for ever.
+        from concurrent.futures import ThreadPoolExecutor
         self._threads = ThreadPoolExecutor(threads, "dilforec-read")
         self._together = Together(application)
 

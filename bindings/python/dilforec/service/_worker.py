@@ -7,7 +7,7 @@ import sys
 import threading
 import time
 from collections import deque
-from collections.abc import Callable, Iterator
+from collections.abc import Callable, Iterable, Iterator
 from typing import Generic, Optional, TypeVar, Union
 
 from dilforec.service._errors import Stopped
@@ -120,6 +120,8 @@ class Worker(Generic[J]):
         self._awaited: "set[Job]" = set()
         # Why it takes no more jobs.
         self._ended: Optional[str] = None
+        # Whether its thread is the parent's, in a child of a fork, or was stopped by the interpreter's end.
+        self._is_gone = False
         self._over = Event()
         # How many jobs were done together the last time.
         self._done = 0
@@ -152,6 +154,9 @@ class Worker(Generic[J]):
         """Returns when jobs are over; after an interrupt they are withdrawn."""
         self._awaited.update(jobs)
         try:
+            if self._is_gone:
+                # A handler may have forked after they were handed in.
+                self._refuse_undone(jobs)
             for job in jobs:
                 job.wait()
         except BaseException:
@@ -175,11 +180,9 @@ class Worker(Generic[J]):
 
     def forget(self, why: str) -> None:
         """Ends it if its thread is gone, as in a child of a fork. A wait that the fork interrupted ends, too."""
-        self._ended, self._queue = why, queue.SimpleQueue()
+        self._ended, self._queue, self._is_gone = why, queue.SimpleQueue(), True
         self._over.set()
-        for job in self._awaited:
-            if not job.is_done:
-                self._refuse(job)
+        self._refuse_undone(self._awaited)
 
     def _hand_in(self, jobs: "tuple[Union[J, Call], ...]") -> None:
         if sys.is_finalizing():
@@ -248,6 +251,11 @@ class Worker(Generic[J]):
             except queue.Empty:
                 return
             for job in jobs:
+                self._refuse(job)
+
+    def _refuse_undone(self, jobs: Iterable[Job]) -> None:
+        for job in jobs:
+            if not job.is_done:
                 self._refuse(job)
 
     def _refuse(self, job: Job) -> None:
