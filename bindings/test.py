@@ -24,10 +24,13 @@ CC = os.environ.get("CC", "cc")
 UVICORN = pathlib.Path("/usr/lib/python3/dist-packages/uvicorn")
 COUNTS = r"(\d+) passed, (\d+) failed"
 STRICTLY = ["-pedantic", "-Wall", "-Wextra", "-Werror"]
+# How long one command or file of tests may take.
+SECONDS = 900
 
 sys.path[:0] = [str(HERE / "python"), str(HERE.parent / "tests")]
 
 import link  # noqa: E402
+import processes  # noqa: E402
 from counts import Counts  # noqa: E402
 
 counts = Counts("bindings")
@@ -39,7 +42,7 @@ def skipped(name, what):
 
 
 def run(*words, **settings):
-    return subprocess.run(words, capture_output=True, timeout=900, **settings)
+    return processes.completed(*words, seconds=SECONDS, **settings)
 
 
 def step(name, *words, counts=None, **settings):
@@ -140,14 +143,12 @@ def in_python():
         if path.stem.startswith(("test_service", "test_cluster")):
             continue  # tests/service.py and tests/cluster.py run these.
         more = {"LD_PRELOAD": str(refuse)} if path.stem == "test_memory" else {}
-        done = run(sys.executable, path, env={**environment, **more}, text=True)
-        tests = int((re.search(r"Ran (\d+) test", done.stderr) or [0, 0])[1])
-        bad = len(re.findall(r"^(?:FAIL|ERROR): ", done.stderr, re.MULTILINE))
-        if done.returncode or not tests:
-            bad = max(bad, 1)
-        refusals = re.search(r"\d+ refusals", done.stdout)
+        done = processes.run_tests(sys.executable, path, env={**environment, **more}, seconds=SECONDS)
+        refusals = re.search(r"\d+ refusals", done.said)
         name = f"Python, {path.name}" + (f" ({refusals[0]})" if refusals else "")
-        count(name, max(tests - bad, 0), bad, done.stderr)
+        count(name, done.passed, done.failed, done.said)
+        if done.skipped:
+            counts.skip(name, "the machine lacks what they need", done.skipped)
     mypy = shutil.which("mypy") or shutil.which("mypy", path="/usr/bin")
     if mypy:
         with tempfile.TemporaryDirectory() as folder:

@@ -19,9 +19,10 @@ import subprocess
 import sys
 import tempfile
 import time
-from typing import NamedTuple, Optional
 
+import processes
 from counts import Counts
+from processes import run_tests
 
 ROOT = pathlib.Path(__file__).resolve().parents[1]
 PACKAGE = ROOT / "bindings/python"
@@ -31,28 +32,13 @@ OUT = ROOT / "bindings/out"
 counts = Counts("cluster")
 
 
-class Done(NamedTuple):
-    status: Optional[int]
-    said: str
-
-
 def environment(*paths):
     return {**os.environ, "PYTHONPATH": os.pathsep.join(map(str, paths)), "PYTHONDONTWRITEBYTECODE": "1"}
 
 
 def run(*words, seconds=240, **settings):
-    """The status of a command, None if it took too long, and what it printed. What it left running ends with it."""
-    with tempfile.TemporaryFile("w+") as said:
-        process = subprocess.Popen(words, stdin=subprocess.DEVNULL, stdout=said, stderr=subprocess.STDOUT,
-                                   start_new_session=True, **settings)
-        status = None
-        with contextlib.suppress(subprocess.TimeoutExpired):
-            status = process.wait(seconds)
-        with contextlib.suppress(ProcessLookupError):
-            os.killpg(process.pid, signal.SIGKILL)
-        process.wait()
-        said.seek(0)
-        return Done(status, said.read())
+    """How a command ended, and what it printed. What it left running ends with it."""
+    return processes.run(*words, seconds=seconds, **settings)
 
 
 def imports_distributed(python, *paths):
@@ -81,13 +67,11 @@ def with_distributed():
 
 def unittests(name, python, *paths):
     """Counts the tests of a module of bindings/python/tests; what they print goes on."""
-    done = run(python, "-m", "unittest", name, env=environment(PACKAGE, PACKAGE / "tests", *paths), seconds=480)
-    tests = int((re.search(r"Ran (\d+) test", done.said) or [0, 0])[1])
-    bad = len(re.findall(r"^(?:FAIL|ERROR): ", done.said, re.MULTILINE))
-    if done.status != 0 or not tests:
-        bad = max(bad, 1)
+    done = run_tests(python, "-m", "unittest", name, env=environment(PACKAGE, PACKAGE / "tests", *paths), seconds=480)
     print("".join(line + "\n" for line in done.said.splitlines() if line.startswith("cluster: ")), end="")
-    counts.add(name, max(tests - bad, 0), bad, done.said)
+    counts.add(name, done.passed, done.failed, done.said)
+    if done.skipped:
+        counts.skip(name, "the machine lacks what they need", done.skipped)
 
 
 # The example of docs/SCALE.md.

@@ -47,6 +47,7 @@ import reading
 import service
 import try_crate
 from counts import Counts
+from processes import completed
 
 ROOT = pathlib.Path(__file__).resolve().parents[1]
 DOCS = ROOT / "docs"
@@ -248,12 +249,17 @@ class Place(NamedTuple):
     environment: dict[str, str]
 
     def run(self, script: str) -> subprocess.CompletedProcess[str]:
-        words = ["bash", "-e", "-o", "pipefail", "-c", script]
-        return subprocess.run(words, cwd=self.folder, env=self.environment, capture_output=True, text=True, timeout=60)
+        return self.completed("bash", "-e", "-o", "pipefail", "-c", script)
+
+    def completed(self, *words: str, **settings: str) -> subprocess.CompletedProcess[str]:
+        """A command that has ended; one that takes longer than a minute is ended, and has failed."""
+        done: subprocess.CompletedProcess[str] = completed(
+            *words, seconds=60, cwd=self.folder, env=self.environment, text=True, **settings)
+        return done
 
     def replies(self, script: str) -> list[str]:
         """What `fts run` replies to a script."""
-        done = subprocess.run(["fts", "run"], input=script, env=self.environment, capture_output=True, text=True, timeout=60)
+        done = self.completed("fts", "run", input=script)
         assert done.returncode == 0, done.stderr
         return done.stdout.splitlines()
 
@@ -448,7 +454,7 @@ def tutorial(place: Place) -> None:
             check(block.name, running, "it ended")
         else:
             words = [sys.executable, "-c", script] if is_python(block) else ["bash", "-e", "-o", "pipefail", "-c", script]
-            done = subprocess.run(words, cwd=folder, env=place.environment, capture_output=True, text=True, timeout=60)
+            done = place.completed(*words)
             wanted = prints(block)
             check(block.name, done.returncode == 0 and wanted in (None, done.stdout), done.stdout + done.stderr)
     if running:
@@ -475,8 +481,7 @@ def python(place: Place) -> None:
         if not linked():
             skip(block.name, "the package isn't linked (bindings/build.sh)")
             continue
-        done = subprocess.run([sys.executable, "-c", "import dilforec\n" + block.text], env=place.environment, cwd=place.folder,
-                              capture_output=True, text=True, timeout=60)
+        done = place.completed(sys.executable, "-c", "import dilforec\n" + block.text)
         check(f"{block.name}: what it prints", done.returncode == 0 and done.stdout.startswith(printed), done.stdout + done.stderr)
 
 

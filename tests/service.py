@@ -20,6 +20,7 @@ import sys
 import tempfile
 
 from counts import Counts
+from processes import Tests, run_tests
 
 counts = Counts("service")
 HERE = pathlib.Path(__file__).resolve().parent
@@ -32,6 +33,8 @@ MODULES = ("uvicorn", "httptools", "uvloop", "asgiref", "click", "h11", "typing_
 # Debian's packages that are of Python alone, so that they do for each version, and their modules.
 HYPOTHESIS = "python3-hypothesis", ("hypothesis", "attr", "sortedcontainers", "exceptiongroup")
 BROWSERS = ("chromium", "chromium-browser", "google-chrome")
+# How long a file of tests may take. The longest takes a minute or two on a machine that has nothing else to do.
+SECONDS = 600
 
 
 def install(*packages: str) -> None:
@@ -78,16 +81,10 @@ def add_modules(folder: str, package: str, modules: tuple[str, ...]) -> None:
             os.symlink(DEBIAN / module, os.path.join(folder, module))
 
 
-def run(test: pathlib.Path, paths: list[str]) -> tuple[str, int, int, int, str]:
-    """How many tests of a file passed, failed and were skipped, and what it said."""
+def run(test: pathlib.Path, paths: list[str]) -> tuple[str, Tests]:
+    """The tests of a file, and its name."""
     environment = {**os.environ, "PYTHONPATH": os.pathsep.join(paths), "PYTHONDONTWRITEBYTECODE": "1"}
-    done = subprocess.run([sys.executable, test], env=environment, capture_output=True, text=True, timeout=600)
-    tests = int((re.search(r"Ran (\d+) test", done.stderr) or [0, 0])[1])
-    skipped = int((re.search(r"skipped=(\d+)", done.stderr) or [0, 0])[1])
-    failed = len(re.findall(r"^(?:FAIL|ERROR): ", done.stderr, re.MULTILINE))
-    if done.returncode or not tests:
-        failed = max(failed, 1)
-    return test.name, max(tests - failed - skipped, 0), failed, skipped, done.stderr
+    return test.name, run_tests(sys.executable, test, env=environment, seconds=SECONDS)
 
 
 def main() -> int:
@@ -103,12 +100,12 @@ def main() -> int:
         add_modules(folder, *HYPOTHESIS)
         # The largest first, so that none of them goes on alone at the end.
         tests = sorted(TESTS.glob("test_service_*.py"), key=lambda test: test.stat().st_size, reverse=True)
-        for name, good, bad, skipped, said in pool.map(lambda test: run(test, paths), tests):
-            counts.add(name, good, bad, said)
-            for line in re.findall(r"^\d+ rounds: .*", said, re.MULTILINE):
+        for name, done in pool.map(lambda test: run(test, paths), tests):
+            counts.add(name, done.passed, done.failed, done.said)
+            for line in re.findall(r"^\d+ rounds: .*", done.said, re.MULTILINE):
                 counts.say(line)
-            if skipped:
-                counts.skip(name, "the machine lacks what they need", skipped)
+            if done.skipped:
+                counts.skip(name, "the machine lacks what they need", done.skipped)
     return counts.end()
 
 
