@@ -170,8 +170,8 @@ class Server:
         self.log.close()
 
     def said(self):
-        self.log.seek(0)
-        return self.log.read().decode()
+        # The service writes at the file's place, so that stays where it is.
+        return os.pread(self.log.fileno(), os.fstat(self.log.fileno()).st_size, 0).decode()
 
     def stop(self, number):
         self.process.send_signal(number)

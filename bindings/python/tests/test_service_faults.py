@@ -74,8 +74,8 @@ class Readers(Faults):
         silent = [self.opened(server, large * 30, room=4096) for _ in range(4)]
         time.sleep(1)
         self.others(server)
-        for _ in range(100):
-            if "doesn't read" in server.said():
+        for _ in range(200):
+            if server.said().count("doesn't read") >= 4:
                 break
             time.sleep(0.1)
         time.sleep(1.5)

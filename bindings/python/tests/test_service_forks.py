@@ -196,7 +196,7 @@ class Forks(Stored):
     def test_within_a_fork(self):
         """A signal handler may fork in the middle of a fork: no lock that a fork takes is in its way."""
         program = child(WITHIN, self.journal)
-        told = program.communicate(timeout=60)[0]
+        told = program.communicate(timeout=300)[0]
         self.assertEqual((program.returncode, told), (0, b"[0, 0] 2\n"))
 
     def test_readers(self):
@@ -225,7 +225,6 @@ class Forks(Stored):
 WITHIN = """
 import os, signal, sys
 
-signal.alarm(20)
 begun, inner = [], []
 
 def handle(*_):
@@ -246,6 +245,7 @@ from service_tools import FIELDS
 
 with Store(FIELDS, sys.argv[1]) as store:
     store.add({})
+    signal.alarm(20)
     outer = os.fork()
     if outer == 0:
         os._exit(0)
