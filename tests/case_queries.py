@@ -207,8 +207,8 @@ def write_cursors():
     s.case("Blocks between two hits stay closed", "walk", [2, {"at_most": 4}], query=must,
            steps=[{"count": 3}, "openings"])
     s.case("A cursor at its beginning is at the first hit", "walk", [0], query=must, steps=["doc"])
-    s.case("A stretch has 128 documents, and the next goes on behind it", "walk", [list(range(128)), 128],
-           query="title:common", steps=["fill", "doc"])
+    s.case("128 documents are taken, and the next goes on behind them", "walk", [list(range(128)), 128],
+           query="title:common", steps=["take", "doc"])
     s.case("129 titles are made, the 128th with a tag and the last rare", "make", 129,
            repeated=[{"times": 127, "of": [common]}, {"times": 1, "of": [{"title": "common", "tag": "d128"}]},
                      {"times": 1, "of": [rare]}])

@@ -126,7 +126,7 @@ def query(chance, depth):
 
 
 def write_walk(s, chance, sentence, asked, documents, live, targets=450):
-    """A walk that mixes steps, searches forward and back to documents below `targets`, and stretches."""
+    """A walk that mixes steps, searches forward and back to documents below `targets`, and takes of 128 documents."""
     text, match = asked
     found = [n for n in live if match(documents[n])]
     steps, gives, at = [], [], 0
@@ -135,7 +135,7 @@ def write_walk(s, chance, sentence, asked, documents, live, targets=450):
         gives.append(found[at] if at < len(found) else None)
         move = chance.below(8)
         if move == 0:
-            steps.append("fill")
+            steps.append("take")
             gives.append(found[at:at + 128])
             at += 128
         elif move < 3:

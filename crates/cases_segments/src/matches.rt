@@ -56,8 +56,13 @@ fn scanned(trial: &mut Trial, bench: &Bench, query: &Query) -> Vec<u32> {
     found
 }
 
-/// Puts the documents that a cursor goes over one by one into a list.
-fn push_steps(trial: &mut Trial, found: &mut Vec<u32>, cursor: &mut Cursor, most: usize) {
+/// Puts the documents that a cursor goes over one by one into a list, up to this many.
+pub(crate) fn push_steps(
+    trial: &mut Trial,
+    found: &mut Vec<u32>,
+    cursor: &mut Cursor,
+    most: usize,
+) {
     for _ in 0..most {
         match cursor.doc() {
             Some(doc) => trial.push(found, doc),
@@ -77,46 +82,49 @@ fn stepped(trial: &mut Trial, bench: &Bench, query: &Query) -> Vec<u32> {
     found
 }
 
-/// Puts the documents that a cursor goes over by stretches into a list.
-fn push_stretches(trial: &mut Trial, found: &mut Vec<u32>, cursor: &mut Cursor, most: usize) {
+/// Puts the documents that a cursor takes some at a time into a list.
+fn push_taken(trial: &mut Trial, found: &mut Vec<u32>, cursor: &mut Cursor, most: usize) {
     for _ in 0..most {
         let mut out = [0; 128];
-        let count = cursor.fill(&mut out);
+        let count = cursor.take(&mut out);
+        if count == 0 {
+            return;
+        }
         let pushed = found.extend_from_slice(out.get(..count).unwrap_or(&[]));
         trial.kept(pushed);
     }
 }
 
-/// The documents that a cursor's stretches find.
-fn stretched(trial: &mut Trial, bench: &Bench, query: &Query) -> Vec<u32> {
+/// The documents that a cursor takes some at a time.
+fn taken(trial: &mut Trial, bench: &Bench, query: &Query) -> Vec<u32> {
     let mut found = Vec::new(trial.alloc());
-    let most = bench.segment.docs() / 128 + 1;
+    let most = bench.segment.docs().saturating_add(1);
     if let Some(mut cursor) = cursor(trial, bench, query) {
-        push_stretches(trial, &mut found, &mut cursor, most);
+        push_taken(trial, &mut found, &mut cursor, most);
     }
     found
 }
 
 /// Gives documents that should be the same, and aren't.
-fn give_three(trial: &mut Trial, scan: &[u32], steps: &[u32], stretches: &[u32]) {
+fn give_three(trial: &mut Trial, scan: &[u32], steps: &[u32], takes: &[u32]) {
     trial.open_object();
     trial.name("scan");
     trial.give_documents(scan);
     trial.name("steps");
     trial.give_documents(steps);
-    trial.name("stretches");
-    trial.give_documents(stretches);
+    trial.name("takes");
+    trial.give_documents(takes);
     trial.close_object();
 }
 
 /// Gives the documents that a query finds, or, if `counts` says so, how many they are. If a scan, a cursor's steps and
-/// its stretches find different ones, gives all three lists.
+/// what it takes some at a time find different ones, gives all three lists.
 fn give_found(trial: &mut Trial, bench: &Bench, query: &Query, counts: bool) {
     let scan = scanned(trial, bench, query);
     let steps = stepped(trial, bench, query);
-    let stretches = stretched(trial, bench, query);
-    if scan != steps || scan != stretches {
-        give_three(trial, &scan, &steps, &stretches);
+    let takes = taken(trial, bench, query);
+    if scan != steps || scan != takes {
+        give_three(trial, &scan, &steps, &takes);
     } else if counts {
         trial.give_number(scan.len() as u64);
     } else {

@@ -1,6 +1,6 @@
 // Cases of walks of a cursor over the first segment that was made: `walk`.
 use crate::bench::Bench;
-use crate::matches::cursor_over;
+use crate::matches::{cursor_over, push_steps};
 use crate::texts::text_of;
 use fts_cursor::{Cursor, DocSet};
 use serde_json::Value;
@@ -18,11 +18,20 @@ fn counted(cursor: &mut Cursor, most: u64) -> u64 {
     count
 }
 
-/// Gives the documents of a cursor's next stretch.
-fn fill(trial: &mut Trial, cursor: &mut Cursor) {
+/// Gives the next 128 documents of a cursor, or all if fewer remain: those that it takes at once, which may be any
+/// number of them but none, and then the others by steps.
+fn take(trial: &mut Trial, cursor: &mut Cursor) {
+    let remains = cursor.doc().is_some();
     let mut out = [0; 128];
-    let count = cursor.fill(&mut out);
-    trial.give_documents(out.get(..count).unwrap_or(&[]));
+    let count = cursor.take(&mut out);
+    if remains && count == 0 {
+        trial.fail(Trouble::Impossible("a cursor takes nothing of what remains"));
+    }
+    let mut found = Vec::new(trial.alloc());
+    let kept = found.extend_from_slice(out.get(..count).unwrap_or(&[]));
+    trial.kept(kept);
+    push_steps(trial, &mut found, cursor, 128usize.saturating_sub(count));
+    trial.give_documents(&found);
 }
 
 /// Gives what a step of one word gives, if it gives something.
@@ -31,7 +40,7 @@ fn step(trial: &mut Trial, cursor: &mut Cursor, word: &str) {
         "advance" => cursor.advance(),
         "doc" => trial.give_some_number(cursor.doc().map(u64::from)),
         "openings" => trial.give_number(cursor.openings()),
-        "fill" => fill(trial, cursor),
+        "take" => take(trial, cursor),
         _ => trial.fail(Trouble::UnknownWord),
     }
 }

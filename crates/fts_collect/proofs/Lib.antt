@@ -1,7 +1,6 @@
 pub mod SeenLemmas
 pub mod LiveLemmas
 pub mod OpeningsLemmas
-pub mod PickedLemmas
 pub mod WalkLemmas
 pub mod BetweenLemmas
 pub mod WalkedLemmas

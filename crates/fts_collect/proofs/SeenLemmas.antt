@@ -1,15 +1,21 @@
 -- How the hits of a cursor are seen, some at a time.
-use Rattle.std.proofs.Common.{◌≡◌, ℕ, zero, suc, List, [], ◌∷◌, ◌++◌, take, drop}
+use Rattle.std.proofs.Common.{◌≡◌, ℕ, zero, suc, ◌<◌, List, [], ◌∷◌, ◌++◌, take, drop, arith}
 use Rattle.std.proofs.Common.{refl, sym, ap, subst, ◌∙◌, append_assoc}
 use Rattle.std.proofs.Common.{All}
 use Rattle.std.proofs.lemmas.List.{take-append-drop}
 use Rattle.std.proofs.lemmas.List.Elements.{All-tail}
 use Rattle.itertools.proofs.KMergeLemmas.{All-front}
 use Rattle.fts_model.specs.declared.query.Request.{Request}
+use Rattle.fts_postings.specs.Takes.{Takes}
 use Rattle.fts_segment.specs.Segments.{SegmentValue}
 use Rattle.fts_parts.specs.declared.seen.Seen.{Seen}
 use Rattle.fts_parts.specs.Collected.{HasSeen}
 use Rattle.fts_collect.specs.Internals.Taken.{IsUnderWay}
+
+-- where nothing was taken, nothing was left
+pub none_taken : (left next written : List ℕ) (n : ℕ) → Takes left next written n → n ≡ 0 → left ≡ []
+none_taken [] next written n taken none = refl
+none_taken (x ∷ xs) next written n taken none = absurd (let some : 0 < n = taken.some (omega arith) in omega (arith, some, none))
 
 -- where none of the first hits is at hand, there are no hits
 no_first : (n : ℕ) (xs : List ℕ) → (n ≡ 0 → xs ≡ []) → take n xs ≡ [] → drop n xs ≡ []

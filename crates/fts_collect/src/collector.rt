@@ -1,11 +1,11 @@
 // The answer over the live hits of one segment.
 ghost use Rattle.std.specs.Prelude.{◌≡◌, ◌<◌, ◌≤◌, ◌^◌, List, [], true, All, IfOk, IfSome, OnOk, IsOkUnless};
-ghost use Rattle.std.specs.Prelude.{MatchOption, Some, count_by, length, min, ◌-◌};
+ghost use Rattle.std.specs.Prelude.{MatchOption, Some, length, min, ◌-◌};
 ghost use Rattle.fts_cursor.specs.Hits.{live_hits};
 ghost use Rattle.fts_cursor.specs.Standing.{Walked};
 ghost use Rattle.fts_model.specs.declared.operation.Term.{Term};
 ghost use Rattle.fts_model.specs.Queries.{query_fits, request_fits};
-ghost use Rattle.fts_model.specs.QueryValues.{boolean, every, no_queries, queries, query_value};
+ghost use Rattle.fts_model.specs.QueryValues.{query_value};
 ghost use Rattle.fts_model.specs.Answers.{answer, answer_of, groups, top};
 ghost use Rattle.fts_segment.specs.Contents.{content_of};
 ghost use Rattle.fts_postings.specs.Bounds.{most_at};
@@ -14,11 +14,9 @@ ghost use Rattle.fts_cursor.specs.Openings.{HasMusts};
 ghost use Rattle.fts_collect.specs.Openings.{AreWalked, OpensIn};
 ghost use Rattle.fts_parts.specs.Collected.{AreHits, HasRanked, HasSeen, HasValues};
 ghost use Rattle.fts_parts.specs.Collected.{hits_at};
-ghost use Rattle.fts_collect.specs.Internals.Taken.{MatchesAll};
 
-use crate::live_cursor::LiveCursor;
 use crate::walk::offer_best;
-use fts_cursor::{HitTest, cursor_of, hit_test};
+use fts_cursor::{Cursor, DocSet, HitTest, cursor_of, hit_test};
 use fts_model::{Query, Refusal, Request, Top};
 use fts_pack::bits::Bits;
 use fts_parts::{Part, Seen, TopK, nothing_seen, see, told};
@@ -27,7 +25,7 @@ use std::alloc::{AllocError, Global};
 
 /// The number of hits that remain of a cursor, or the greatest `usize`, if nothing else is asked for and the cursor can
 /// count them; it passes them then.
-fn count_alone(request: &Request, cursor: &mut LiveCursor<'_>) -> Option<usize>
+fn count_alone(request: &Request, cursor: &mut Cursor<'_>) -> Option<usize>
     ensures alone { IfSome result (λ _. (request.now.groups ≡ None) × (request.now.top ≡ None)) }
     ensures counted { MatchOption result (cursor.new ≡ cursor.old)
         (λ count. (count ≡ min (2 ^ 64 - 1) (length cursor.old.remaining)) × (cursor.new.remaining ≡ [])) }
@@ -45,7 +43,7 @@ fn count_alone(request: &Request, cursor: &mut LiveCursor<'_>) -> Option<usize>
 fn see_all(
     segment: &Segment,
     request: &Request,
-    cursor: &mut LiveCursor<'_>,
+    cursor: &mut Cursor<'_>,
     seen: &mut Seen,
 ) -> Result<(), AllocError>
     requires fits { request_fits segment.now.schema request.now ≡ true }
@@ -74,7 +72,7 @@ fn see_beside(
     request: &Request,
     top: Top,
     top_k: TopK,
-    cursor: &mut LiveCursor<'_>,
+    cursor: &mut Cursor<'_>,
     seen: &mut Seen,
 ) -> Result<(), AllocError>
     requires fits { request_fits segment.now.schema request.now ≡ true }
@@ -104,7 +102,7 @@ fn see_told(
     count: usize,
     request: &Request,
     top: Top,
-    cursor: &mut LiveCursor<'_>,
+    cursor: &mut Cursor<'_>,
     seen: &mut Seen,
 ) -> Result<(), AllocError>
     requires fits { request_fits segment.now.schema request.now ≡ true }
@@ -124,51 +122,6 @@ fn see_told(
     see_all(segment, request, cursor, seen)
 }
 
-/// Whether a query is the one that each document matches.
-fn is_every(query: &Query) -> bool
-    ensures { result ≡ true → query_value query.now ≡ every }
-{
-    match query {
-        Query::All => true,
-        Query::None
-        | Query::Term(_)
-        | Query::Phrase { .. }
-        | Query::Range { .. }
-        | Query::Bool { .. } => false,
-    }
-}
-
-/// The should of which a query consists, if it is Boolean and has nothing else.
-fn only_should(query: &Query) -> Option<&Query>
-    ensures { IfSome result (λ only. query_value query.now
-        ≡ boolean no_queries no_queries (queries (query_value only.now) no_queries)) }
-{
-    let Query::Bool {
-        must,
-        must_not,
-        should,
-    } = query
-    else {
-        return None;
-    };
-    match should.as_slice() {
-        [only] if must.is_empty() && must_not.is_empty() => Some(only),
-        _ => None,
-    }
-}
-
-/// How many live hits a query has, if that is known without looking for them, because each document matches it.
-fn count_known(live: &Bits, query: &Query) -> Option<usize>
-    ensures { IfSome result (λ count. MatchesAll (query_value query.now)
-        × (count ≡ count_by (λ bit. bit) live.now)) }
-{
-    if is_every(only_should(query).unwrap_or(query)) {
-        Some(live.count_ones())
-    } else {
-        None
-    }
-}
-
 /// Takes all hits that remain of the cursor of a query.
 fn see_hits(
     alloc: Global,
@@ -176,7 +129,7 @@ fn see_hits(
     live: &Bits,
     query: &Query,
     request: &Request,
-    cursor: &mut LiveCursor<'_>,
+    cursor: &mut Cursor<'_>,
     seen: &mut Seen,
 ) -> Result<(), AllocError>
     requires fits { request_fits segment.now.schema request.now ≡ true }
@@ -195,10 +148,7 @@ fn see_hits(
     let Some(hits) = hit_test(alloc, segment, live, query)? else {
         return see_all(segment, request, cursor, seen);
     };
-    let count = match count_known(live, query) {
-        None => hits.estimate(),
-        Some(count) => count,
-    };
+    let count = hits.estimate();
     see_told(alloc, segment, &hits, count, request, top, cursor, seen)
 }
 
@@ -209,7 +159,7 @@ fn part_of(
     live: &Bits,
     query: &Query,
     request: &Request,
-    cursor: &mut LiveCursor<'_>,
+    cursor: &mut Cursor<'_>,
 ) -> Result<Part, AllocError>
     requires fits { request_fits segment.now.schema request.now ≡ true }
     requires documents { HasValues segment.now }
@@ -252,7 +202,7 @@ fn collected(
     live: &Bits,
     query: &Query,
     request: &Request,
-    cursor: LiveCursor<'_>,
+    cursor: Cursor<'_>,
 ) -> Result<Part, AllocError>
     requires bits { length live.now ≡ length segment.now.documents }
     requires query { query_fits segment.now.schema (query_value query.now) ≡ true }
@@ -270,34 +220,6 @@ fn collected(
     let mut cursor = cursor;
     let part = part_of(alloc, segment, live, query, request, &mut cursor)?;
     Ok(part)
-}
-
-/// A term is frequent if at least one document in this many has it.
-const DOCS_PER_HIT: usize = 64;
-
-/// Whether a query is one term, which many documents have. A word in the field that is searched by default is the only
-/// should of a query that is itself the only one.
-fn is_frequent_term(segment: &Segment, query: &Query) -> bool {
-    let clause = only_should(query).unwrap_or(query);
-    let Query::Term(term) = only_should(clause).unwrap_or(clause) else {
-        return false;
-    };
-    match segment.find(term) {
-        None => false,
-        Some(list) => segment.postings(list).len() >= segment.docs() / DOCS_PER_HIT,
-    }
-}
-
-/// Whether live hits are picked as they are taken, from a cursor of all hits. A cursor of the live ones alone would
-/// step on until it has 128, once for each dead document that it leaves out.
-fn picks(segment: &Segment, live: &Bits, query: &Query, request: &Request) -> bool {
-    if live.is_all_set() {
-        return false;
-    }
-    match request.groups {
-        None => count_known(live, query).is_some(),
-        Some(_) => is_frequent_term(segment, query),
-    }
 }
 
 /// The answer to the query and the request over a segment's live documents, in their order, and the openings of a
@@ -324,16 +246,7 @@ pub fn collect(
     ensures walked { IfOk result (λ part. AreWalked segment.now (query_value query.now) part.openings) }
     ensures memory { IsOkUnless result Refusal.Memory }
 {
-    // Documents are numbered in 32 bits.
-    let _documents = segment.docs();
-    if picks(segment, live, query, request) {
-        let every = Bits::all_set(alloc, live.len())?;
-        let cursor = cursor_of(alloc, segment, &every, query)?;
-        let cursor = LiveCursor::picked(cursor, live, count_known(live, query));
-        let part = collected(alloc, segment, live, query, request, cursor)?;
-        return Ok(part);
-    }
-    let cursor = LiveCursor::all(cursor_of(alloc, segment, live, query)?);
+    let cursor = cursor_of(alloc, segment, live, query)?;
     let part = collected(alloc, segment, live, query, request, cursor)?;
     Ok(part)
 }

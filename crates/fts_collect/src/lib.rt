@@ -7,7 +7,6 @@
 #![tactic(auto)]
 
 mod collector;
-mod live_cursor;
 mod searches;
 mod walk;
 

@@ -9,11 +9,11 @@ use Rattle.std.proofs.lemmas.List.{drop-drop, drop-take, length-append, length-d
 use Rattle.std.proofs.lemmas.List.{take-take}
 use Rattle.std.proofs.lemmas.List.Elements.{filter-append}
 use Rattle.std.proofs.lemmas.List.Folds.{list_all-append, list_all_more}
-use Rattle.fts_postings.specs.Fills.{IsStretch}
+use Rattle.fts_postings.specs.Takes.{IsStretch}
 use Rattle.fts_postings.specs.Bounds.{Bound}
 use Rattle.fts_postings.specs.Conjoined.{AllFollow, Conjoined}
 use Rattle.fts_postings.proofs.CostLemmas.{length-filter-le}
-use Rattle.fts_postings.proofs.FillLemmas.{Taken}
+use Rattle.fts_postings.proofs.TakesLemmas.{Taken}
 use Rattle.fts_cursor.specs.Dense.{in_each}
 use Rattle.fts_cursor.specs.Hits.{is_live}
 use Rattle.fts_cursor.specs.Filters.{filtered}

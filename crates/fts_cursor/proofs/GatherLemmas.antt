@@ -11,7 +11,7 @@ use Rattle.std.proofs.lemmas.List.Kept.{IsStrictlyIncreasing-filter}
 use Rattle.std.proofs.lemmas.Option.{slice_get_within}
 use Rattle.std.proofs.Math.Bool.{and-false, or-false, or_assoc}
 use Rattle.fts_pack.specs.Documents.{Rises}
-use Rattle.fts_postings.specs.Fills.{IsStretch}
+use Rattle.fts_postings.specs.Takes.{Takes}
 use Rattle.fts_postings.specs.Remaining.{at_least}
 use Rattle.fts_postings.specs.Windows.{is_found, passing}
 use Rattle.fts_postings.specs.Sets.{IsLeast, has, in_some, union, with_all, with_one}
@@ -455,19 +455,22 @@ gathered_passing p doc next w lists later count is h counted left =
       ),
     )
 
+some_first : (xs ys : List ℕ) → slice_get xs 0 ≡ slice_get ys 0 → 0 < length xs → 0 < length ys
+some_first [] ys is some = absurd (omega (arith, some))
+some_first (x ∷ xs) ys is some = slice_get_within ys 0 x (sym is)
+
 -- what is taken of the window is taken of all
-pub gathered_stretch : (doc : ℕ) (old new : Window) (lists : List (List ℕ)) (out written : List ℕ) (filled count : ℕ) → IsBuffered (Some doc) old lists →
-    new.last ≡ old.last → IsStretch (found old) (found new) out written filled count →
-    IsStretch (union (found old ∷ lists)) (union (found new ∷ lists)) out written filled count
-gathered_stretch doc old new lists out written filled count h last s =
+pub gathered_takes : (doc : Option ℕ) (old new : Window) (lists : List (List ℕ)) (written : List ℕ) (count : ℕ) →
+    doc ≡ slice_get (union (found old ∷ lists)) 0 → IsBuffered doc old lists → new.last ≡ old.last → Takes (found old) (found new) written count →
+    Takes (union (found old ∷ lists)) (union (found new ∷ lists)) written count
+gathered_takes doc old new lists written count first h last s =
     let before = apart old lists h.beyond in
     let after = apart new lists (λ d within. h.beyond d (omega (arith, within, last))) in
-    let some : 0 < length (found old) = slice_get_within (found old) 0 doc (sym h.first) in
     record {
-      some = λ _. s.some some;
+      some = λ some. s.some (some_first (union (found old ∷ lists)) (found old) (sym first ∙ h.first) some);
+      few = s.few;
       within = omega (arith, ap length before, length-append (found old) (union lists), s.within);
-      room = s.room;
-      front = s.front ∙ ap (λ xs. take filled out ++ xs) (sym (ap (take count) before ∙ take-append-le count (found old) (union lists) s.within));
+      taken = s.taken ∙ sym (ap (take count) before ∙ take-append-le count (found old) (union lists) s.within);
       left_is = after ∙ ap (λ xs. xs ++ union lists) s.left_is ∙ sym (ap (drop count) before ∙ drop-append-le count (found old) (union lists) s.within);
     }
 

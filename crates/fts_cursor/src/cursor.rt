@@ -1,12 +1,14 @@
 // The cursor of a query: of the documents that match, those that are live remain.
 ghost use Rattle.std.specs.Prelude.{◌≡◌, ◌-◌, ◌^◌, ◌≤◌, true, [], IfOk, MatchOption, drop, filter, length, min};
-ghost use Rattle.std.specs.Prelude.{slice_get, take};
+ghost use Rattle.std.specs.Prelude.{slice_get};
 ghost use Rattle.fts_cursor.specs.Hits.{is_live};
 ghost use Rattle.fts_postings.specs.Bounds.{most_at};
 ghost use Rattle.fts_postings.specs.Sets.{FirstPasses};
 ghost use Rattle.fts_postings.specs.Remaining.{at_least};
+ghost use Rattle.fts_postings.specs.Takes.{Takes};
 ghost use Rattle.fts_cursor.specs.Standing.{Continues, OpensAlong, OpensOnce, Walked};
 
+use crate::filter::keep_set;
 use crate::tree::Tree;
 use fts_pack::bits::Bits;
 use fts_postings::DocSet;
@@ -122,58 +124,29 @@ impl<'a> DocSet for Cursor<'a> {
         }
     }
 
-    fn fill(&mut self, out: &mut [u32; 128]) -> usize
-        ensures count { result ≡ min 128 (length self.old.remaining) }
-        ensures taken { take result out.new ≡ take 128 self.old.remaining }
-        ensures remaining { self.new.remaining ≡ drop 128 self.old.remaining }
+    fn take(&mut self, out: &mut [u32; 128]) -> usize
+        ensures taken { Takes self.old.remaining self.new.remaining out.new result }
         ensures walked { Walked self.old self.new }
     {
         match self.live {
-            None => self.tree.fill(out),
-            Some(live) => fill_live(&mut self.tree, live, out),
+            None => self.tree.take(out),
+            Some(live) => take_live(&mut self.tree, live, out),
         }
     }
 }
 
-/// Takes the next 128 documents of a tree that have their bit set; the tree is at one of them. It takes those among the
-/// tree's next 128, and steps to replace each of these that isn't live.
-fn fill_live(tree: &mut Tree, live: &Bits, out: &mut [u32; 128]) -> usize
+/// Takes some of the next documents of a tree, and picks those whose bit is set. The tree is at one of these, so at
+/// least one is picked if any remains.
+fn take_live(tree: &mut Tree, live: &Bits, out: &mut [u32; 128]) -> usize
     requires { FirstPasses (is_live live.now) tree.old.remaining }
-    ensures count { result ≡ min 128 (length (filter (is_live live.now) tree.old.remaining)) }
-    ensures taken { take result out.new ≡ take 128 (filter (is_live live.now) tree.old.remaining) }
-    ensures remaining { filter (is_live live.now) tree.new.remaining
-        ≡ drop 128 (filter (is_live live.now) tree.old.remaining) }
+    ensures taken { Takes (filter (is_live live.now) tree.old.remaining)
+        (filter (is_live live.now) tree.new.remaining) out.new result }
     ensures settled { FirstPasses (is_live live.now) tree.new.remaining }
     ensures walked { Walked tree.old.standing tree.new.standing }
 {
-    let taken = tree.fill(out);
-    let kept = keep_live(live, taken, out);
+    let taken = tree.take(out);
+    let kept = keep_set(live, 0, taken, out);
     settle(tree, live);
-    for filled in kept..128 {
-        match tree.doc() {
-            Some(doc) => out[filled] = doc,
-            None => return filled,
-        }
-        tree.advance();
-        settle(tree, live);
-    }
-    128
-}
-
-/// Moves the documents whose bit is set, among the first `count`, to the front, and returns how many they are. Each is
-/// written and its bit is added to the place of the next, so no branch depends on it.
-pub fn keep_live(live: &Bits, count: usize, docs: &mut [u32; 128]) -> usize
-    requires { count ≤ 128 }
-    ensures kept { take result docs.new ≡ filter (is_live live.now) (take count docs.old) }
-    ensures few { result ≤ count }
-    ensures size { result ≡ length (filter (is_live live.now) (take count docs.old)) }
-{
-    let mut kept = 0;
-    for index in 0..count {
-        let doc = docs[index];
-        docs[kept] = doc;
-        kept += usize::from(live.contains(doc as usize));
-    }
     kept
 }
 

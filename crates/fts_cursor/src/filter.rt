@@ -5,6 +5,7 @@ ghost use Rattle.fts_postings.specs.Bounds.{most_at};
 ghost use Rattle.fts_postings.specs.Conjoined.{AllFollow, bound_of, common_of, counts_of};
 ghost use Rattle.fts_postings.specs.Remaining.{at_least};
 ghost use Rattle.fts_postings.specs.Sets.{FirstPasses};
+ghost use Rattle.fts_postings.specs.Takes.{Takes};
 ghost use Rattle.fts_cursor.specs.Dense.{in_each};
 ghost use Rattle.fts_cursor.specs.Hits.{is_live};
 ghost use Rattle.fts_cursor.specs.Standing.{Continues, Walked};
@@ -116,33 +117,30 @@ impl<'a> DocSet for FilterCursor<'a> {
         settle(&mut self.terms, &self.bits);
     }
 
-    fn fill(&mut self, out: &mut [u32; 128]) -> usize
-        ensures count { result ≡ min 128 (length self.old.remaining) }
-        ensures taken { take result out.new ≡ take 128 self.old.remaining }
-        ensures remaining { self.new.remaining ≡ drop 128 self.old.remaining }
+    fn take(&mut self, out: &mut [u32; 128]) -> usize
+        ensures taken { Takes self.old.remaining self.new.remaining out.new result }
         ensures walked { Walked self.old self.new }
     {
-        let filled = fill_kept(&mut self.terms, &self.bits, out);
+        let taken = take_kept(&mut self.terms, &self.bits, out);
         settle(&mut self.terms, &self.bits);
-        filled
+        taken
     }
 }
 
-/// Takes the next 128 documents whose bits are set.
-fn fill_kept(terms: &mut Conjunction<ListSource>, bits: &[&Bits], out: &mut [u32; 128]) -> usize
-    ensures count { result ≡ min 128 (length (filter (in_each bits.now) (common_of terms.old))) }
-    ensures taken { take result out.new ≡ take 128 (filter (in_each bits.now) (common_of terms.old)) }
-    ensures remaining { filter (in_each bits.now) (common_of terms.new)
-        ≡ drop 128 (filter (in_each bits.now) (common_of terms.old)) }
+/// Takes the next documents whose bits are set, 128 if so many remain: few may be left of a block, and what comes after
+/// these is passed over faster here than by steps.
+fn take_kept(terms: &mut Conjunction<ListSource>, bits: &[&Bits], out: &mut [u32; 128]) -> usize
+    ensures taken { Takes (filter (in_each bits.now) (common_of terms.old))
+        (filter (in_each bits.now) (common_of terms.new)) out.new result }
     ensures follows { AllFollow terms.old terms.new }
 {
-    let mut filled = 0;
-    while filled < 128 {
-        let count = terms.take_stretch(out, filled);
+    let mut taken = 0;
+    while taken < 128 {
+        let count = terms.take_stretch(out, taken);
         if count == 0 {
-            return filled;
+            return taken;
         }
-        filled = keep(bits, filled, count, out);
+        taken = keep(bits, taken, count, out);
     }
     128
 }
@@ -166,7 +164,7 @@ fn keep(bits: &[&Bits], from: usize, count: usize, docs: &mut [u32; 128]) -> usi
 /// Keeps those of the first `end` documents whose bit is set, as it is of the first `from`, and gives how many these
 /// are.
 #[inline]
-fn keep_set(bits: &Bits, from: usize, end: usize, docs: &mut [u32; 128]) -> usize
+pub(crate) fn keep_set(bits: &Bits, from: usize, end: usize, docs: &mut [u32; 128]) -> usize
     requires order { from ≤ end }
     requires room { end ≤ 128 }
     requires passed { filter (is_live bits.now) (take from docs.old) ≡ take from docs.old }

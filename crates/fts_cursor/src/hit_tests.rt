@@ -52,8 +52,11 @@ impl HitTest<'_> {
         self.live.contains(doc) && passes_each(&self.kept, doc) && !passes_one(&self.dropped, doc)
     }
 
-    /// About how many hits there are, by a sample of the documents.
+    /// How many hits there are, if each live document is one; otherwise about how many, by a sample of the documents.
     pub fn estimate(&self) -> usize {
+        if self.is_every() {
+            return self.live.count_ones();
+        }
         // An odd step, so that a sample doesn't follow what alternates.
         let step = self.live.len() / SAMPLE | 1;
         let mut found = 0usize;
@@ -62,6 +65,17 @@ impl HitTest<'_> {
             found = found.saturating_add(usize::from(hit));
         }
         found.saturating_mul(step)
+    }
+
+    /// Whether it has one test alone, which each document passes.
+    fn is_every(&self) -> bool {
+        match self.kept.as_slice() {
+            [tests] if self.dropped.is_empty() => match tests.first() {
+                Some(DocTest::First(_)) => true,
+                _ => false,
+            },
+            _ => false,
+        }
     }
 }
 

@@ -38,7 +38,7 @@ mod tree;
 mod walk;
 mod word_marks;
 
-pub use cursor::{Cursor, keep_live};
+pub use cursor::Cursor;
 pub use fts_postings::{Conjunction, DocSet, PostingCursor};
 pub use hit_tests::{HitTest, hit_test};
 pub use query_tree::cursor_of;

@@ -1,6 +1,6 @@
 // A cursor over the documents that have a phrase. Positions are read only in documents that have all of its terms.
 ghost use Rattle.std.specs.Prelude.{◌≡◌, ℕ, ◌+◌, ◌-◌, ◌^◌, ◌<◌, ◌≤◌, ◌==◌, Some, true, IfOk};
-ghost use Rattle.std.specs.Prelude.{◌∷◌, [], drop, filter, length, min, slice_get, slice_index_or, take};
+ghost use Rattle.std.specs.Prelude.{◌∷◌, [], drop, filter, length, min, slice_get, slice_index_or};
 ghost use Rattle.std.specs.List.{list_all, list_any};
 ghost use Rattle.fts_model.specs.Queries.{query_fits};
 ghost use Rattle.fts_model.specs.QueryValues.{phrase};
@@ -10,6 +10,7 @@ ghost use Rattle.fts_postings.specs.Conjoined.{AllFollow, bound_of, common_of};
 ghost use Rattle.fts_postings.specs.Sets.{FirstPasses};
 ghost use Rattle.fts_cursor.specs.Phrases.{AreMembersOf, is_behind, phrase_at};
 ghost use Rattle.fts_postings.specs.Remaining.{at_least};
+ghost use Rattle.fts_postings.specs.Takes.{Takes};
 ghost use Rattle.fts_cursor.specs.Standing.{Continues, Walked};
 ghost use Rattle.fts_cursor.specs.Terms.{AreTied};
 
@@ -116,17 +117,15 @@ impl<'a> DocSet for PhraseCursor<'a> {
         settle(&mut self.terms, &mut self.first, &mut self.others);
     }
 
-    fn fill(&mut self, out: &mut [u32; 128]) -> usize
-        ensures count { result ≡ min 128 (length self.old.remaining) }
-        ensures taken { take result out.new ≡ take 128 self.old.remaining }
-        ensures remaining { self.new.remaining ≡ drop 128 self.old.remaining }
+    fn take(&mut self, out: &mut [u32; 128]) -> usize
+        ensures taken { Takes self.old.remaining self.new.remaining out.new result }
         ensures walked { Walked self.old self.new }
     {
-        for filled in 0..128 {
+        for taken in 0..128 {
             let Some(doc) = self.doc() else {
-                return filled;
+                return taken;
             };
-            out[filled] = doc;
+            out[taken] = doc;
             self.advance();
         }
         128

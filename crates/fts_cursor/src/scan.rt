@@ -2,7 +2,7 @@
 ghost use Rattle.std.specs.Prelude.{◌≡◌, ◌%◌, ◌^◌, ◌+◌, ◌-◌, ◌<◌, ◌≤◌, IfErr, IfOk, IfSome, Some, [], true, false, filter};
 ghost use Rattle.std.specs.Prelude.{length, slice_get, slice_index};
 ghost use Rattle.std.specs.Prelude.{take};
-ghost use Rattle.fts_postings.specs.Fills.{IsStretch};
+ghost use Rattle.fts_postings.specs.Takes.{IsStretch};
 ghost use Rattle.fts_postings.specs.Remaining.{at_least};
 ghost use Rattle.fts_cursor.specs.Hits.{is_live};
 ghost use Rattle.fts_cursor.specs.Dense.{HoldsRow};
@@ -156,10 +156,11 @@ impl<'a> ScanCursor<'a> {
         ensures uncut { IfOk result (λ did. did ≡ false → self.new ≡ self.old) }
         ensures failed { IfErr result (λ _. self.new ≡ self.old) }
     {
+        let total = self.count_set(live);
         if self.at > 0 || !rows::cut(&mut self.kept, alloc, self.docs, live)? {
             return Ok(false);
         }
-        self.total = None;
+        self.total = total;
         self.row.clear();
         let (from, len) = find(
             &self.kept,
@@ -172,6 +173,19 @@ impl<'a> ScanCursor<'a> {
         self.from = from;
         self.len = len;
         Ok(true)
+    }
+
+    /// How many of the documents that remain have their bit set, if it is known since each document remains.
+    fn count_set(&self, live: &Bits) -> Option<usize>
+        ensures { IfSome result (λ n. n ≡ length (filter (is_live live.now) self.now)) }
+    {
+        let Kept::Every = self.kept else {
+            return None;
+        };
+        if self.from > 0 || self.at > 0 || live.len() != self.docs {
+            return None;
+        }
+        Some(live.count_ones())
     }
 
     /// How many documents remain.
@@ -262,15 +276,15 @@ impl DocSet for ScanCursor<'_> {
         self.at = place_of(&self.numbers, self.at, self.len, target);
     }
 
-    /// Copies what it takes of each stretch.
-    fn fill(&mut self, out: &mut [u32; 128]) -> usize {
-        let mut filled = 0;
-        while filled < 128 {
-            let count = self.take_stretch(out, filled);
+    /// Copies what fits of each stretch: few may pass of one.
+    fn take(&mut self, out: &mut [u32; 128]) -> usize {
+        let mut taken = 0;
+        while taken < 128 {
+            let count = self.take_stretch(out, taken);
             if count == 0 {
-                return filled;
+                return taken;
             }
-            filled += count;
+            taken += count;
         }
         128
     }

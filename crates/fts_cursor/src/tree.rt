@@ -1,12 +1,13 @@
 // Cursors of queries within one another. Each knows the first document that remains of it.
 ghost use Rattle.std.specs.Prelude.{◌≡◌, ℕ, ◌+◌, ◌-◌, ◌^◌, ◌<◌, ◌≤◌, All, IfOk, [], MatchOption, true, false, drop};
 ghost use Rattle.std.specs.Prelude.{Some, filter, length};
-ghost use Rattle.std.specs.Prelude.{min, slice_get, take};
+ghost use Rattle.std.specs.Prelude.{min, slice_get};
 ghost use Rattle.std.specs.List.Sorted.{IsStrictlyIncreasing};
 ghost use Rattle.fts_postings.specs.Bounds.{most_at};
 ghost use Rattle.fts_postings.specs.Conjoined.{bound_of, common_of, counts_of};
 ghost use Rattle.fts_postings.specs.Sets.{common, has, union, without};
 ghost use Rattle.fts_postings.specs.Remaining.{at_least};
+ghost use Rattle.fts_postings.specs.Takes.{Takes};
 ghost use Rattle.fts_cursor.specs.Hits.{is_live};
 ghost use Rattle.fts_cursor.specs.Standing.{OpensAlong, Walked, at_most};
 ghost use Rattle.fts_cursor.specs.TreeValues.{LeavesList, OpensOne, TreeContinues, all_most, all_openings, remains};
@@ -23,7 +24,7 @@ use crate::filter::FilterCursor;
 use crate::list_union::ListedCursor;
 use crate::phrase::PhraseCursor;
 use crate::scan::ScanCursor;
-use buffered_union::{BufferedUnion, count_gathered, fill_gathered, gather, refill};
+use buffered_union::{BufferedUnion, count_gathered, gather, refill, take_gathered};
 use exclusion::{Exclusion, settle};
 use fts_pack::bits::Bits;
 use fts_pack::{ListRef, ListSource};
@@ -372,18 +373,16 @@ impl<'a> Tree<'a> {
         Some(count)
     }
 
-    /// Takes the next 128 documents, or all if fewer remain: writes them to the front of `out`, and returns how many
-    /// they are.
-    pub(crate) fn fill(&mut self, out: &mut [u32; 128]) -> usize
-        ensures count { result ≡ min 128 (length self.old.remaining) }
-        ensures taken { take result out.new ≡ take 128 self.old.remaining }
-        ensures remaining { self.new.remaining ≡ drop 128 self.old.remaining }
+    /// Takes some of the next documents, 1 to 128 if any remains: writes them to the front of `out`, and returns how
+    /// many they are.
+    pub(crate) fn take(&mut self, out: &mut [u32; 128]) -> usize
+        ensures taken { Takes self.old.remaining self.new.remaining out.new result }
         ensures walked { Walked self.old.standing self.new.standing }
     {
         let Source::Cursor(node) = &mut self.source else {
             return 0;
         };
-        let (count, doc) = fill(&mut **node, self.doc, out);
+        let (count, doc) = take_from(&mut **node, self.doc, out);
         self.doc = doc;
         count
     }
@@ -507,58 +506,56 @@ fn skip(node: &mut Node, target: u32) -> Option<u32>
     }
 }
 
-/// Takes the next 128 documents of a node that is at `doc`. Returns how many they are, and the next document.
-fn fill(node: &mut Node, doc: Option<u32>, out: &mut [u32; 128]) -> (usize, Option<u32>)
+/// Takes some of the next documents of a node that is at `doc`. Returns how many they are, and the next document.
+fn take_from(node: &mut Node, doc: Option<u32>, out: &mut [u32; 128]) -> (usize, Option<u32>)
     requires { StandsAt doc node.old }
-    ensures count { result.0 ≡ min 128 (length (tree_value node.old).remaining) }
-    ensures taken { take result.0 out.new ≡ take 128 (tree_value node.old).remaining }
-    ensures now { IsNow result.1 node.new (drop 128 (tree_value node.old).remaining) }
+    ensures taken { Takes (tree_value node.old).remaining (tree_value node.new).remaining out.new result.0 }
+    ensures stands { StandsAt result.1 node.new }
     ensures walked { Walked (tree_value node.old).standing (tree_value node.new).standing }
 {
     match node {
         Node::Scan(scan, _) => {
-            let count = scan.fill(out);
+            let count = scan.take(out);
             (count, scan.doc())
         }
         Node::Listed(listed, _) => {
-            let count = listed.fill(out);
+            let count = listed.take(out);
             (count, listed.doc())
         }
         Node::Postings(postings) => {
-            let count = postings.fill(out);
+            let count = postings.take(out);
             (count, postings.doc())
         }
         Node::Terms(terms) => {
-            let count = terms.fill(out);
+            let count = terms.take(out);
             (count, terms.doc())
         }
         Node::Filter(filter) => {
-            let count = filter.fill(out);
+            let count = filter.take(out);
             (count, filter.doc())
         }
         Node::Phrase(phrase) => {
-            let count = phrase.fill(out);
+            let count = phrase.take(out);
             (count, phrase.doc())
         }
-        Node::Or(buffered) => fill_gathered(buffered, doc, out),
-        Node::And(_) | Node::Without(_) => fill_by_steps(node, doc, out),
+        Node::Or(buffered) => take_gathered(buffered, out),
+        Node::And(_) | Node::Without(_) => take_by_steps(node, doc, out),
     }
 }
 
-/// As `fill`, a document at a time.
-fn fill_by_steps(node: &mut Node, doc: Option<u32>, out: &mut [u32; 128]) -> (usize, Option<u32>)
+/// As `take_from`, a document at a time.
+fn take_by_steps(node: &mut Node, doc: Option<u32>, out: &mut [u32; 128]) -> (usize, Option<u32>)
     requires { StandsAt doc node.old }
-    ensures count { result.0 ≡ min 128 (length (tree_value node.old).remaining) }
-    ensures taken { take result.0 out.new ≡ take 128 (tree_value node.old).remaining }
-    ensures now { IsNow result.1 node.new (drop 128 (tree_value node.old).remaining) }
+    ensures taken { Takes (tree_value node.old).remaining (tree_value node.new).remaining out.new result.0 }
+    ensures stands { StandsAt result.1 node.new }
     ensures walked { Walked (tree_value node.old).standing (tree_value node.new).standing }
 {
     let mut next = doc;
-    for filled in 0..128 {
+    for taken in 0..128 {
         let Some(first) = next else {
-            return (filled, None);
+            return (taken, None);
         };
-        out[filled] = first;
+        out[taken] = first;
         next = step(node);
     }
     (128, next)

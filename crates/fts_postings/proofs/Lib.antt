@@ -1,5 +1,5 @@
 pub mod RemainingLemmas
-pub mod FillLemmas
+pub mod TakesLemmas
 pub mod PostingLemmas
 pub mod SetLemmas
 pub mod PassingLemmas

@@ -10,7 +10,7 @@ use Rattle.std.proofs.lemmas.Nat.{and_le_r, ones_le_self, pow_pos}
 use Rattle.std.proofs.lemmas.Nat.Bits.{bit_at_above, bit_at_and, bit_at-lt, bit_at_lowest, bit_at_ones, bit_at-suc}
 use lib.Count.{ones_step}
 use Rattle.fts_pack.specs.Documents.{Rises}
-use Rattle.fts_postings.specs.Fills.{IsStretch}
+use Rattle.fts_postings.specs.Takes.{IsStretch}
 use Rattle.fts_postings.specs.Windows.{AreMarksFrom, found_in, is_found, is_marked, marked, passing}
 use Rattle.fts_postings.proofs.PassingLemmas.{Rises-passing, passing-append}
 use Rattle.fts_postings.proofs.WindowLemmas.{word_part}

@@ -1,5 +1,5 @@
 pub mod Remaining
-pub mod Fills
+pub mod Takes
 pub mod Posting
 pub mod Bounds
 pub mod Sets

@@ -1,6 +1,6 @@
 // A conjunction of posting cursors: one of them leads, and the others are sought for its documents alone.
 ghost use Rattle.std.specs.Prelude.{◌≡◌, ℕ, ◌-◌, ◌^◌, ◌<◌, ◌≤◌, All, List, drop, length, min, slice_get};
-ghost use Rattle.std.specs.Prelude.{slice_index_or, take};
+ghost use Rattle.std.specs.Prelude.{slice_index_or};
 ghost use Rattle.std.specs.List.{AllZip};
 ghost use Rattle.fts_postings.specs.Conjoined.{AllFollow, AreFew, Brought, IsAhead, MayBeBrought, StandAt};
 ghost use Rattle.fts_postings.specs.Conjoined.{StandTogether, bound_of, common_of, each_remaining, openings_of};
@@ -9,7 +9,7 @@ ghost use Rattle.fts_postings.specs.Sets.{common};
 ghost use Rattle.fts_pack.specs.Documents.{blocks_of};
 ghost use Rattle.fts_postings.specs.Posting.{Follows, Posting, remaining_of};
 ghost use Rattle.fts_postings.specs.Remaining.{at_least};
-ghost use Rattle.fts_postings.specs.Fills.{IsStretch};
+ghost use Rattle.fts_postings.specs.Takes.{IsStretch, Takes};
 
 use crate::doc_set::DocSet;
 use crate::posting::PostingCursor;
@@ -139,19 +139,18 @@ impl<B: Blocks + Drop> DocSet for Conjunction<B> {
         }
     }
 
-    fn fill(&mut self, out: &mut [u32; 128]) -> usize
-        ensures count { result ≡ min 128 (length (common_of self.old)) }
-        ensures taken { take result out.new ≡ take 128 (common_of self.old) }
-        ensures remaining { common_of self.new ≡ drop 128 (common_of self.old) }
+    /// Takes what lies open of a list alone, or goes by steps.
+    fn take(&mut self, out: &mut [u32; 128]) -> usize
+        ensures taken { Takes (common_of self.old) (common_of self.new) out.new result }
         ensures follows { AllFollow self.old self.new }
     {
-        for filled in 0..128 {
-            match self.doc() {
-                Some(doc) => out[filled] = doc,
-                None => return filled,
+        let mut taken = 0;
+        while taken < 128 {
+            let count = self.take_stretch(out, taken);
+            if count == 0 {
+                return taken;
             }
-            // To the next that all have.
-            self.advance();
+            taken += count;
         }
         128
     }

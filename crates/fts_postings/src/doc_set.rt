@@ -1,7 +1,8 @@
 // What every cursor does: it comes before the first of the documents that remain.
-ghost use Rattle.std.specs.Prelude.{◌≡◌, ℕ, List, drop, length, min, slice_get, take};
+ghost use Rattle.std.specs.Prelude.{◌≡◌, ℕ, List, drop, slice_get};
 ghost use Rattle.std.specs.List.Sorted.{IsStrictlyIncreasing};
 ghost use Rattle.fts_postings.specs.Remaining.{at_least};
+ghost use Rattle.fts_postings.specs.Takes.{Takes};
 
 /// A strictly rising list of documents, from its first on. No call takes memory or can fail.
 pub trait DocSet {
@@ -21,17 +22,15 @@ pub trait DocSet {
     fn seek(&mut self, target: u32)
         ensures remaining { remaining self.new ≡ at_least target (remaining self.old) };
 
-    /// Takes the next 128 documents, or all if fewer remain: writes them to the front of `out`, and returns how many
-    /// they are. What is after them may be anything.
-    fn fill(&mut self, out: &mut [u32; 128]) -> usize
-        ensures count { result ≡ min 128 (length (remaining self.old)) }
-        ensures taken { take result out.new ≡ take 128 (remaining self.old) }
-        ensures remaining { remaining self.new ≡ drop 128 (remaining self.old) }
+    /// Takes some of the next documents, 1 to 128 if any remains: writes them to the front of `out`, and returns how
+    /// many they are. What is after them may be anything.
+    fn take(&mut self, out: &mut [u32; 128]) -> usize
+        ensures taken { Takes (remaining self.old) (remaining self.new) out.new result }
     {
-        for filled in 0..128 {
+        for taken in 0..128 {
             match self.doc() {
-                Some(doc) => out[filled] = doc,
-                None => return filled,
+                Some(doc) => out[taken] = doc,
+                None => return taken,
             }
             self.advance();
         }

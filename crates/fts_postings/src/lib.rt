@@ -2,7 +2,7 @@
 //!
 //! A [`DocSet`] is what every cursor is: it is at a document ([`DocSet::doc`]), steps to the next
 //! ([`DocSet::advance`]), goes to the first from a number on ([`DocSet::seek`]), or writes up to 128 at once
-//! ([`DocSet::fill`]). Contracts see it as the list of documents that remain. Its steps take no memory and don't fail.
+//! ([`DocSet::take`]). Contracts see it as the list of documents that remain. Its steps take no memory and don't fail.
 //!
 //! A [`PostingCursor`] goes over any list in blocks: it opens a block when it enters it, and passes over blocks it
 //! needn't read. A [`Conjunction`] lets one such cursor lead and seeks its documents alone in the others. Both count

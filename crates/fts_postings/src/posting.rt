@@ -3,7 +3,7 @@ ghost use Rattle.std.specs.Prelude.{◌≡◌, ℕ, ◌+◌, ◌-◌, ◌^◌, �
 ghost use Rattle.std.specs.Prelude.{◌||◌, All, if◌then◌else◌, nat_lt, slice_index};
 ghost use Rattle.std.specs.List.Sorted.{IsStrictlyIncreasing};
 ghost use Rattle.fts_pack.specs.Documents.{blocks_of, last_of};
-ghost use Rattle.fts_postings.specs.Fills.{IsStretch};
+ghost use Rattle.fts_postings.specs.Takes.{IsStretch, Takes};
 ghost use Rattle.fts_postings.specs.Sets.{has};
 ghost use Rattle.fts_postings.specs.Posting.{Follows, Walks, blocks_reached, here, members_of, opened_by_step};
 ghost use Rattle.fts_postings.specs.Posting.{remaining_of};
@@ -237,22 +237,12 @@ impl<B: Blocks> DocSet for PostingCursor<B> {
         self.at = place_of(&self.numbers, self.at, self.len, target);
     }
 
-    /// Copies what it takes of each block that it reaches, and opens each of them.
-    fn fill(&mut self, out: &mut [u32; 128]) -> usize
-        ensures count { result ≡ min 128 (length (remaining_of self.old)) }
-        ensures taken { take result out.new ≡ take 128 (remaining_of self.old) }
-        ensures remaining { remaining_of self.new ≡ drop 128 (remaining_of self.old) }
+    /// Copies what is left of the open block.
+    fn take(&mut self, out: &mut [u32; 128]) -> usize
+        ensures taken { Takes (remaining_of self.old) (remaining_of self.new) out.new result }
         ensures walks { Walks self.old self.new }
     {
-        let mut filled = 0;
-        while filled < 128 {
-            let count = self.take_block(out, filled);
-            if count == 0 {
-                return filled;
-            }
-            filled += count;
-        }
-        128
+        self.take_block(out, 0)
     }
 }
 

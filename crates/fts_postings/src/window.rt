@@ -5,7 +5,7 @@ ghost use Rattle.std.specs.Int.{bit_at};
 ghost use Rattle.std.specs.List.Sorted.{IsStrictlyIncreasing};
 ghost use Rattle.fts_postings.specs.Sets.{has, with_one};
 ghost use Rattle.fts_postings.specs.Remaining.{at_least};
-ghost use Rattle.fts_postings.specs.Fills.{IsStretch};
+ghost use Rattle.fts_postings.specs.Takes.{IsStretch, Takes};
 ghost use Rattle.fts_postings.specs.Windows.{AreMarksFrom, found_in, is_found, is_set};
 
 use crate::marks;
@@ -196,26 +196,25 @@ impl Window {
         true
     }
 
-    /// Writes the first documents that are marked after the first `filled` of `out`, passes them, and returns how many
-    /// they are: as many as fit.
+    /// Takes the first documents that are marked, as many as fit: writes them to the front of `out`, and returns how
+    /// many they are.
     #[inline]
-    pub fn take_some(&mut self, out: &mut [u32; 128], filled: usize) -> usize
-        requires { filled < 128 }
+    pub fn take(&mut self, out: &mut [u32; 128]) -> usize
         ensures last { self.new.last ≡ self.old.last }
-        ensures taken { IsStretch
+        ensures taken { Takes
             (found_in self.old.base self.old.from self.old.last self.old.words)
             (found_in self.new.base self.new.from self.new.last self.new.words)
-            out.old out.new filled result }
+            out.new result }
     {
-        let mut end = filled;
-        while end < 128 {
-            let count = self.take_next(out, end);
+        let mut taken = 0;
+        while taken < 128 {
+            let count = self.take_next(out, taken);
             if count == 0 {
-                return end - filled;
+                return taken;
             }
-            end += count;
+            taken += count;
         }
-        128 - filled
+        128
     }
 
     /// Takes the marked documents of a whole word if all fit and the word ends no later than `last`, otherwise one

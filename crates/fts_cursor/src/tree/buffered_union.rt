@@ -1,10 +1,11 @@
 // What one of several cursors has: the next documents of all are marked in a window, which steps read off.
-ghost use Rattle.std.specs.Prelude.{◌≡◌, ◌+◌, ◌-◌, ◌^◌, [], All, drop, length, min, slice_get, take};
+ghost use Rattle.std.specs.Prelude.{◌≡◌, ℕ, ◌+◌, ◌-◌, ◌^◌, [], All, Option, length, min, slice_get};
 ghost use Rattle.std.specs.List.{AllZip};
 ghost use Rattle.std.specs.List.Sorted.{IsStrictlyIncreasing};
 ghost use Rattle.fts_postings.specs.Sets.{IsLeast, has, in_some, lesser_of, union};
 ghost use Rattle.fts_postings.specs.Posting.{Follows, remaining_of};
 ghost use Rattle.fts_postings.specs.Remaining.{at_least};
+ghost use Rattle.fts_postings.specs.Takes.{Takes};
 ghost use Rattle.fts_cursor.specs.TreeValues.{Left, TreeContinues, remains};
 ghost use Rattle.fts_cursor.specs.Standing.{Walked};
 ghost use Rattle.fts_cursor.specs.Trees.{AreBeyond, AreMarked, IsNow, StandsAt, found, gathered, tree_value};
@@ -37,30 +38,20 @@ pub(crate) fn gather(buffered: &mut BufferedUnion, target: u32) -> Option<u32>
     refill(buffered, target)
 }
 
-/// Takes the next 128 documents, of which `doc` is the first. Returns how many they are, and the next document.
-pub(crate) fn fill_gathered(
+/// Takes what fits of the window of a union. Returns how many documents these are, and the next one.
+pub(crate) fn take_gathered(
     buffered: &mut BufferedUnion,
-    doc: Option<u32>,
     out: &mut [u32; 128],
 ) -> (usize, Option<u32>)
-    requires { StandsAt doc (Node.Or buffered.old) }
-    ensures count { result.0 ≡ min 128 (length (gathered buffered.old)) }
-    ensures taken { take result.0 out.new ≡ take 128 (gathered buffered.old) }
-    ensures now { IsNow result.1 (Node.Or buffered.new) (drop 128 (gathered buffered.old)) }
+    requires { (doc : Option ℕ) × StandsAt doc (Node.Or buffered.old) }
+    ensures taken { Takes (gathered buffered.old) (gathered buffered.new) out.new result.0 }
+    ensures stands { StandsAt result.1 (Node.Or buffered.new) }
     ensures walked { Walked (tree_value (Node.Or buffered.old)).standing
         (tree_value (Node.Or buffered.new)).standing }
 {
-    let mut filled = 0;
-    let mut next = doc;
-    while filled < 128 {
-        let Some(_first) = next else {
-            return (filled, None);
-        };
-        let count = buffered.window.take_some(out, filled);
-        filled += count;
-        next = gather(buffered, 0);
-    }
-    (128, next)
+    let count = buffered.window.take(out);
+    let next = gather(buffered, 0);
+    (count, next)
 }
 
 /// How many documents remain, of which `doc` is the first, or the greatest `usize`. Passes all.

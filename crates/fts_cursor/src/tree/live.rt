@@ -1,4 +1,4 @@
-// How many documents of a tree have a bit that is set: they are counted 128 at a time or by words, and none is listed.
+// How many documents of a tree have a bit that is set: they are counted some at a time or by words, and none is listed.
 ghost use Rattle.std.specs.Prelude.{◌≡◌, ◌-◌, ◌^◌, [], filter, length, min};
 ghost use Rattle.fts_cursor.specs.Hits.{is_live};
 ghost use Rattle.fts_cursor.specs.Standing.{Walked};
@@ -24,7 +24,7 @@ impl Tree<'_> {
                 self.doc = None;
                 count
             }
-            _ => count_filled(self, live),
+            _ => count_taken(self, live),
         }
     }
 }
@@ -47,8 +47,8 @@ fn count_marked(buffered: &mut BufferedUnion, doc: Option<u32>, live: &Bits) -> 
     count
 }
 
-/// Counts the documents of any tree that have a bit that is set, 128 documents at a time.
-fn count_filled(tree: &mut Tree, live: &Bits) -> usize
+/// Counts the documents of any tree that have a bit that is set, some at a time.
+fn count_taken(tree: &mut Tree, live: &Bits) -> usize
     ensures count { result ≡ min (2 ^ 64 - 1) (length (filter (is_live live.now) tree.old.remaining)) }
     ensures none { tree.new.remaining ≡ [] }
     ensures walked { Walked tree.old.standing tree.new.standing }
@@ -56,7 +56,7 @@ fn count_filled(tree: &mut Tree, live: &Bits) -> usize
     let mut docs = [0; 128];
     let mut count = 0usize;
     while let Some(_first) = tree.doc() {
-        let taken = tree.fill(&mut docs);
+        let taken = tree.take(&mut docs);
         let here = count_among(live, &docs[..taken]);
         count = count.saturating_add(here);
     }

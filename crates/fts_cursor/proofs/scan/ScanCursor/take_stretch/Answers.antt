@@ -1,9 +1,9 @@
 -- What is copied is the front of what is left.
 use Rattle.std.proofs.Common.{◌+◌, ◌-◌, ◌<◌, ◌≤◌, drop, get_or, sym, ap, subst, ◌∙◌, arith}
-use Rattle.fts_postings.specs.Fills.{IsStretch}
+use Rattle.fts_postings.specs.Takes.{IsStretch}
 use Rattle.fts_postings.specs.Remaining.{at_least}
 use Rattle.fts_cursor.specs.Scans.{keeps, kept_from, kept_in}
-use Rattle.fts_postings.proofs.FillLemmas.{stretch_copied}
+use Rattle.fts_postings.proofs.TakesLemmas.{stretch_copied}
 use Rattle.fts_cursor.proofs.ScanLemmas.{passing-stretch, scan_left, scan_past}
 use Rattle.fts_cursor.proofs.scan.ScanCursor.take_stretch.Goals as goal
 

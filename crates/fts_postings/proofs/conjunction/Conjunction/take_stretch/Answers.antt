@@ -3,7 +3,7 @@ use Rattle.std.proofs.Common.{◌≡◌, [], length, rules, ap, arith, sym, ◌�
 use Rattle.std.proofs.lemmas.Bool.{eqb-true}
 use Rattle.std.proofs.lemmas.List.{nil_from_length}
 use Rattle.fts_postings.specs.Conjoined.{common_of}
-use Rattle.fts_postings.proofs.FillLemmas.{no_first, no_stretch, stretch_of_one}
+use Rattle.fts_postings.proofs.TakesLemmas.{no_first, no_stretch, stretch_of_one}
 use Rattle.fts_postings.proofs.ConjoinedLemmas.{AllFollow-same, IsConjoined-alone, common_alone}
 use Rattle.fts_postings.proofs.conjunction.Conjunction.take_stretch.Goals as goal
 

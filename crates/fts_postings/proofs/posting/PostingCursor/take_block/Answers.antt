@@ -1,9 +1,9 @@
 -- What is copied is the front of what remains.
 use Rattle.std.proofs.Common.{[], suc, get_or, drop, ap, sym, subst, ◌∙◌, arith}
 use Rattle.std.specs.List.{flat_map}
-use Rattle.fts_postings.specs.Fills.{IsStretch}
+use Rattle.fts_postings.specs.Takes.{IsStretch}
 use Rattle.fts_postings.specs.Posting.{Posting, remaining_of}
-use Rattle.fts_postings.proofs.FillLemmas.{no_stretch, stretch_copied}
+use Rattle.fts_postings.proofs.TakesLemmas.{no_stretch, stretch_copied}
 use Rattle.fts_postings.proofs.PostingLemmas.{stands_within}
 use Rattle.fts_postings.proofs.posting.PostingCursor.take_block.Goals as goal
 

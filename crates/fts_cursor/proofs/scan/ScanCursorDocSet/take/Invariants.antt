@@ -1,0 +1,13 @@
+-- The documents so far are at the front.
+use Rattle.std.proofs.Common.{◌-◌, ◌≤◌}
+use Rattle.fts_postings.proofs.TakesLemmas.{Taken}
+use Rattle.fts_cursor.proofs.scan.ScanCursorDocSet.take.Given as goal
+
+abbrev pub invariant-loop-taken : goal.invariant-loop-taken
+invariant-loop-taken l = record {
+  front : Taken l.initial.self l.self l.out l.taken;
+  room : l.taken ≤ 128;
+}
+
+abbrev pub decreases-loop-taken : goal.decreases-loop-taken
+decreases-loop-taken l = 128 - l.taken
