@@ -11,7 +11,6 @@ use Rattle.fts_script.specs.command.Commands.{longest}
 use Rattle.fts_script.specs.session.Replies.{reply_on, carried_over}
 use Rattle.fts_script.specs.session.Outputs.{SessionValue, after_line, reply_to}
 use Rattle.fts_script.specs.session.KeptLines.{KeptLine, Short, TooLong, indented, kept_line, kept_in, grown, is_blank_kept, reply_to_kept, after_kept}
-use Rattle.fts_script.specs.session.KeptLines.{too_long_in, bytes_in}
 use Rattle.fts_script.proofs.BlankLemmas.{is_blank-front, reply_to-blank, after_line-blank}
 
 -- one more space, tab or CR is counted

@@ -1,12 +1,11 @@
 -- What stays true in a step of a run.
-use Rattle.std.proofs.Common.{inl, ltb, lt-ltb, IfOk, Result, Ok, Err, OnErr, OnOk, ◌≡◌, ◌<◌, ◌≤◌, ◌-◌, Bool, true, false, cond, eqb, ◌&&◌, ℕ, ◌+◌, List, []}
+use Rattle.std.proofs.Common.{ltb, lt-ltb, IfOk, Result, Ok, Err, OnErr, OnOk, ◌≡◌, ◌<◌, ◌≤◌, ◌-◌, Bool, true, false, cond, eqb, ◌&&◌, ℕ, ◌+◌, List, []}
 use Rattle.std.proofs.Common.{◌∷◌, ◌++◌, length, take, drop, refl, ap, sym, ◌∙◌, append_assoc, append-nil, take-append-drop, subst, arith, rules, tests}
 use Rattle.std.proofs.lemmas.List.{length-drop, length-append, length-take-le, take_rest}
 use Rattle.std.proofs.Math.Seq.{take-add}
 use Rattle.fts_script.specs.session.KeptLines.{KeptLine, kept_line, grown, is_blank_kept, reply_to_kept, after_kept}
 use Rattle.fts_script.proofs.KeptLemmas.{grown-kept_line, is_blank_kept-indented, reply_to_kept-kept_line, after_kept-kept_line}
 use Rattle.fts_script.specs.Streams.{Wrote}
-use Rattle.fts_script.specs.Runs.{StopsInLastRead}
 use Rattle.fts_script.specs.session.Text.{lines_of, IsWhole, HasNoEnd}
 use Rattle.fts_script.specs.session.Outputs.{SessionValue, start, after_line, reply_to, replies, after_lines, output}
 use Rattle.fts_script.specs.Stops.{AnswersFirst, AnswersEnded, BeginsOutput, BeginsOutputUnless, BeginsWith, IsWritten, StopsAfter, StopsFirst}

@@ -1,5 +1,5 @@
 -- What calls of a stream add up to.
-use Rattle.std.proofs.Common.{◌≡◌, ℕ, Result, Ok, Err, List, [], ◌++◌, Option, sym, ap, ◌∙◌, append_assoc, append-nil, take, length, arith}
+use Rattle.std.proofs.Common.{◌≡◌, ℕ, Result, Ok, Err, List, ◌++◌, Option, ap, ◌∙◌, append_assoc, append-nil, take}
 use Rattle.std.proofs.KnownBytes.{Appends-trans, Appends-kept, Consumes-trans, Consumes-kept}
 use Rattle.std.specs.Io.KnownBytes.{Keeps, ReadConsumes, WriteAppends}
 use Rattle.fts_script.specs.Streams.{bytes_moved, GainsTaken, LosesGiven}

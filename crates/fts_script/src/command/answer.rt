@@ -14,6 +14,7 @@ use fts_model::{Answer, GroupValue, Hit, Number, Text};
 use serde_json::{Map, Value, put};
 use std::alloc::{AllocError, Global};
 
+/// Returns a number as JSON.
 fn number_value(number: Number) -> Value
     ensures { view result ≡ number_data number }
 {
@@ -42,6 +43,7 @@ fn group_value(alloc: Global, group: &(GroupValue, u64)) -> Result<Value, AllocE
     Ok(Value::Array(pair))
 }
 
+/// Returns groups as JSON, in their order.
 fn groups_value(alloc: Global, groups: &[(GroupValue, u64)]) -> Result<Value, AllocError>
     ensures { IfOk result (λ value. view value ≡ array (groups_data groups.now)) }
 {
@@ -66,6 +68,7 @@ fn document_value(alloc: Global, hit: &Hit, names: Option<&[Text]>) -> Result<Va
     }
 }
 
+/// Returns a hit as JSON. If there are names, its document shows only their fields.
 fn hit_value(alloc: Global, hit: &Hit, names: Option<&[Text]>) -> Result<Value, AllocError>
     ensures { IfOk result (λ value. view value ≡ hit_data (cut_hit (option_copied names.entry) hit.now)) }
 {
@@ -81,6 +84,7 @@ fn hit_value(alloc: Global, hit: &Hit, names: Option<&[Text]>) -> Result<Value, 
     Ok(Value::Object(members))
 }
 
+/// Returns hits as JSON, in their order.
 fn hits_value(alloc: Global, hits: &[Hit], names: Option<&[Text]>) -> Result<Value, AllocError>
     ensures { IfOk result (λ value. view value ≡ array (hits_data (cut_hits (option_copied names.entry) hits.now))) }
 {
@@ -91,6 +95,7 @@ fn hits_value(alloc: Global, hits: &[Hit], names: Option<&[Text]>) -> Result<Val
     Ok(Value::Array(list))
 }
 
+/// Puts the groups among the members of an answer.
 fn put_groups(
     alloc: Global,
     members: &mut Map<String, Value>,
@@ -103,6 +108,7 @@ fn put_groups(
     put(members, alloc, "groups", list)
 }
 
+/// Puts the hits of a top list among the members of an answer.
 fn put_top(
     alloc: Global,
     members: &mut Map<String, Value>,
@@ -117,6 +123,7 @@ fn put_top(
     put(members, alloc, "top", list)
 }
 
+/// Returns the object that an answer is.
 fn object_of(alloc: Global, answer: &Answer, names: Option<&[Text]>) -> Result<Value, AllocError>
     ensures { IfOk result (λ value. view value ≡ answer_data (cut_answer (option_copied names.entry) answer.now)) }
 {

@@ -77,12 +77,14 @@ fn has_only(json: &Value, names: &[&str]) -> bool
     }
 }
 
+/// Returns the text at a name of an object.
 fn text_at<'a>(json: &'a Value, name: &str) -> Option<&'a str>
     ensures { option_map (λ text. text.now) result ≡ text_at name.now (view json.entry.now) }
 {
     json.get(name)?.as_str()
 }
 
+/// Returns the kind of this name.
 fn kind_named(name: &str) -> Option<Kind>
     ensures { result ≡ kind_named name.now }
 {
@@ -95,6 +97,7 @@ fn kind_named(name: &str) -> Option<Kind>
     }
 }
 
+/// Returns a flag: false if it isn't there.
 fn flag(json: Option<&Value>) -> Option<bool>
     ensures { result ≡ flag_or_false (option_map (λ v. view v.now) json.entry) }
 {
@@ -104,6 +107,7 @@ fn flag(json: Option<&Value>) -> Option<bool>
     }
 }
 
+/// Returns the field that an object is.
 fn field_of(alloc: Global, json: &Value) -> Result<Option<Field>, AllocError>
     ensures { IfOk result (λ field. field ≡ field_in (view json.now)) }
 {
@@ -145,6 +149,7 @@ fn push_field(alloc: Global, fields: &mut Vec<Field>, json: &Value) -> Result<bo
     }
 }
 
+/// Returns the fields that values are, if each is one.
 fn fields_of(alloc: Global, json: &[Value]) -> Result<Option<Vec<Field>>, AllocError>
     ensures { IfOk result
         (λ fields. option_map (λ v. v.items) fields ≡ fields_in (items_view json.now)) }
@@ -169,6 +174,7 @@ fn only_member(json: &Value) -> Option<(&str, &Value)>
     }
 }
 
+/// Returns the order of this name.
 fn order_named(name: &str) -> Option<Order>
     ensures { result ≡ order_named name.now }
 {
@@ -179,12 +185,14 @@ fn order_named(name: &str) -> Option<Order>
     }
 }
 
+/// Returns a whole number that fits 64 bits.
 fn whole_number(json: &Value) -> Option<u64>
     ensures { result ≡ whole_number (view json.now) }
 {
     json.as_number()?.as_u64()
 }
 
+/// Returns the top list that an object asks for.
 fn top_of(json: &Value) -> Option<(&str, u64, Order)>
     ensures { option_map (λ top. (top.0.now, top.1, top.2)) result ≡ top_in (view json.entry.now) }
 {
@@ -219,6 +227,7 @@ fn asked_top(json: Option<&Value>) -> Option<Option<(&str, u64, Order)>>
     }
 }
 
+/// Returns the search that an object asks for.
 fn search_of(json: &Value) -> Option<Search<'_>>
     ensures { option_map search_value result ≡ search_in (view json.entry.now) }
 {

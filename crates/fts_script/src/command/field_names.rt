@@ -9,6 +9,7 @@ use fts_model::Text;
 use serde_json::Value;
 use std::alloc::{AllocError, Global};
 
+/// Returns the name that a value is, if it is a text.
 fn name_of(alloc: Global, json: &Value) -> Result<Option<Text>, AllocError>
     ensures { IfOk result (λ name. name ≡ as_str (view json.now)) }
 {
@@ -33,6 +34,7 @@ fn push_name(alloc: Global, names: &mut Vec<Text>, json: &Value) -> Result<bool,
     }
 }
 
+/// Returns the names that values are, if each is a text.
 fn texts_of(alloc: Global, json: &[Value]) -> Result<Option<Vec<Text>>, AllocError>
     ensures { IfOk result
         (λ names. option_map (λ v. v.items) names ≡ texts_in (items_view json.now)) }

@@ -4,7 +4,7 @@ use Rattle.std.proofs.lemmas.List.{drop_more, drop_all}
 use Rattle.serde_json.specs.Data.{Data, item, array}
 use Rattle.serde_json.proofs.Views.{view-Array}
 use Rattle.fts_model.specs.declared.answer.Hit.{Hit}
-use Rattle.fts_script.specs.command.AnswerData.{hit_data, hits_data}
+use Rattle.fts_script.specs.command.AnswerData.{hits_data}
 use Rattle.fts_script.specs.command.Cuts.{cut_hit, cut_hits}
 use Rattle.fts_model.proofs.ItemsLemmas.{items_before, items_pushed, items_alone}
 use Rattle.fts_script.proofs.command.answer.hits_value.Goals as goal
