@@ -9,6 +9,7 @@ mod cut_search;
 mod group_search;
 pub mod laws;
 mod maintenance;
+mod print;
 mod replace;
 mod reply;
 mod savepoint;

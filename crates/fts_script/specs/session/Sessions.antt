@@ -1,24 +1,44 @@
 -- What a session answers, compared with what a script does.
 use Rattle.std.specs.Prelude.{◌≡◌, ℕ, ◌+◌, ◌^◌, ◌≤◌, ◌⊎◌, ◌++◌, List, length, Option, Some, None, MatchOption}
-use Rattle.std.specs.Prelude.{Result, Ok, Err, OnOk, OnErr, string_bytes}
-use Rattle.fts_base.specs.Results.{result_map}
+use Rattle.std.specs.Prelude.{Result, Ok, Err, OnOk, OnErr, codes, option_map}
+use Rattle.serde_json.specs.Data.{Data}
 use Rattle.fts_base.specs.declared.refusal.Refusal.{Refusal}
 use Rattle.fts_base.specs.declared.refusal.Refusal.TheVariants.{Memory}
 use Rattle.fts_script.specs.command.Commands.{longest}
 use Rattle.fts_engine.specs.Indexes.{Index}
-use Rattle.fts_script.specs.session.Replies.{Outcome, line_of}
+use Rattle.fts_script.specs.command.AnswerData.{answer_data}
+use Rattle.fts_script.specs.command.Cuts.{cut_answer}
+use Rattle.fts_script.specs.session.Replies.{Outcome, number_reply}
 use Rattle.fts_script.specs.session.Outputs.{SessionValue}
 use Rattle.fts_script.specs.declared.session.reply.Reply.{Reply}
+use Rattle.fts_script.specs.declared.session.reply.Reply.TheVariants.{Number, Answer}
+use Rattle.fts_script.specs.declared.session.reply.NumberName.{NumberName}
+use Rattle.fts_script.specs.declared.session.reply.NumberName.TheVariants.{Fields, Stamp, Commit, Rollback, Merged}
 
--- what an outcome leaves: the index, and the line of the reply
-abbrev pub printed : Outcome Index → Option Index × List ℕ
-printed done = (done.index, line_of done.reply)
+-- the text of the name of a reply's number
+abbrev pub name_text : NumberName → List ℕ
+name_text Fields = codes "fields"
+name_text Stamp = codes "stamp"
+name_text Commit = codes "commit"
+name_text Rollback = codes "rollback"
+name_text Merged = codes "merged"
 
--- What was answered and the index after it are the outcome that was wanted. At a refusal the index is as it was, and
--- the refusal is the one wanted, or memory ran out.
-abbrev pub Executes : Result (Outcome Index) Refusal → Option Index → Option Index → Result Reply Refusal → Type 0
-Executes wanted old new (Ok reply) = result_map printed wanted ≡ Ok (new, string_bytes reply.line)
-Executes wanted old new (Err refusal) = (new ≡ old) × ((refusal ≡ Memory) ⊎ (wanted ≡ Err refusal))
+-- a reply as JSON
+abbrev pub reply_data : Reply → Data
+reply_data (Number name n) = number_reply (name_text name) n
+reply_data (Answer answer names) = answer_data (cut_answer (option_map (λ listed. listed.items) names) answer)
+
+-- an answer leaves the index as it was
+abbrev pub KeepsAtAnswer : Reply → Option Index → Option Index → Type 0
+KeepsAtAnswer (Number name n) old new = Unit {0}
+KeepsAtAnswer (Answer answer names) old new = new ≡ old
+
+-- The reply and the index after a command are the outcome that was wanted. At a refusal the index is as it
+-- was, and the refusal is the one wanted, or memory ran out.
+abbrev pub Does : Result (Outcome Index) Refusal → Option Index → Option Index → Result Reply Refusal → Type 0
+Does wanted old new (Ok reply) =
+    (wanted ≡ Ok (record { index = new; reply = reply_data reply })) × KeepsAtAnswer reply old new
+Does wanted old new (Err refusal) = (new ≡ old) × ((refusal ≡ Memory) ⊎ (wanted ≡ Err refusal))
 
 -- a session: its script, and the engine that has the script's index, if there is one
 pub record SessionState (E : Type 0) : Type 0 where

@@ -1,7 +1,7 @@
-// Executes commands over an engine, and makes their replies.
+// Executes commands over an engine, and then prints their replies.
 ghost use Rattle.std.specs.Prelude.{◌≡◌, ◌+◌, ◌^◌, ◌<◌, ◌≤◌, ◌++◌, ℕ, Option, Some, None, Ok, Err, true};
-ghost use Rattle.std.specs.Prelude.{IfOk, OnOk, OnErr, length, string_bytes, string_capacity, string_len, option_map};
-ghost use Rattle.std.specs.Prelude.{codes, is_ok, Result};
+ghost use Rattle.std.specs.Prelude.{IfOk, OnOk, OnErr, length, string_bytes, option_map};
+ghost use Rattle.std.specs.Prelude.{codes, Result};
 ghost use Rattle.serde_json.specs.View.{view};
 ghost use Rattle.std.specs.Option.{ok_or};
 ghost use Rattle.fts_base.specs.Results.{Gives};
@@ -16,37 +16,35 @@ ghost use Rattle.fts_script.specs.command.AnswerData.{answer_data};
 ghost use Rattle.fts_script.specs.command.Commands.{longest, Add, Delete, Commit, Rollback, Merge, json_in};
 ghost use Rattle.fts_script.specs.command.CommandViews.{command_value, search_value};
 ghost use Rattle.fts_script.specs.command.Cuts.{cut_answer};
-ghost use Rattle.fts_engine.specs.Indexes.{Index, indexes};
+ghost use Rattle.fts_engine.specs.Indexes.{indexes};
 ghost use Rattle.fts_engine.specs.Steps.{search_commit, submit};
 ghost use Rattle.fts_script.specs.session.Replies.{replied, answer_search, execute, execute_line, number_reply};
-ghost use Rattle.fts_script.specs.session.Replies.{Outcome, text_of, index_after};
+ghost use Rattle.fts_script.specs.session.Replies.{text_of, index_after};
 ghost use Rattle.fts_script.specs.session.Finds.{find, find_line};
-ghost use Rattle.fts_script.specs.session.Sessions.{Executes, ChangesAtMost, ChangesOnce};
+ghost use Rattle.fts_script.specs.session.Sessions.{Does, ChangesAtMost, ChangesOnce};
 
 use crate::command::{Command, Search, command_of};
-use crate::session::reply::Reply;
+use crate::session::print::{LONGEST_NUMBER_LINE, print};
+use crate::session::reply::{NumberName, Reply};
 use fts_engine::{Engine, EngineOver, Options};
 use fts_model::{Document, Field, Op, Order, Query, Refusal, Request, Schema, Term, Text};
 use fts_query::parse;
 use serde_json::Value;
 use std::alloc::{AllocError, Global};
 
-/// Takes a schema: makes a new index, and the reply.
+/// Takes a schema: makes a new index.
 fn open<R: AllocGlobal + Sync, E: EngineOver<R>>(
     rt: &R,
     options: Options,
     index: &mut Option<E>,
     fields: Vec<Field>,
-    out: &mut String,
 ) -> Result<Reply, Refusal>
     requires { option_map E.index index.old ≡ None }
-    ensures executes { Executes (execute indexes None (command_value (Command.Schema fields))) None
+    ensures does { Does (execute indexes None (command_value (Command.Schema fields))) None
         (option_map E.index index.new) result }
-    ensures out { string_bytes out.new ≡ string_bytes out.old }
-    ensures room { IfOk result (λ reply. string_len out.new + string_len reply.line ≤ string_capacity out.new) }
     ensures changes { ChangesAtMost E.changes 0 index.new }
 {
-    let reply = Reply::of_number(rt.alloc(), "fields", fields.len() as u64, out)?;
+    let count = fields.len() as u64;
     let schema = match Schema::new(rt.alloc(), fields) {
         Ok(schema) => schema,
         Err((_, refusal)) => return Err(refusal),
@@ -55,28 +53,19 @@ fn open<R: AllocGlobal + Sync, E: EngineOver<R>>(
     if let Some(before) = index.replace(engine) {
         before.close(rt);
     }
-    Ok(reply)
+    Ok(Reply::Number(NumberName::Fields, count))
 }
 
 /// Takes an operation.
-fn submit<E: Engine>(
-    alloc: Global,
-    engine: &mut E,
-    op: Op,
-    out: &mut String,
-) -> Result<Reply, Refusal>
+fn submit<E: Engine>(engine: &mut E, op: Op) -> Result<Reply, Refusal>
     requires changes { E.changes engine.old ≤ 2 ^ 61 }
     requires fits { op_fits (E.index engine.old).schema op ≡ true }
-    ensures executes { Executes
+    ensures does { Does
         (replied (number_reply (codes "stamp")) (submit indexes op (E.index engine.old)))
         (Some (E.index engine.old)) (Some (E.index engine.new)) result }
-    ensures out { string_bytes out.new ≡ string_bytes out.old }
-    ensures room { IfOk result (λ reply. string_len out.new + string_len reply.line ≤ string_capacity out.new) }
     ensures changes { E.changes engine.new ≤ E.changes engine.old + 1 }
 {
-    let reply = Reply::of_number(alloc, "stamp", engine.next_stamp(), out)?;
-    engine.submit(op)?;
-    Ok(reply)
+    Ok(Reply::Number(NumberName::Stamp, engine.submit(op)?))
 }
 
 /// The document that a value is.
@@ -89,21 +78,14 @@ fn document_in<E: Engine>(alloc: Global, engine: &E, json: &Value) -> Result<Doc
 }
 
 /// Adds a document.
-pub(crate) fn add<E: Engine>(
-    alloc: Global,
-    engine: &mut E,
-    json: &Value,
-    out: &mut String,
-) -> Result<Reply, Refusal>
+pub(crate) fn add<E: Engine>(alloc: Global, engine: &mut E, json: &Value) -> Result<Reply, Refusal>
     requires { E.changes engine.old ≤ 2 ^ 61 }
-    ensures executes { Executes (execute indexes (Some (E.index engine.old)) (Add (view json.now)))
+    ensures does { Does (execute indexes (Some (E.index engine.old)) (Add (view json.now)))
         (Some (E.index engine.old)) (Some (E.index engine.new)) result }
-    ensures out { string_bytes out.new ≡ string_bytes out.old }
-    ensures room { IfOk result (λ reply. string_len out.new + string_len reply.line ≤ string_capacity out.new) }
     ensures changes { E.changes engine.new ≤ E.changes engine.old + 1 }
 {
     let document = document_in(alloc, engine, json)?;
-    submit(alloc, engine, Op::Add(document), out)
+    submit(engine, Op::Add(document))
 }
 
 /// The term that a value is in the field of a name.
@@ -121,18 +103,15 @@ pub(crate) fn delete<E: Engine>(
     engine: &mut E,
     name: &str,
     json: &Value,
-    out: &mut String,
 ) -> Result<Reply, Refusal>
     requires { E.changes engine.old ≤ 2 ^ 61 }
-    ensures executes { Executes
+    ensures does { Does
         (execute indexes (Some (E.index engine.old)) (Delete name.now (view json.now)))
         (Some (E.index engine.old)) (Some (E.index engine.new)) result }
-    ensures out { string_bytes out.new ≡ string_bytes out.old }
-    ensures room { IfOk result (λ reply. string_len out.new + string_len reply.line ≤ string_capacity out.new) }
     ensures changes { E.changes engine.new ≤ E.changes engine.old + 1 }
 {
     let term = term_in(alloc, engine, name, json)?;
-    submit(alloc, engine, Op::Delete(term), out)
+    submit(engine, Op::Delete(term))
 }
 
 /// The refusal without its byte, if it is one of syntax: no reply shows the byte.
@@ -175,22 +154,18 @@ pub(crate) fn search_for<R: AllocGlobal + Sync, E: EngineOver<R>>(
     engine: &mut E,
     query: Query,
     request: Request,
-    names: Option<&[Text]>,
-    out: &mut String,
+    names: Option<Vec<Text>>,
 ) -> Result<Reply, Refusal>
     requires query { query_fits (E.index engine.old).schema (query_value query) ≡ true }
     requires request { request_fits (E.index engine.old).schema request ≡ true }
-    ensures executes { Executes
-        (replied (λ answer. answer_data (cut_answer (option_copied names.entry) answer))
+    ensures does { Does
+        (replied (λ answer. answer_data (cut_answer (option_map (λ listed. listed.items) names) answer))
         (search_commit indexes (query_value query) request (E.index engine.old)))
         (Some (E.index engine.old)) (Some (E.index engine.new)) result }
-    ensures out { string_bytes out.new ≡ string_bytes out.old }
-    ensures room { IfOk result (λ reply. string_len out.new + string_len reply.line ≤ string_capacity out.new) }
     ensures same { E.index engine.new ≡ E.index engine.old }
     ensures changes { E.changes engine.new ≤ E.changes engine.old }
 {
-    let answer = engine.search(rt, &query, &request)?;
-    Ok(Reply::of_answer(rt.alloc(), &answer, names, out)?)
+    Ok(Reply::Answer(engine.search(rt, &query, &request)?, names))
 }
 
 /// Answers a search.
@@ -198,19 +173,16 @@ fn search<R: AllocGlobal + Sync, E: EngineOver<R>>(
     rt: &R,
     engine: &mut E,
     asked: Search<'_>,
-    out: &mut String,
 ) -> Result<Reply, Refusal>
-    ensures executes { Executes
+    ensures does { Does
         (answer_search indexes (search_value asked.entry) (E.index engine.old))
         (Some (E.index engine.old)) (Some (E.index engine.new)) result }
-    ensures out { string_bytes out.new ≡ string_bytes out.old }
-    ensures room { IfOk result (λ reply. string_len out.new + string_len reply.line ≤ string_capacity out.new) }
     ensures same { E.index engine.new ≡ E.index engine.old }
     ensures changes { E.changes engine.new ≤ E.changes engine.old }
 {
     let query = query_of(rt.alloc(), engine.schema(), asked.query)?;
     let request = request_of(engine.schema(), asked.groups, asked.top)?;
-    search_for(rt, engine, query, request, None, out)
+    search_for(rt, engine, query, request, None)
 }
 
 /// Executes any command but the schema, once there is an index.
@@ -218,37 +190,23 @@ fn execute_open<R: AllocGlobal + Sync, E: EngineOver<R>>(
     rt: &R,
     engine: &mut E,
     command: Command<'_>,
-    out: &mut String,
 ) -> Result<Reply, Refusal>
     requires { E.changes engine.old ≤ 2 ^ 61 }
-    ensures executes { Executes
+    ensures does { Does
         (execute indexes (Some (E.index engine.old)) (command_value command.entry))
         (Some (E.index engine.old)) (Some (E.index engine.new)) result }
-    ensures out { string_bytes out.new ≡ string_bytes out.old }
-    ensures room { IfOk result (λ reply. string_len out.new + string_len reply.line ≤ string_capacity out.new) }
     ensures changes { E.changes engine.new ≤ E.changes engine.old + 1 }
 {
     let alloc = rt.alloc();
     match command {
         Command::Schema(_) => Err(Refusal::SchemaTwice),
-        Command::Add(json) => add(alloc, engine, json, out),
-        Command::Delete(name, json) => delete(alloc, engine, name, json, out),
-        Command::DeleteAll => submit(alloc, engine, Op::DeleteAll, out),
-        Command::Commit => {
-            let reply = Reply::of_number(alloc, "commit", engine.next_stamp(), out)?;
-            engine.commit(rt)?;
-            Ok(reply)
-        }
-        Command::Rollback => {
-            let reply = Reply::of_number(alloc, "rollback", engine.commit_stamp(), out)?;
-            engine.rollback(rt)?;
-            Ok(reply)
-        }
-        Command::Merge => {
-            let count = engine.merge(rt)?;
-            Ok(Reply::of_number(alloc, "merged", count, out)?)
-        }
-        Command::Search(asked) => search(rt, engine, asked, out),
+        Command::Add(json) => add(alloc, engine, json),
+        Command::Delete(name, json) => delete(alloc, engine, name, json),
+        Command::DeleteAll => submit(engine, Op::DeleteAll),
+        Command::Commit => Ok(Reply::Number(NumberName::Commit, engine.commit(rt)?)),
+        Command::Rollback => Ok(Reply::Number(NumberName::Rollback, engine.rollback(rt)?)),
+        Command::Merge => Ok(Reply::Number(NumberName::Merged, engine.merge(rt)?)),
+        Command::Search(asked) => search(rt, engine, asked),
     }
 }
 
@@ -258,21 +216,18 @@ pub(crate) fn execute<R: AllocGlobal + Sync, E: EngineOver<R>>(
     options: Options,
     index: &mut Option<E>,
     command: Command<'_>,
-    out: &mut String,
 ) -> Result<Reply, Refusal>
     requires { ChangesAtMost E.changes (2 ^ 61) index.old }
-    ensures executes { Executes
+    ensures does { Does
         (execute indexes (option_map E.index index.old) (command_value command.entry))
         (option_map E.index index.old) (option_map E.index index.new) result }
-    ensures out { string_bytes out.new ≡ string_bytes out.old }
-    ensures room { IfOk result (λ reply. string_len out.new + string_len reply.line ≤ string_capacity out.new) }
     ensures changes { ChangesOnce E.changes index.old index.new }
 {
     if let Some(engine) = index {
-        return execute_open(rt, engine, command, out);
+        return execute_open(rt, engine, command);
     }
     match command {
-        Command::Schema(fields) => open(rt, options, index, fields, out),
+        Command::Schema(fields) => open(rt, options, index, fields),
         _ => Err(Refusal::NoSchema),
     }
 }
@@ -299,47 +254,17 @@ fn execute_whole<R: AllocGlobal + Sync, E: EngineOver<R>>(
     options: Options,
     index: &mut Option<E>,
     line: &[u8],
-    out: &mut String,
 ) -> Result<Reply, Refusal>
     requires changes { ChangesAtMost E.changes (2 ^ 61) index.old }
     requires fits_line { length line.now ≤ longest }
-    ensures executes { Executes (execute_line indexes (option_map E.index index.old) line.now)
+    ensures does { Does (execute_line indexes (option_map E.index index.old) line.now)
         (option_map E.index index.old) (option_map E.index index.new) result }
-    ensures out { string_bytes out.new ≡ string_bytes out.old }
-    ensures room { IfOk result (λ reply. string_len out.new + string_len reply.line ≤ string_capacity out.new) }
     ensures changes { ChangesOnce E.changes index.old index.new }
 {
     let json = json_of(rt.alloc(), line)?;
     match command_of(rt.alloc(), &json)? {
-        Some(command) => execute(rt, options, index, command, out),
+        Some(command) => execute(rt, options, index, command),
         None => Err(Refusal::BadCommand),
-    }
-}
-
-/// The reply to the line of this number, from its outcome, and whether the line was done. A refusal is a reply too,
-/// unless memory ran out.
-pub(crate) fn replied_line(
-    alloc: Global,
-    number: u64,
-    done: Result<Reply, Refusal>,
-    out: &mut String,
-) -> Result<(Reply, bool), AllocError>
-    requires room { IfOk done (λ reply. string_len out.old + string_len reply.line ≤ string_capacity out.old) }
-    ensures text { IfOk result (λ r. (wanted : Result (Outcome Index) Refusal) (old new : Option Index) →
-        Executes wanted old new done → string_bytes r.0.line ≡ text_of number wanted) }
-    ensures done { IfOk result (λ r. (wanted : Result (Outcome Index) Refusal) (old new : Option Index) →
-        Executes wanted old new done → r.1 ≡ is_ok wanted) }
-    ensures index { OnOk result ((wanted : Result (Outcome Index) Refusal) (old new : Option Index) →
-        Executes wanted old new done → new ≡ index_after old wanted) }
-    ensures kept { OnErr result ((wanted : Result (Outcome Index) Refusal) (old new : Option Index) →
-        Executes wanted old new done → new ≡ old) }
-    ensures out { string_bytes out.new ≡ string_bytes out.old }
-    ensures room { IfOk result (λ r. string_len out.new + string_len r.0.line ≤ string_capacity out.new) }
-{
-    match done {
-        Ok(reply) => Ok((reply, true)),
-        Err(Refusal::Memory) => Err(AllocError),
-        Err(refusal) => Ok((Reply::of_refusal(alloc, refusal, number, out)?, false)),
     }
 }
 
@@ -362,9 +287,9 @@ pub(crate) fn answer_whole<R: AllocGlobal + Sync, E: EngineOver<R>>(
     ensures kept { OnErr result (option_map E.index index.new ≡ option_map E.index index.old) }
     ensures changes { ChangesOnce E.changes index.old index.new }
 {
-    let done = execute_whole(rt, options, index, line, out);
-    let (reply, _) = replied_line(rt.alloc(), number, done, out)?;
-    reply.push(out);
+    out.reserve(LONGEST_NUMBER_LINE)?;
+    let done = execute_whole(rt, options, index, line);
+    print(rt.alloc(), number, done, out)?;
     Ok(())
 }
 
@@ -373,19 +298,16 @@ fn find<R: AllocGlobal + Sync, E: EngineOver<R>>(
     rt: &R,
     index: &mut Option<E>,
     command: Command<'_>,
-    out: &mut String,
 ) -> Result<Reply, Refusal>
-    ensures executes { Executes
+    ensures does { Does
         (find indexes (option_map E.index index.old) (command_value command.entry))
         (option_map E.index index.old) (option_map E.index index.new) result }
     ensures same { option_map E.index index.new ≡ option_map E.index index.old }
-    ensures out { string_bytes out.new ≡ string_bytes out.old }
-    ensures room { IfOk result (λ reply. string_len out.new + string_len reply.line ≤ string_capacity out.new) }
     ensures changes { (n : ℕ) → ChangesAtMost E.changes n index.old → ChangesAtMost E.changes n index.new }
 {
     match command {
         Command::Search(asked) => match index {
-            Some(engine) => search(rt, engine, asked, out),
+            Some(engine) => search(rt, engine, asked),
             None => Err(Refusal::NoSchema),
         },
         _ => Err(Refusal::BadCommand),
@@ -397,19 +319,16 @@ fn find_whole<R: AllocGlobal + Sync, E: EngineOver<R>>(
     rt: &R,
     index: &mut Option<E>,
     line: &[u8],
-    out: &mut String,
 ) -> Result<Reply, Refusal>
     requires fits_line { length line.now ≤ longest }
-    ensures executes { Executes (find_line indexes (option_map E.index index.old) line.now)
+    ensures does { Does (find_line indexes (option_map E.index index.old) line.now)
         (option_map E.index index.old) (option_map E.index index.new) result }
     ensures same { option_map E.index index.new ≡ option_map E.index index.old }
-    ensures out { string_bytes out.new ≡ string_bytes out.old }
-    ensures room { IfOk result (λ reply. string_len out.new + string_len reply.line ≤ string_capacity out.new) }
     ensures changes { (n : ℕ) → ChangesAtMost E.changes n index.old → ChangesAtMost E.changes n index.new }
 {
     let json = json_of(rt.alloc(), line)?;
     match command_of(rt.alloc(), &json)? {
-        Some(command) => find(rt, index, command, out),
+        Some(command) => find(rt, index, command),
         None => Err(Refusal::BadCommand),
     }
 }
@@ -429,8 +348,8 @@ pub(crate) fn answer_find<R: AllocGlobal + Sync, E: EngineOver<R>>(
     ensures err { OnErr result (string_bytes out.new ≡ string_bytes out.old) }
     ensures changes { (n : ℕ) → ChangesAtMost E.changes n index.old → ChangesAtMost E.changes n index.new }
 {
-    let found = find_whole(rt, index, line, out);
-    let (reply, _) = replied_line(rt.alloc(), number, found, out)?;
-    reply.push(out);
+    out.reserve(LONGEST_NUMBER_LINE)?;
+    let found = find_whole(rt, index, line);
+    print(rt.alloc(), number, found, out)?;
     Ok(())
 }

@@ -1,6 +1,6 @@
 // Searches whose replies show only some fields of the documents.
 ghost use Rattle.std.specs.Prelude.{◌≡◌, ◌+◌, ◌≤◌, ◌++◌, ℕ, Option, Some, None, Ok, Err, is_some, true};
-ghost use Rattle.std.specs.Prelude.{IfOk, OnOk, OnErr, length, string_bytes, string_capacity, string_len, option_map};
+ghost use Rattle.std.specs.Prelude.{IfOk, OnOk, OnErr, length, string_bytes, option_map};
 ghost use Rattle.std.specs.List.{list_all};
 ghost use Rattle.fts_base.specs.Results.{Gives};
 ghost use Rattle.std.specs.Option.{option_copied};
@@ -12,10 +12,11 @@ ghost use Rattle.fts_script.specs.command.Cuts.{names_in};
 ghost use Rattle.fts_engine.specs.Indexes.{indexes};
 ghost use Rattle.fts_script.specs.session.CutSearches.{answer_cut, find_cut, find_cut_line, if_fields};
 ghost use Rattle.fts_script.specs.session.Replies.{text_of};
-ghost use Rattle.fts_script.specs.session.Sessions.{Executes, ChangesAtMost};
+ghost use Rattle.fts_script.specs.session.Sessions.{Does, ChangesAtMost};
 
 use crate::command::{Command, Search, command_of, field_names_of};
-use crate::session::commands::{json_of, query_of, replied_line, request_of, search_for};
+use crate::session::commands::{json_of, query_of, request_of, search_for};
+use crate::session::print::{LONGEST_NUMBER_LINE, print};
 use crate::session::reply::Reply;
 use fts_engine::EngineOver;
 use fts_model::{Order, Refusal, Request, Schema, Text};
@@ -65,20 +66,17 @@ fn search_cut<R: AllocGlobal + Sync, E: EngineOver<R>>(
     rt: &R,
     engine: &mut E,
     asked: Search<'_>,
-    names: &[Text],
-    out: &mut String,
+    names: Vec<Text>,
 ) -> Result<Reply, Refusal>
-    ensures executes { Executes
-        (answer_cut indexes (search_value asked.entry) names.now (E.index engine.old))
+    ensures does { Does
+        (answer_cut indexes (search_value asked.entry) names.items (E.index engine.old))
         (Some (E.index engine.old)) (Some (E.index engine.new)) result }
-    ensures out { string_bytes out.new ≡ string_bytes out.old }
-    ensures room { IfOk result (λ reply. string_len out.new + string_len reply.line ≤ string_capacity out.new) }
     ensures same { E.index engine.new ≡ E.index engine.old }
     ensures changes { E.changes engine.new ≤ E.changes engine.old }
 {
     let query = query_of(rt.alloc(), engine.schema(), asked.query)?;
-    let request = cut_request_of(engine.schema(), asked.groups, asked.top, names)?;
-    search_for(rt, engine, query, request, Some(names), out)
+    let request = cut_request_of(engine.schema(), asked.groups, asked.top, &names)?;
+    search_for(rt, engine, query, request, Some(names))
 }
 
 /// Executes a search, cut to the fields of these names. Another command is refused as `BadCommand`.
@@ -86,20 +84,17 @@ fn find_cut<R: AllocGlobal + Sync, E: EngineOver<R>>(
     rt: &R,
     index: &mut Option<E>,
     command: Command<'_>,
-    names: &[Text],
-    out: &mut String,
+    names: Vec<Text>,
 ) -> Result<Reply, Refusal>
-    ensures executes { Executes
-        (find_cut indexes (option_map E.index index.old) names.now (command_value command.entry))
+    ensures does { Does
+        (find_cut indexes (option_map E.index index.old) names.items (command_value command.entry))
         (option_map E.index index.old) (option_map E.index index.new) result }
     ensures same { option_map E.index index.new ≡ option_map E.index index.old }
-    ensures out { string_bytes out.new ≡ string_bytes out.old }
-    ensures room { IfOk result (λ reply. string_len out.new + string_len reply.line ≤ string_capacity out.new) }
     ensures changes { (n : ℕ) → ChangesAtMost E.changes n index.old → ChangesAtMost E.changes n index.new }
 {
     match command {
         Command::Search(asked) => match index {
-            Some(engine) => search_cut(rt, engine, asked, names, out),
+            Some(engine) => search_cut(rt, engine, asked, names),
             None => Err(Refusal::NoSchema),
         },
         _ => Err(Refusal::BadCommand),
@@ -112,21 +107,18 @@ fn find_cut_whole<R: AllocGlobal + Sync, E: EngineOver<R>>(
     index: &mut Option<E>,
     line: &[u8],
     names: &[u8],
-    out: &mut String,
 ) -> Result<Reply, Refusal>
     requires fits_line { length line.now ≤ longest }
-    ensures executes { Executes (find_cut_line indexes (option_map E.index index.old) line.now names.now)
+    ensures does { Does (find_cut_line indexes (option_map E.index index.old) line.now names.now)
         (option_map E.index index.old) (option_map E.index index.new) result }
     ensures same { option_map E.index index.new ≡ option_map E.index index.old }
-    ensures out { string_bytes out.new ≡ string_bytes out.old }
-    ensures room { IfOk result (λ reply. string_len out.new + string_len reply.line ≤ string_capacity out.new) }
     ensures changes { (n : ℕ) → ChangesAtMost E.changes n index.old → ChangesAtMost E.changes n index.new }
 {
     let json = json_of(rt.alloc(), line)?;
     match command_of(rt.alloc(), &json)? {
         Some(command) => {
             let names = names_in(rt.alloc(), names)?;
-            find_cut(rt, index, command, &names, out)
+            find_cut(rt, index, command, names)
         }
         None => Err(Refusal::BadCommand),
     }
@@ -148,8 +140,8 @@ pub(crate) fn answer_find_cut<R: AllocGlobal + Sync, E: EngineOver<R>>(
     ensures err { OnErr result (string_bytes out.new ≡ string_bytes out.old) }
     ensures changes { (n : ℕ) → ChangesAtMost E.changes n index.old → ChangesAtMost E.changes n index.new }
 {
-    let found = find_cut_whole(rt, index, line, names, out);
-    let (reply, _) = replied_line(rt.alloc(), number, found, out)?;
-    reply.push(out);
+    out.reserve(LONGEST_NUMBER_LINE)?;
+    let found = find_cut_whole(rt, index, line, names);
+    print(rt.alloc(), number, found, out)?;
     Ok(())
 }

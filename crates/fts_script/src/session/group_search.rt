@@ -1,16 +1,17 @@
 // Searches whose replies show the most frequent groups alone.
 ghost use Rattle.std.specs.Prelude.{◌≡◌, ◌+◌, ◌≤◌, ◌++◌, ℕ, Option, Some, None, Ok, Err};
-ghost use Rattle.std.specs.Prelude.{IfOk, OnErr, OnOk, length, string_bytes, string_capacity, string_len, option_map};
+ghost use Rattle.std.specs.Prelude.{OnErr, OnOk, length, string_bytes, option_map};
 ghost use Rattle.fts_script.specs.command.Commands.{longest};
 ghost use Rattle.fts_script.specs.command.CommandViews.{command_value, search_value};
 ghost use Rattle.fts_script.specs.command.MostFrequent.{frequency_cmp, most_frequent, with_most_frequent};
 ghost use Rattle.fts_engine.specs.Indexes.{indexes};
 ghost use Rattle.fts_script.specs.session.GroupSearches.{answer_frequent, find_frequent, find_frequent_line};
 ghost use Rattle.fts_script.specs.session.Replies.{text_of};
-ghost use Rattle.fts_script.specs.session.Sessions.{Executes, ChangesAtMost};
+ghost use Rattle.fts_script.specs.session.Sessions.{Does, ChangesAtMost};
 
 use crate::command::{Command, Search, command_of};
-use crate::session::commands::{json_of, query_of, replied_line, request_of};
+use crate::session::commands::{json_of, query_of, request_of};
+use crate::session::print::{LONGEST_NUMBER_LINE, print};
 use crate::session::reply::Reply;
 use fts_engine::EngineOver;
 use fts_model::{Answer, GroupValue, Refusal};
@@ -51,21 +52,17 @@ fn search_frequent<R: AllocGlobal + Sync, E: EngineOver<R>>(
     engine: &mut E,
     asked: Search<'_>,
     limit: usize,
-    out: &mut String,
 ) -> Result<Reply, Refusal>
-    ensures executes { Executes
+    ensures does { Does
         (answer_frequent indexes (search_value asked.entry) limit (E.index engine.old))
         (Some (E.index engine.old)) (Some (E.index engine.new)) result }
-    ensures out { string_bytes out.new ≡ string_bytes out.old }
-    ensures room { IfOk result (λ reply. string_len out.new + string_len reply.line ≤ string_capacity out.new) }
     ensures same { E.index engine.new ≡ E.index engine.old }
     ensures changes { E.changes engine.new ≤ E.changes engine.old }
 {
     let query = query_of(rt.alloc(), engine.schema(), asked.query)?;
     let request = request_of(engine.schema(), asked.groups, asked.top)?;
     let found = engine.search(rt, &query, &request)?;
-    let answer = with_most_frequent(found, limit);
-    Ok(Reply::of_answer(rt.alloc(), &answer, None, out)?)
+    Ok(Reply::Answer(with_most_frequent(found, limit), None))
 }
 
 /// Executes a search with the most frequent groups alone. Another command is refused as `BadCommand`.
@@ -74,19 +71,16 @@ fn find_frequent<R: AllocGlobal + Sync, E: EngineOver<R>>(
     index: &mut Option<E>,
     command: Command<'_>,
     limit: usize,
-    out: &mut String,
 ) -> Result<Reply, Refusal>
-    ensures executes { Executes
+    ensures does { Does
         (find_frequent indexes (option_map E.index index.old) limit (command_value command.entry))
         (option_map E.index index.old) (option_map E.index index.new) result }
     ensures same { option_map E.index index.new ≡ option_map E.index index.old }
-    ensures out { string_bytes out.new ≡ string_bytes out.old }
-    ensures room { IfOk result (λ reply. string_len out.new + string_len reply.line ≤ string_capacity out.new) }
     ensures changes { (n : ℕ) → ChangesAtMost E.changes n index.old → ChangesAtMost E.changes n index.new }
 {
     match command {
         Command::Search(asked) => match index {
-            Some(engine) => search_frequent(rt, engine, asked, limit, out),
+            Some(engine) => search_frequent(rt, engine, asked, limit),
             None => Err(Refusal::NoSchema),
         },
         _ => Err(Refusal::BadCommand),
@@ -99,19 +93,16 @@ fn find_frequent_whole<R: AllocGlobal + Sync, E: EngineOver<R>>(
     index: &mut Option<E>,
     line: &[u8],
     limit: usize,
-    out: &mut String,
 ) -> Result<Reply, Refusal>
     requires fits_line { length line.now ≤ longest }
-    ensures executes { Executes (find_frequent_line indexes (option_map E.index index.old) line.now limit)
+    ensures does { Does (find_frequent_line indexes (option_map E.index index.old) line.now limit)
         (option_map E.index index.old) (option_map E.index index.new) result }
     ensures same { option_map E.index index.new ≡ option_map E.index index.old }
-    ensures out { string_bytes out.new ≡ string_bytes out.old }
-    ensures room { IfOk result (λ reply. string_len out.new + string_len reply.line ≤ string_capacity out.new) }
     ensures changes { (n : ℕ) → ChangesAtMost E.changes n index.old → ChangesAtMost E.changes n index.new }
 {
     let json = json_of(rt.alloc(), line)?;
     match command_of(rt.alloc(), &json)? {
-        Some(command) => find_frequent(rt, index, command, limit, out),
+        Some(command) => find_frequent(rt, index, command, limit),
         None => Err(Refusal::BadCommand),
     }
 }
@@ -132,8 +123,8 @@ pub(crate) fn answer_find_frequent<R: AllocGlobal + Sync, E: EngineOver<R>>(
     ensures err { OnErr result (string_bytes out.new ≡ string_bytes out.old) }
     ensures changes { (n : ℕ) → ChangesAtMost E.changes n index.old → ChangesAtMost E.changes n index.new }
 {
-    let found = find_frequent_whole(rt, index, line, limit, out);
-    let (reply, _) = replied_line(rt.alloc(), number, found, out)?;
-    reply.push(out);
+    out.reserve(LONGEST_NUMBER_LINE)?;
+    let found = find_frequent_whole(rt, index, line, limit);
+    print(rt.alloc(), number, found, out)?;
     Ok(())
 }

@@ -1,6 +1,6 @@
 // A deletion and the addition after it, both or neither.
-ghost use Rattle.std.specs.Prelude.{◌≡◌, ◌+◌, ◌-◌, ◌^◌, ◌<◌, ◌≤◌, ◌++◌, ℕ, Option, Some, None, Ok, Err, true};
-ghost use Rattle.std.specs.Prelude.{IfOk, OnOk, OnErr, length, string_bytes, string_capacity, string_len, option_map};
+ghost use Rattle.std.specs.Prelude.{◌≡◌, ◌+◌, ◌-◌, ◌^◌, ◌<◌, ◌≤◌, ◌++◌, ℕ, Option, Some, None, Ok, Err};
+ghost use Rattle.std.specs.Prelude.{IfOk, OnOk, OnErr, length, string_bytes, option_map};
 ghost use Rattle.std.specs.Prelude.{if◌then◌else◌};
 ghost use Rattle.serde_json.specs.View.{view};
 ghost use Rattle.std.specs.Option.{ok_or};
@@ -9,10 +9,11 @@ ghost use Rattle.fts_script.specs.command.Commands.{longest, Add, Delete, comman
 ghost use Rattle.fts_engine.specs.Indexes.{indexes};
 ghost use Rattle.fts_script.specs.session.Replaces.{addition, deletion, execute_two, lines_done, replace};
 ghost use Rattle.fts_script.specs.session.Replies.{text_of, index_after};
-ghost use Rattle.fts_script.specs.session.Sessions.{Executes, ChangesAtMost};
+ghost use Rattle.fts_script.specs.session.Sessions.{Does, ChangesAtMost};
 
 use crate::command::{Command, command_of};
-use crate::session::commands::{add, delete, json_of, replied_line};
+use crate::session::commands::{add, delete, json_of};
+use crate::session::print::{LONGEST_NUMBER_LINE, print};
 use crate::session::reply::Reply;
 use fts_engine::{EngineOver, TakeBack};
 use fts_model::Refusal;
@@ -48,19 +49,16 @@ fn replace<E: TakeBack>(
     name: &str,
     json: &Value,
     document: &Value,
-    out: &mut String,
 ) -> Result<Reply, Refusal>
     requires { E.changes engine.old < 2 ^ 61 }
-    ensures executes { Executes
+    ensures does { Does
         (execute_two indexes (Some (E.index engine.old)) (Delete name.now (view json.now)) (Add (view document.now)))
         (Some (E.index engine.old)) (Some (E.index engine.new)) result }
-    ensures out { string_bytes out.new ≡ string_bytes out.old }
-    ensures room { IfOk result (λ reply. string_len out.new + string_len reply.line ≤ string_capacity out.new) }
     ensures changes { E.changes engine.new ≤ E.changes engine.old + 2 }
 {
     let before = engine.uncommitted();
-    delete(alloc, engine, name, json, out)?;
-    match add(alloc, engine, document, out) {
+    delete(alloc, engine, name, json)?;
+    match add(alloc, engine, document) {
         Ok(reply) => Ok(reply),
         Err(refusal) => {
             engine.keep_first(before);
@@ -75,15 +73,12 @@ fn replace_whole<E: TakeBack>(
     index: &mut Option<E>,
     delete: &[u8],
     add: &[u8],
-    out: &mut String,
 ) -> Result<Reply, Refusal>
     requires changes { ChangesAtMost E.changes (2 ^ 61 - 1) index.old }
     requires fits_delete { length delete.now ≤ longest }
     requires fits_add { length add.now ≤ longest }
-    ensures executes { Executes (replace indexes (option_map E.index index.old) delete.now add.now)
+    ensures does { Does (replace indexes (option_map E.index index.old) delete.now add.now)
         (option_map E.index index.old) (option_map E.index index.new) result }
-    ensures out { string_bytes out.new ≡ string_bytes out.old }
-    ensures room { IfOk result (λ reply. string_len out.new + string_len reply.line ≤ string_capacity out.new) }
     ensures changes { (n : ℕ) → ChangesAtMost E.changes n index.old → ChangesAtMost E.changes (n + 2) index.new }
 {
     let first = json_of(alloc, delete)?;
@@ -91,7 +86,7 @@ fn replace_whole<E: TakeBack>(
     let second = json_of(alloc, add)?;
     let document = addition_in(alloc, &second)?;
     match index {
-        Some(engine) => replace(alloc, engine, name, value, document, out),
+        Some(engine) => replace(alloc, engine, name, value, document),
         None => Err(Refusal::NoSchema),
     }
 }
@@ -126,8 +121,8 @@ pub(crate) fn answer_replace<R: AllocGlobal + Sync, E: EngineOver<R> + TakeBack>
     ensures kept { OnErr result (option_map E.index index.new ≡ option_map E.index index.old) }
     ensures changes { (n : ℕ) → ChangesAtMost E.changes n index.old → ChangesAtMost E.changes (n + 2) index.new }
 {
-    let replaced = replace_whole(rt.alloc(), index, delete, add, out);
-    let (reply, done) = replied_line(rt.alloc(), number, replaced, out)?;
-    reply.push(out);
+    out.reserve(LONGEST_NUMBER_LINE)?;
+    let replaced = replace_whole(rt.alloc(), index, delete, add);
+    let done = print(rt.alloc(), number, replaced, out)?;
     Ok(lines_of(done))
 }

@@ -1,15 +1,16 @@
 // What a script goes back to, and lines of a transaction: each is executed, and all are taken back at the first refusal.
-ghost use Rattle.std.specs.Prelude.{◌≡◌, ◌+◌, ◌^◌, ◌≤◌, ◌++◌, [], IfOk, OnOk, OnErr, length, string_bytes, string_capacity, string_len};
+ghost use Rattle.std.specs.Prelude.{◌≡◌, ◌+◌, ◌^◌, ◌≤◌, ◌++◌, [], IfOk, OnOk, OnErr, length, string_bytes};
 ghost use Rattle.std.specs.Prelude.{is_ok, option_map, if◌then◌else◌};
 ghost use Rattle.fts_script.specs.command.Commands.{longest};
 ghost use Rattle.fts_script.specs.command.CommandViews.{command_value};
 ghost use Rattle.fts_engine.specs.Indexes.{indexes};
 ghost use Rattle.fts_script.specs.session.Replies.{text_of, index_after};
 ghost use Rattle.fts_script.specs.session.Transactions.{count_uncommitted, is_operation, operate};
-ghost use Rattle.fts_script.specs.session.Sessions.{Executes, ChangesAtMost, ChangesOnce};
+ghost use Rattle.fts_script.specs.session.Sessions.{Does, ChangesAtMost, ChangesOnce};
 
 use crate::command::{Command, command_of};
-use crate::session::commands::{execute, json_of, replied_line};
+use crate::session::commands::{execute, json_of};
+use crate::session::print::{LONGEST_NUMBER_LINE, push_reply, refusal_line};
 use crate::session::reply::Reply;
 use fts_engine::{EngineOver, Options, TakeBack};
 use fts_model::Refusal;
@@ -50,14 +51,11 @@ fn operate_whole<R: AllocGlobal + Sync, E: EngineOver<R>>(
     options: Options,
     index: &mut Option<E>,
     line: &[u8],
-    out: &mut String,
 ) -> Result<Reply, Refusal>
     requires changes { ChangesAtMost E.changes (2 ^ 61) index.old }
     requires fits_line { length line.now ≤ longest }
-    ensures executes { Executes (operate indexes (option_map E.index index.old) line.now)
+    ensures does { Does (operate indexes (option_map E.index index.old) line.now)
         (option_map E.index index.old) (option_map E.index index.new) result }
-    ensures out { string_bytes out.new ≡ string_bytes out.old }
-    ensures room { IfOk result (λ reply. string_len out.new + string_len reply.line ≤ string_capacity out.new) }
     ensures changes { ChangesOnce E.changes index.old index.new }
 {
     let json = json_of(rt.alloc(), line)?;
@@ -67,18 +65,7 @@ fn operate_whole<R: AllocGlobal + Sync, E: EngineOver<R>>(
     if !is_operation(&command) {
         return Err(Refusal::BadCommand);
     }
-    execute(rt, options, index, command, out)
-}
-
-/// Keeps the replies so far if a line was taken, and clears them otherwise.
-fn clear_unless(taken: bool, out: &mut String)
-    ensures bytes { string_bytes out.new ≡ (if taken then string_bytes out.old else []) }
-    ensures len { string_len out.new ≤ string_len out.old }
-    ensures capacity { string_capacity out.new ≡ string_capacity out.old }
-{
-    if !taken {
-        out.clear();
-    }
+    execute(rt, options, index, command)
 }
 
 /// Replies to a line in a transaction, and returns whether it was taken. A refusal, in the line of this number, is the
@@ -102,9 +89,15 @@ pub(crate) fn answer_operation<R: AllocGlobal + Sync, E: EngineOver<R>>(
     ensures kept { OnErr result (option_map E.index index.new ≡ option_map E.index index.old) }
     ensures changes { ChangesOnce E.changes index.old index.new }
 {
-    let done = operate_whole(rt, options, index, line, out);
-    let (reply, taken) = replied_line(rt.alloc(), number, done, out)?;
-    clear_unless(taken, out);
-    reply.push(out);
-    Ok(taken)
+    out.reserve(LONGEST_NUMBER_LINE)?;
+    match operate_whole(rt, options, index, line) {
+        Ok(reply) => {
+            push_reply(rt.alloc(), reply, out)?;
+            Ok(true)
+        }
+        Err(refusal) => {
+            *out = refusal_line(rt.alloc(), refusal, number)?;
+            Ok(false)
+        }
+    }
 }

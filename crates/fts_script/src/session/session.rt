@@ -19,8 +19,8 @@ use crate::session::commands::{answer_find, answer_whole};
 use crate::session::cut_search::answer_find_cut;
 use crate::session::group_search::answer_find_frequent;
 use crate::session::maintenance::Maintenance;
+use crate::session::print::refusal_line;
 use crate::session::replace::answer_replace;
-use crate::session::reply::Reply;
 use crate::session::savepoint::{Savepoint, answer_operation, uncommitted_in};
 use fts_engine::{Engine, EngineOver, Fork, Options, TakeBack};
 use fts_model::Refusal;
@@ -117,8 +117,8 @@ impl<E: Engine> Session<E> {
     {
         let number = self.number + 1;
         if !blank {
-            let reply = Reply::of_refusal(alloc, Refusal::LineTooLong, number, out)?;
-            reply.push(out);
+            let line = refusal_line(alloc, Refusal::LineTooLong, number)?;
+            out.push_str(line.as_str())?;
         }
         self.number = number;
         Ok(())
