@@ -18,7 +18,7 @@ from counts import Counts
 CRATES = pathlib.Path(__file__).resolve().parents[1] / "crates"
 
 # Names of types that two crates have, and why.
-SHARED: dict[str, str] = {"Lists": "That of fts_cursor is private to its file."}
+SHARED: dict[str, str] = {}
 
 # Files of several functions or constants of one subject, which no single one names. A crate's root and a function that it hands
 # on can't have the name of a module, so that a file of such a function has another word in its name.

@@ -1,7 +1,6 @@
 // A cursor over the documents that pass a test of their number alone.
-ghost use Rattle.std.specs.Prelude.{◌≡◌, ◌%◌, ◌^◌, ◌+◌, ◌-◌, ◌<◌, ◌≤◌, IfErr, IfOk, IfSome, Some, [], true, false, filter};
-ghost use Rattle.std.specs.Prelude.{length, slice_get, slice_index};
-ghost use Rattle.std.specs.Prelude.{take};
+ghost use Rattle.std.specs.Prelude.{◌≡◌, ◌%◌, ◌^◌, ◌+◌, ◌-◌, ◌<◌, ◌≤◌, IfErr, IfOk, IfSome, Some, [], true, false};
+ghost use Rattle.std.specs.Prelude.{filter, length, slice_get, slice_index, take};
 ghost use Rattle.fts_postings.specs.Takes.{IsStretch};
 ghost use Rattle.fts_postings.specs.Remaining.{at_least};
 ghost use Rattle.fts_cursor.specs.Hits.{is_live};

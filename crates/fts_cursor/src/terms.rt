@@ -54,9 +54,9 @@ pub(crate) fn of_terms<'a>(
     of_lists(alloc, lists.shortest, &lists.others)
 }
 
-// Lists, led by the shortest.
+// The lists of terms, led by the shortest.
 #[derive(Drop)]
-struct Lists<'a> {
+struct TermLists<'a> {
     shortest: ListRef<'a>,
     others: Vec<ListRef<'a>>,
 }
@@ -66,7 +66,7 @@ fn lists_of<'a>(
     alloc: Global,
     segment: &'a Segment,
     queries: &[Query],
-) -> Result<Option<Lists<'a>>, AllocError>
+) -> Result<Option<TermLists<'a>>, AllocError>
     requires some { 0 < length queries.now }
     requires terms { list_all (λ q. is_term (query_value q)) queries.now ≡ true }
     ensures { IfOk result (λ found.
@@ -87,7 +87,7 @@ fn lists_of<'a>(
         shortest = shorter;
         others.push(longer)?;
     }
-    Ok(Some(Lists { shortest, others }))
+    Ok(Some(TermLists { shortest, others }))
 }
 
 /// The list of a term, and none if no document has it.
