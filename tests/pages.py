@@ -77,7 +77,7 @@ VERSIONS = {
 
 # Pages whose names in code are names of the sources, but for these, which are the kit's and Python's.
 ABOUT_SOURCES = [DOCS / f"{name}.md" for name in ("ARCHITECTURE", "DECISIONS", "EMBEDDING", "PROOFS")]
-OF_OTHERS = {"conflicts_with", "k_smallest", "kmerge", "logic", "pydoc", "rattle"}
+OF_OTHERS = {"conflicts_with", "k_smallest", "kmerge", "logic", "plant", "pydoc", "rattle"}
 
 # Command lines that don't run here, each by how it begins or by a word in it, and why.
 ELSEWHERE = {
