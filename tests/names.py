@@ -17,9 +17,6 @@ from counts import Counts
 
 CRATES = pathlib.Path(__file__).resolve().parents[1] / "crates"
 
-# Names of types that two crates have, and why.
-SHARED: dict[str, str] = {}
-
 # Files of several functions or constants of one subject, which no single one names. A crate's root and a function that it hands
 # on can't have the name of a module, so that a file of such a function has another word in its name.
 OF_A_SUBJECT = {
@@ -87,7 +84,7 @@ def owners(counts: Counts) -> None:
         for name in OWNED.findall(text):
             owned[name].append(str(path.relative_to(CRATES)))
     for name, paths in sorted(owned.items()):
-        counts.check(name, len(paths) == 1 or name in SHARED, f"{name} has several owners: {', '.join(paths)}")
+        counts.check(name, len(paths) == 1, f"{name} has several owners: {', '.join(paths)}")
 
 
 def comments(counts: Counts) -> None:
