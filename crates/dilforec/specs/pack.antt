@@ -8,6 +8,7 @@ pub use Rattle.fts_pack.specs.ListSource
 pub use Rattle.fts_pack.specs.Lists
 pub use Rattle.fts_pack.specs.SourceLaws
 pub use Rattle.fts_pack.specs.bits.Bits
+pub use Rattle.fts_pack.specs.bits.Changes
 pub use Rattle.fts_pack.specs.bits.Digits
 pub use Rattle.fts_pack.specs.column.BlockRanges
 pub use Rattle.fts_pack.specs.column.Column

@@ -15,3 +15,4 @@ pub mod ColumnLemmas
 pub mod CountsLemmas
 mod IntervalLemmas
 mod LanesLemmas
+pub mod ChangeLemmas

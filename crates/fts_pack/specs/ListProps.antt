@@ -34,8 +34,8 @@ IsKeptBlock-prop words next count skip x y =
     let within : IsProp (IsWithin words skip.block) = IsWithin-prop words skip.block in
     let last_is : IsProp (after next documents ≡ suc skip.last) = hlevel props in
     let width_is : IsProp (IsWidthOf (gaps next documents) width) = IsWidthOf-prop (gaps next documents) width in
-    let words_are : IsProp (take (4 * width) (drop skip.block.start words) ≡ words_in_lanes width (gaps next documents)) =
-    hlevel props in
+    let lanes = words_in_lanes width (gaps next documents) in
+    let words_are : IsProp (take (4 * width) (drop skip.block.start words) ≡ lanes) = hlevel props in
     λ i. record {
       some = some x.some y.some i;
       within = within x.within y.within i;

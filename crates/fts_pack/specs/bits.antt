@@ -1,3 +1,4 @@
 pub mod Bits
+pub mod Changes
 pub mod Digits
 pub mod Signed

@@ -5,6 +5,7 @@
 //! ([`i64_to_u64`]).
 
 mod bits;
+mod change;
 pub mod laws;
 mod signed;
 pub mod widths;

@@ -4,8 +4,8 @@
 //!   are packed end to end.
 //! - [`column`]: a [`Column`] has an optional value per document.
 //! - A [`Block`] is a list of up to 128 numbers, and [`Blocks`] is a list of documents in blocks.
-//! - [`Lists`] has many rising lists of documents side by side: one of them is a [`ListRef`], some of them in a row are a
-//!   [`ListRange`], and a [`ListSource`] opens the blocks of one. A [`List`] is one list by itself.
+//! - [`Lists`] has many rising lists of documents side by side: one of them is a [`ListRef`], some of them in a row are
+//!   a [`ListRange`], and a [`ListSource`] opens the blocks of one. A [`List`] is one list by itself.
 #![tactic(auto)]
 
 pub mod bits;

@@ -6,7 +6,7 @@ use crate::list_ref::ListRef;
 use crate::list_source::ListSource;
 use crate::lists::Lists;
 use fts_base::Refusal;
-use std::alloc::Global;
+use std::alloc::{AllocError, Global};
 use std::marker::Model;
 
 /// A strictly rising list of documents.
@@ -35,7 +35,7 @@ impl List {
     ghost use Rattle.fts_pack.specs.ListRef.{listed};
     ghost use Rattle.fts_pack.specs.ListSource.{documents_in, openings_of};
 
-    /// Packs the documents.
+    /// Packs the documents. Tests alone call it: the lists of a segment lie together, in [`Lists`].
     pub fn build(alloc: Global, documents: &[u32]) -> Result<List, Refusal>
         requires { IsStrictlyIncreasing documents.now }
         ensures ok { IfOk result (λ list. list ≡ documents.now) }
@@ -47,7 +47,7 @@ impl List {
                 lists.shrink_to_fit();
                 Ok(List { lists })
             }
-            Err(_) => Err(Refusal::Memory),
+            Err(AllocError) => Err(Refusal::Memory),
         }
     }
 

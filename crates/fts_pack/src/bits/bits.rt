@@ -1,7 +1,8 @@
 // Bit vectors with one bit per document: document `i` has bit `i % 64` of word `i / 64`, and the bits past the last
 // document are 0.
-ghost use Rattle.std.specs.Prelude.{◌≡◌, ℕ, ◌<◌, ◌*◌, List, Bool, true, false, IfOk, IsOkUnless, count_by, ◌==◌, drop};
-ghost use Rattle.std.specs.Prelude.{All, ◌||◌, length, map, replicate, slice_get, slice_index_or, slice_set, take};
+ghost use Rattle.std.specs.Prelude.{◌≡◌, ℕ, ◌<◌, ◌*◌, ◌^◌, ◌==◌, ◌&&◌, ◌||◌, List, Bool, true, false, IfOk, IsOkUnless};
+ghost use Rattle.std.specs.Prelude.{All, count_by, drop, length, map, not, replicate, slice_get, slice_index_or};
+ghost use Rattle.std.specs.Prelude.{slice_set, take};
 ghost use Rattle.std.specs.List.{list_all, list_any};
 ghost use Rattle.std.specs.Cmp.{bool_eq_equiv, partial_equiv_from_equiv};
 ghost use Rattle.std.specs.Cmp.Lexicographic.{pointwise, lists_per};
@@ -9,7 +10,9 @@ ghost use Rattle.std.proofs.lemmas.Cmp.{lists_equiv};
 ghost use Rattle.std.proofs.Math.Bool.{beq};
 ghost use Rattle.fts_pack.specs.bits.Digits.{numbers_in, words_of};
 ghost use Rattle.fts_pack.specs.bits.Bits.{AreCounted, flags, marks, number_of};
+ghost use Rattle.fts_pack.specs.bits.Changes.{AreChanged, changed};
 
+use crate::bits::change::Change;
 use crate::bits::widths;
 use fts_base::{Refusal, release};
 use std::alloc::{AllocError, Global};
@@ -191,6 +194,62 @@ impl Bits {
         ensures { result ≡ number_of (take 64 (drop (64 * index) self.now)) }
     {
         self.words.get(index).copied().unwrap_or(0)
+    }
+
+    /// ANDs the words from an index on into others, which tell documents as these do.
+    #[inline]
+    pub fn and_into(&self, index: usize, words: &mut [u64])
+        requires { index < 2 ^ 58 }
+        ensures { AreChanged (λ doc told. told && slice_index_or self.now doc false) index words.old words.new }
+    {
+        self.change(Change::And, index, words);
+    }
+
+    /// ORs the words from an index on into others.
+    #[inline]
+    pub fn or_into(&self, index: usize, words: &mut [u64])
+        requires { index < 2 ^ 58 }
+        ensures { AreChanged (λ doc told. told || slice_index_or self.now doc false) index words.old words.new }
+    {
+        self.change(Change::Or, index, words);
+    }
+
+    /// Clears in other words the bits that are set in the words from an index on.
+    #[inline]
+    pub fn and_not_into(&self, index: usize, words: &mut [u64])
+        requires { index < 2 ^ 58 }
+        ensures { AreChanged (λ doc told. told && not (slice_index_or self.now doc false)) index words.old words.new }
+    {
+        self.change(Change::AndNot, index, words);
+    }
+
+    /// Changes other words by those from an index on. If there are enough, no bound is tested, so that LLVM vectorizes
+    /// the loop.
+    #[inline(always)]
+    fn change(&self, change: Change, index: usize, words: &mut [u64])
+        requires { index < 2 ^ 58 }
+        ensures { AreChanged (λ doc told. changed change told (slice_index_or self.now doc false))
+            index words.old words.new }
+    {
+        if self.words.len().saturating_sub(index) < words.len() {
+            self.change_last(change, index, words);
+            return;
+        }
+        for place in 0..words.len() {
+            words[place] = change.of(words[place], self.words[index + place]);
+        }
+    }
+
+    /// Changes other words by those from an index on; a missing word counts as 0.
+    #[inline(never)]
+    fn change_last(&self, change: Change, index: usize, words: &mut [u64])
+        requires { index < 2 ^ 58 }
+        ensures { AreChanged (λ doc told. changed change told (slice_index_or self.now doc false))
+            index words.old words.new }
+    {
+        for place in 0..words.len() {
+            words[place] = change.of(words[place], self.word(index + place));
+        }
     }
 
     /// The number of set bits. It is maintained on every change, so this is O(1).
