@@ -32,10 +32,13 @@ fn built(trial: &mut Trial, case: &Value) -> Option<Column> {
 /// The width of a column, and the words that hold its values.
 fn column_words(trial: &mut Trial, case: &Value) {
     if let Some(column) = built(trial, case) {
-        trial.open_object();
-        name_words(trial, column.width());
-        trial.give_stamps(column.words());
-        trial.close_object();
+        let packed = column.packed(trial.alloc());
+        if let Some((width, words)) = trial.kept(packed) {
+            trial.open_object();
+            name_words(trial, width);
+            trial.give_stamps(&words);
+            trial.close_object();
+        }
     }
 }
 

@@ -8,10 +8,9 @@ use Rattle.std.proofs.lemmas.List.{get_or-take}
 use Rattle.std.proofs.lemmas.List.Elements.{All-push, Contains-append_left, Contains-push}
 use Rattle.std.proofs.lemmas.Nat.{pow_pos}
 use Rattle.std.proofs.lemmas.Bool.{cases_lt}
-use Rattle.fts_pack.specs.bits.Digits.{IsWidthOf, numbers_in, words_of}
+use Rattle.fts_pack.specs.bits.Digits.{IsWidthOf}
 use Rattle.fts_pack.specs.column.Column.{HaveOffsets, IsColumn, IsRangeOf, range_with, least_of, spread_of, offsets, values_at}
 use Rattle.fts_pack.specs.column.OffsetArray.{AreLanesOf}
-use Rattle.fts_pack.proofs.PackingLemmas.{Below-from_all, numbers_in-words_of, length-numbers_in}
 
 pub IsRangeOf-missing : (values : List (Option ℕ)) (range : Option (ℕ × ℕ)) → IsRangeOf values range → IsRangeOf (values ++ None ∷ []) range
 IsRangeOf-missing values None h = All-push (λ v. v ≡ None) values None h refl
@@ -138,24 +137,21 @@ spread_fits : (range : Option (ℕ × ℕ)) → IfSome range (λ r. r.1 < 2 ^ 64
 spread_fits None h = pow_pos 64
 spread_fits (Some range) h = omega (arith, h)
 
--- a column's fields give back the packed values
-pub column_values : (values : List (Option ℕ)) (range : Option (ℕ × ℕ)) (present : List Bool) (width : ℕ) (words : List ℕ) → IsRangeOf values range →
-    present ≡ map is_some values → spread_of range < 2 ^ width → words ≡ words_of 64 width (offsets (least_of range) values) →
-    values_at (least_of range) present (numbers_in 64 width (length present) words) ≡ values
-column_values values range present width words r present_is small words_are =
-    let least = least_of range in
-    let numbers = offsets least values in
-    let count : length present ≡ length numbers = ap length present_is ∙ length-map values is_some
-    ∙ sym (length-map values (λ v. option_map_or (λ x. x - least) v 0)) in
-    let again : numbers_in 64 width (length present) words ≡ numbers = ap₂ (λ n ws. numbers_in 64 width n ws) count words_are
-    ∙ numbers_in-words_of 64 width numbers (omega arith) (Below-from_all width numbers (offsets_fit values range width r small)) in
-    ap₂ (λ bits xs. values_at least bits xs) present_is again ∙ values_at-offsets least values (above_least values range r)
+-- numbers past those of the presence bits don't matter
+values_at-take : (least : ℕ) (present : List Bool) (numbers : List ℕ) → values_at least present (take (length present) numbers) ≡ values_at least present numbers
+values_at-take least [] numbers = refl
+values_at-take least (bit ∷ present) [] = refl
+values_at-take least (bit ∷ present) (x ∷ numbers) = ap (λ xs. cond bit (Some (least + x)) None ∷ xs) (values_at-take least present numbers)
 
-pub length-values_at : (least : ℕ) (present : List Bool) (numbers : List ℕ) → length numbers ≡ length present →
-    length (values_at least present numbers) ≡ length present
-length-values_at least [] numbers h = refl
-length-values_at least (bit ∷ present) [] h = absurd (omega (arith, h))
-length-values_at least (bit ∷ present) (x ∷ numbers) h = ap suc (length-values_at least present numbers (omega (arith, h)))
+-- a column's fields give back its values
+pub column_values : (values : List (Option ℕ)) (range : Option (ℕ × ℕ)) (present : List Bool) (lanes : List ℕ) → IsRangeOf values range →
+    present ≡ map is_some values → AreLanesOf (offsets (least_of range) values) lanes → values_at (least_of range) present lanes ≡ values
+column_values values range present lanes r present_is lanes_are =
+    let least = least_of range in
+    let count : length present ≡ length (offsets least values) = ap length present_is ∙ length-map values is_some ∙ sym (length-offsets least values) in
+    sym (values_at-take least present lanes)
+    ∙ ap₂ (λ bits xs. values_at least bits xs) present_is (ap (λ n. take n lanes) count ∙ lanes_are.first)
+    ∙ values_at-offsets least values (above_least values range r)
 
 -- the presence bits of one more document
 pub presence_more : (values : List (Option ℕ)) (doc : ℕ) → doc < length values →
@@ -187,10 +183,21 @@ presence_set values present doc inside h there =
     ∙ set_at (map is_some (take doc values)) false (replicate (length values - (doc + 1)) false) true doc front
     ∙ ap (λ b. map is_some (take doc values) ++ b ∷ replicate (length values - (doc + 1)) false) (sym there) ∙ sym (presence_more values doc inside)
 
-pub column_length : (values : List (Option ℕ)) (least : ℕ) (present : List Bool) (width : ℕ) (words : List ℕ) →
-    values_at least present (numbers_in 64 width (length present) words) ≡ values → length values ≡ length present
-column_length values least present width words view =
-    ap length (sym view) ∙ length-values_at least present (numbers_in 64 width (length present) words) (length-numbers_in 64 width (length present) words)
+pub column_length : (shown values : List (Option ℕ)) (range : Option (ℕ × ℕ)) (present : List Bool) (lanes : List ℕ) → shown ≡ values →
+    IsColumn shown range present lanes → length values ≡ length present
+column_length shown values range present lanes view h =
+    ap length (sym view) ∙ sym (ap length h.present_is ∙ length-map shown is_some)
+
+pub column_present : (shown values : List (Option ℕ)) (range : Option (ℕ × ℕ)) (present : List Bool) (lanes : List ℕ) → shown ≡ values →
+    IsColumn shown range present lanes → map is_some values ≡ present
+column_present shown values range present lanes view h = ap (map is_some) (sym view) ∙ sym h.present_is
+
+-- the first elements are the offsets of all values
+pub column_offsets : (shown values : List (Option ℕ)) (range : Option (ℕ × ℕ)) (present : List Bool) (lanes : List ℕ) → shown ≡ values →
+    IsColumn shown range present lanes → (count : ℕ) → count ≡ length values → take count lanes ≡ offsets (least_of range) values
+column_offsets shown values range present lanes view h count all =
+    let least = least_of range in
+    ap (λ n. take n lanes) (all ∙ sym (ap length view) ∙ sym (length-offsets least shown)) ∙ h.lanes_are.first ∙ ap (offsets least) view
 
 -- a present value is within the range
 pub within_range : (values : List (Option ℕ)) (range : ℕ × ℕ) (i x : ℕ) → IsRangeOf values (Some range) → i < length values → get_or values i None ≡ Some x →
@@ -205,94 +212,6 @@ none_in values i h = elim (cases_lt i (length values)) [ inl inside ↦ h i None
 only_one : (x width k d : ℕ) → x < 2 ^ width → k < length (x ∷ []) → get_or (x ∷ []) k d < 2 ^ width
 only_one x width zero d small inside = small
 only_one x width (suc k) d small inside = absurd (omega arith)
-
-pub IsColumn-built : (values : List (Option ℕ)) (range : Option (ℕ × ℕ)) (width : ℕ) (words lanes : List ℕ) → length values ≤ 2 ^ 32 → IsRangeOf values range →
-    IfSome range (λ r. r.1 < 2 ^ 64) → spread_of range < 2 ^ width → ((other : ℕ) → spread_of range < 2 ^ other → width ≤ other) →
-    words ≡ words_of 64 width (offsets (least_of range) values) → AreLanesOf (offsets (least_of range) values) lanes → IsColumn values range width words lanes
-IsColumn-built values range width words lanes few range_is fits holds least words_are lanes_are = record {
-  few = few;
-  range_is = range_is;
-  range_fits = fits;
-  width_within = least 64 (spread_fits range fits);
-  width_is = record {
-    holds = λ k d inside. only_one (spread_of range) width k d holds inside;
-    least = λ other each. least other (each 0 0 (lit< tt));
-  };
-  words_are = words_are;
-  lanes_are = lanes_are;
-}
-
--- a present value fits its bits
-pub value_fits : (values : List (Option ℕ)) (range : Option (ℕ × ℕ)) (i least greatest x : ℕ) → IsRangeOf values range → IfSome range (λ r. r.1 < 2 ^ 64) →
-    range ≡ Some (least, greatest) → i < length values → get_or values i None ≡ Some x → x < 2 ^ 64
-value_fits values None i least greatest x h fits e inside at = absurd (cc)
-value_fits values (Some range) i least greatest x h fits e inside at =
-    omega (arith, within_range values range i x h inside at, fits)
-
--- the element of a present value is its offset
-lane_is : (v : Option ℕ) (least lane : ℕ) → IfSome v (λ x. least ≤ x) → lane ≡ option_map_or (λ x. x - least) v 0 →
-    IfSome v (λ x. (least ≤ x) × (least + lane ≡ x))
-lane_is None least lane above e = tt
-lane_is (Some x) least lane above e = (above, omega (arith, above, e))
-
-pub lane_at : (values : List (Option ℕ)) (range : Option (ℕ × ℕ)) (width : ℕ) (words lanes : List ℕ) → IsColumn values range width words lanes → (i : ℕ) →
-    i < length values → get_or lanes i 0 ≡ option_map_or (λ x. x - least_of range) (get_or values i None) 0
-lane_at values range width words lanes h i inside =
-    let least = least_of range in
-    let numbers = offsets least values in
-    let near : i < length numbers = omega (arith, inside, length-offsets least values) in
-    sym (get_or-take (length numbers) lanes i 0 near) ∙ ap (λ xs. get_or xs i 0) h.lanes_are.first ∙ offset_at least i 0 values inside
-
-pub lane_there : (values : List (Option ℕ)) (range : Option (ℕ × ℕ)) (width : ℕ) (words lanes : List ℕ) → IsColumn values range width words lanes → (i : ℕ) →
-    IfSome (get_or values i None) (λ x. (least_of range ≤ x) × (least_of range + get_or lanes i 0 ≡ x))
-lane_there values range width words lanes h i = elim (cases_lt i (length values)) [
-  | inr past ↦ (rw (get_or_past values i None past) tt)
-  | inl inside ↦ lane_is (get_or values i None) (least_of range) (get_or lanes i 0) (above_least values range h.range_is i None inside)
-      (lane_at values range width words lanes h i inside)
-]
-
--- the array has an element for each document, and up to a multiple of 64
-pub lane_inside : (values : List (Option ℕ)) (range : Option (ℕ × ℕ)) (width : ℕ) (words lanes : List ℕ) → IsColumn values range width words lanes → (i : ℕ) →
-    i < length values → i < length lanes
-lane_inside values range width words lanes h i inside = omega (arith, inside, h.lanes_are.enough, length-offsets (least_of range) values)
-
-pub lane_each : (range : Option (ℕ × ℕ)) (width : ℕ) (words lanes : List ℕ) (present : List Bool) →
-    IsColumn (values_at (least_of range) present (numbers_in 64 width (length present) words)) range width words lanes → length present ≤ length lanes
-lane_each range width words lanes present h =
-    let values = values_at (least_of range) present (numbers_in 64 width (length present) words) in
-    omega (arith, h.lanes_are.enough, length-offsets (least_of range) values, column_length values (least_of range) present width words refl)
-
-pub stretch_inside : (values : List (Option ℕ)) (range : Option (ℕ × ℕ)) (width : ℕ) (words lanes : List ℕ) → IsColumn values range width words lanes →
-    (from : ℕ) → from % 64 ≡ 0 → from < length values → from + 64 ≤ length lanes
-stretch_inside values range width words lanes h from aligned inside =
-    omega (arith, aligned, h.lanes_are.whole, lane_inside values range width words lanes h from inside)
-
--- the presence bit says whether there is a value
-pub presence-at : (values : List (Option ℕ)) (i : ℕ) → get_or (map is_some values) i false ≡ is_some (get_or values i None)
-presence-at [] i = refl
-presence-at (v ∷ values) zero = refl
-presence-at (v ∷ values) (suc i) = presence-at values i
-
-some_of : (v : Option ℕ) (least lane : ℕ) → IfSome v (λ x. (least ≤ x) × (least + lane ≡ x)) → is_some v ≡ true → v ≡ Some (least + lane)
-some_of None least lane h there = absurd (cc)
-some_of (Some x) least lane h there = ap Some (sym h.1)
-
-none_of : (v : Option ℕ) → is_some v ≡ false → v ≡ None
-none_of None missing = refl
-none_of (Some x) missing = absurd (cc)
-
-pub value_there : (values : List (Option ℕ)) (range : Option (ℕ × ℕ)) (width : ℕ) (words lanes : List ℕ) (present : List Bool) (least i : ℕ) →
-    IsColumn values range width words lanes → map is_some values ≡ present → least_of range ≡ least → get_or present i false ≡ true →
-    get_or values i None ≡ Some (least + get_or lanes i 0)
-value_there values range width words lanes present least i h present_is least_is there =
-    some_of (get_or values i None) least (get_or lanes i 0) (subst (λ n. IfSome (get_or values i None) (λ x. (n ≤ x) × (n + get_or lanes i 0 ≡ x))) least_is
-    (lane_there values range width words lanes h i))
-    (sym (presence-at values i) ∙ ap (λ bits. get_or bits i false) present_is ∙ there)
-
-pub value_missing : (values : List (Option ℕ)) (present : List Bool) (i : ℕ) → map is_some values ≡ present → get_or present i false ≡ false →
-    get_or values i None ≡ None
-value_missing values present i present_is missing =
-    none_of (get_or values i None) (sym (presence-at values i) ∙ ap (λ bits. get_or bits i false) present_is ∙ missing)
 
 -- an optional value can't be both none and some
 none_is_some : (v : Option ℕ) (x : ℕ) → v ≡ None → v ≡ Some x → ⊥
@@ -313,26 +232,80 @@ range_unique values (Some a) (Some b) h g =
     let high : a.1 ≡ b.1 = omega (arith, (bounds_at values a.0 a.1 b.1 g.1 h.2).1, (bounds_at values b.0 b.1 a.1 h.1 g.2).1) in
     ap₂ (λ x y. Some (x, y)) low high
 
-pub width_unique : (numbers : List ℕ) (a b : ℕ) → IsWidthOf numbers a → IsWidthOf numbers b → a ≡ b
-width_unique numbers a b h g = omega (arith, h.least b g.holds, g.least a h.holds)
+-- the width of the spread
+pub IsWidthOf-spread : (values : List (Option ℕ)) (kept : Option (ℕ × ℕ)) (width : ℕ) → IsRangeOf values kept → spread_of kept < 2 ^ width →
+    ((other : ℕ) → spread_of kept < 2 ^ other → width ≤ other) → (range : Option (ℕ × ℕ)) → IsRangeOf values range → IsWidthOf (spread_of range ∷ []) width
+IsWidthOf-spread values kept width kept_is holds least range is =
+    subst (λ r. IsWidthOf (spread_of r ∷ []) width) (range_unique values kept range kept_is is) (record {
+      holds = λ k d inside. only_one (spread_of kept) width k d holds inside;
+      least = λ other each. least other (each 0 0 (lit< tt));
+    })
 
-pub presence-values_at : (least : ℕ) (present : List Bool) (numbers : List ℕ) → length numbers ≡ length present →
-    map is_some (values_at least present numbers) ≡ present
-presence-values_at least [] numbers h = refl
-presence-values_at least (bit ∷ present) [] h = absurd (omega (arith, h))
-presence-values_at least (true ∷ present) (x ∷ numbers) h = ap (λ bits. true ∷ bits) (presence-values_at least present numbers (omega (arith, h)))
-presence-values_at least (false ∷ present) (x ∷ numbers) h = ap (λ bits. false ∷ bits) (presence-values_at least present numbers (omega (arith, h)))
+-- a present value fits its bits
+pub value_fits : (values : List (Option ℕ)) (range : Option (ℕ × ℕ)) (i least greatest x : ℕ) → IsRangeOf values range → IfSome range (λ r. r.1 < 2 ^ 64) →
+    range ≡ Some (least, greatest) → i < length values → get_or values i None ≡ Some x → x < 2 ^ 64
+value_fits values None i least greatest x h fits e inside at = absurd (cc)
+value_fits values (Some range) i least greatest x h fits e inside at =
+    omega (arith, within_range values range i x h inside at, fits)
 
--- the layout of a column is determined by its values
-pub column_width : (values : List (Option ℕ)) (kept : Option (ℕ × ℕ)) (width : ℕ) (words lanes : List ℕ) → IsColumn values kept width words lanes →
-    (range : Option (ℕ × ℕ)) → IsRangeOf values range → IsWidthOf (spread_of range ∷ []) width
-column_width values kept width words lanes h range is =
-    subst (λ r. IsWidthOf (spread_of r ∷ []) width) (range_unique values kept range h.range_is is) h.width_is
+-- the element of a present value is its offset
+lane_is : (v : Option ℕ) (least lane : ℕ) → IfSome v (λ x. least ≤ x) → lane ≡ option_map_or (λ x. x - least) v 0 →
+    IfSome v (λ x. (least ≤ x) × (least + lane ≡ x))
+lane_is None least lane above e = tt
+lane_is (Some x) least lane above e = (above, omega (arith, above, e))
 
-pub column_words : (values : List (Option ℕ)) (kept : Option (ℕ × ℕ)) (width : ℕ) (words lanes : List ℕ) → IsColumn values kept width words lanes →
-    (range : Option (ℕ × ℕ)) (other : ℕ) → IsRangeOf values range → IsWidthOf (spread_of range ∷ []) other →
-    words ≡ words_of 64 other (offsets (least_of range) values)
-column_words values kept width words lanes h range other is wide =
-    let same = range_unique values kept range h.range_is is in
-    let one = width_unique (spread_of range ∷ []) width other (column_width values kept width words lanes h range is) wide in
-    h.words_are ∙ ap₂ (λ w r. words_of 64 w (offsets (least_of r) values)) one same
+pub lane_at : (values : List (Option ℕ)) (range : Option (ℕ × ℕ)) (present : List Bool) (lanes : List ℕ) → IsColumn values range present lanes → (i : ℕ) →
+    i < length values → get_or lanes i 0 ≡ option_map_or (λ x. x - least_of range) (get_or values i None) 0
+lane_at values range present lanes h i inside =
+    let least = least_of range in
+    let numbers = offsets least values in
+    let near : i < length numbers = omega (arith, inside, length-offsets least values) in
+    sym (get_or-take (length numbers) lanes i 0 near) ∙ ap (λ xs. get_or xs i 0) h.lanes_are.first ∙ offset_at least i 0 values inside
+
+pub lane_there : (values : List (Option ℕ)) (range : Option (ℕ × ℕ)) (present : List Bool) (lanes : List ℕ) → IsColumn values range present lanes → (i : ℕ) →
+    IfSome (get_or values i None) (λ x. (least_of range ≤ x) × (least_of range + get_or lanes i 0 ≡ x))
+lane_there values range present lanes h i = elim (cases_lt i (length values)) [
+  | inr past ↦ (rw (get_or_past values i None past) tt)
+  | inl inside ↦ lane_is (get_or values i None) (least_of range) (get_or lanes i 0) (above_least values range h.range_is i None inside)
+      (lane_at values range present lanes h i inside)
+]
+
+-- the array has an element for each document, and up to a multiple of 64
+pub lane_inside : (values : List (Option ℕ)) (range : Option (ℕ × ℕ)) (present : List Bool) (lanes : List ℕ) → IsColumn values range present lanes → (i : ℕ) →
+    i < length values → i < length lanes
+lane_inside values range present lanes h i inside = omega (arith, inside, h.lanes_are.enough, length-offsets (least_of range) values)
+
+pub lane_each : (values : List (Option ℕ)) (range : Option (ℕ × ℕ)) (present : List Bool) (lanes : List ℕ) → IsColumn values range present lanes →
+    length present ≤ length lanes
+lane_each values range present lanes h =
+    omega (arith, h.lanes_are.enough, length-offsets (least_of range) values, ap length h.present_is, length-map values is_some)
+
+pub stretch_inside : (values : List (Option ℕ)) (range : Option (ℕ × ℕ)) (present : List Bool) (lanes : List ℕ) → IsColumn values range present lanes →
+    (from : ℕ) → from % 64 ≡ 0 → from < length values → from + 64 ≤ length lanes
+stretch_inside values range present lanes h from aligned inside =
+    omega (arith, aligned, h.lanes_are.whole, lane_inside values range present lanes h from inside)
+
+-- the presence bit says whether there is a value
+pub presence-at : (values : List (Option ℕ)) (i : ℕ) → get_or (map is_some values) i false ≡ is_some (get_or values i None)
+presence-at [] i = refl
+presence-at (v ∷ values) zero = refl
+presence-at (v ∷ values) (suc i) = presence-at values i
+
+some_of : (v : Option ℕ) (least lane : ℕ) → IfSome v (λ x. (least ≤ x) × (least + lane ≡ x)) → is_some v ≡ true → v ≡ Some (least + lane)
+some_of None least lane h there = absurd (cc)
+some_of (Some x) least lane h there = ap Some (sym h.1)
+
+none_of : (v : Option ℕ) → is_some v ≡ false → v ≡ None
+none_of None missing = refl
+none_of (Some x) missing = absurd (cc)
+
+pub value_there : (values : List (Option ℕ)) (range : Option (ℕ × ℕ)) (present : List Bool) (lanes : List ℕ) (least i : ℕ) →
+    IsColumn values range present lanes → least_of range ≡ least → get_or present i false ≡ true → get_or values i None ≡ Some (least + get_or lanes i 0)
+value_there values range present lanes least i h least_is there =
+    some_of (get_or values i None) least (get_or lanes i 0) (subst (λ n. IfSome (get_or values i None) (λ x. (n ≤ x) × (n + get_or lanes i 0 ≡ x))) least_is
+    (lane_there values range present lanes h i)) (sym (presence-at values i) ∙ ap (λ bits. get_or bits i false) (sym h.present_is) ∙ there)
+
+pub value_missing : (values : List (Option ℕ)) (present : List Bool) (i : ℕ) → map is_some values ≡ present → get_or present i false ≡ false →
+    get_or values i None ≡ None
+value_missing values present i present_is missing =
+    none_of (get_or values i None) (sym (presence-at values i) ∙ ap (λ bits. get_or bits i false) present_is ∙ missing)

@@ -1,6 +1,6 @@
 -- Documents counted one by one.
 use Rattle.std.proofs.Common.{◌≡◌, ℕ, ◌+◌, ◌-◌, ◌*◌, ◌/◌, ◌%◌, ◌^◌, ◌<◌, ◌≤◌, Bool, true, false, cond, slice_get, Option, Some, None, IfSome}
-use Rattle.std.proofs.Common.{Contains, is_some, map, drop, List, [], ◌∷◌, length, take, set, get_or, count_by, refl, sym, ap, ap₂, ◌∙◌, subst, inl, inr, arith}
+use Rattle.std.proofs.Common.{Contains, map, drop, List, [], ◌∷◌, length, take, set, get_or, count_by, refl, sym, ap, ap₂, ◌∙◌, subst, inl, inr, arith}
 use Rattle.std.proofs.Common.{mod-eq_of_lt}
 use Rattle.std.proofs.Math.Nat.{add-mul-mod_self_left, mod-add-div}
 use Rattle.std.proofs.lemmas.Bool.{cases_Bool, cases_eq, cases_lt, eq-eqb, ne_eqb}
@@ -11,13 +11,11 @@ use Rattle.std.proofs.lemmas.Option.{slice_get-get_or, slice_get_past}
 use Rattle.std.proofs.lemmas.List.Sums.{count_by_more_no, count_by_more_yes, sum_by-cons}
 use borrow.Rule.Slice.PartMut.{put_mid}
 use Rattle.std.specs.Option.{option_map, option_map_or}
-use Rattle.fts_pack.specs.bits.Digits.{numbers_in}
-use Rattle.fts_pack.proofs.PackingLemmas.{length-numbers_in}
-use Rattle.fts_pack.specs.column.Column.{IsColumn, least_of, values_at}
+use Rattle.fts_pack.specs.column.Column.{IsColumn, least_of}
 use Rattle.fts_pack.specs.column.Counts.{AreCounted, AreWithin, having, is_value}
 use Rattle.fts_pack.specs.column.OffsetArray.{number_at}
 use Rattle.fts_pack.proofs.BitsLemmas.{each_set}
-use Rattle.fts_pack.proofs.ColumnLemmas.{above_least, lane_at, presence-values_at, value_missing, value_there}
+use Rattle.fts_pack.proofs.ColumnLemmas.{above_least, lane_at, value_missing, value_there}
 
 -- a remainder plus a number has the remainder of the sum
 pub mod-add : (a b m : ℕ) → (a % m + b) % m ≡ (a + b) % m
@@ -116,26 +114,24 @@ place_in None least count first lane here within above is = omega (arith, here.0
 place_in (Some x) least count first lane here within above is = omega (arith, here.0, here.1, within.0, within.1, above, is)
 
 -- each element is an index in the counts, whether its document has a value or not
-pub lane_within : (values : List (Option ℕ)) (range : Option (ℕ × ℕ)) (width : ℕ) (words lanes : List ℕ) → IsColumn values range width words lanes →
+pub lane_within : (values : List (Option ℕ)) (range : Option (ℕ × ℕ)) (present : List Bool) (lanes : List ℕ) → IsColumn values range present lanes →
     (least count first doc : ℕ) → least_of range ≡ first → (least ≤ first) × (first < least + count) → AreWithin values least count → doc < length values →
     get_or lanes doc 0 < count - (first - least)
-lane_within values range width words lanes h least count first doc first_is here within inside =
+lane_within values range present lanes h least count first doc first_is here within inside =
     place_in (get_or values doc None) least count first (get_or lanes doc 0) here (within doc None inside)
     (subst (λ n. IfSome (get_or values doc None) (λ x. n ≤ x)) first_is (above_least values range h.range_is doc None inside))
-    (lane_at values range width words lanes h doc inside ∙ ap (λ n. option_map_or (λ x. x - n) (get_or values doc None) 0) first_is)
+    (lane_at values range present lanes h doc inside ∙ ap (λ n. option_map_or (λ x. x - n) (get_or values doc None) 0) first_is)
 
 -- the value of a document is the least plus its element
-pub value_of_number : (values : List (Option ℕ)) (range : Option (ℕ × ℕ)) (width : ℕ) (words lanes : List ℕ) (present : List Bool) (first doc : ℕ) →
-    values_at (least_of range) present (numbers_in 64 width (length present) words) ≡ values →
-    IsColumn (values_at (least_of range) present (numbers_in 64 width (length present) words)) range width words lanes → least_of range ≡ first →
-    get_or values doc None ≡ option_map (λ n. first + n) (number_at present lanes doc)
-value_of_number values range width words lanes present first doc view column first_is =
-    let h : IsColumn values range width words lanes = subst (λ v. IsColumn v range width words lanes) view column in
-    let there : map is_some values ≡ present = ap (map is_some) (sym view) ∙ presence-values_at _ _ _ (length-numbers_in 64 width _ words) in
+pub value_of_number : (shown values : List (Option ℕ)) (range : Option (ℕ × ℕ)) (present : List Bool) (lanes : List ℕ) (first doc : ℕ) → shown ≡ values →
+    IsColumn shown range present lanes → least_of range ≡ first → get_or values doc None ≡ option_map (λ n. first + n) (number_at present lanes doc)
+value_of_number shown values range present lanes first doc view column first_is =
+    let h : IsColumn values range present lanes = subst (λ v. IsColumn v range present lanes) view column in
     elim (cases_Bool (get_or present doc false)) [
-      | inl set ↦ value_there values range width words lanes present first doc h there first_is set
+      | inl set ↦ value_there values range present lanes first doc h first_is set
           ∙ sym (ap (option_map (λ n. first + n)) (number_at-set present lanes doc set))
-      | inr clear ↦ value_missing values present doc there clear ∙ sym (ap (option_map (λ n. first + n)) (number_at-clear present lanes doc clear))
+      | inr clear ↦ value_missing values present doc (sym h.present_is) clear
+          ∙ sym (ap (option_map (λ n. first + n)) (number_at-clear present lanes doc clear))
     ]
 
 -- a value's index, counted from the first value or from the least

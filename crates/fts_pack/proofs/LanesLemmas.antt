@@ -193,18 +193,17 @@ pub none_below : (v : Option ℕ) (least low high lane : ℕ) → high < least �
 none_below None least low high lane under h = refl
 none_below (Some x) least low high lane under h = let over : least ≤ x = h.0 in grind arith
 
-pub marked_values : (values : List (Option ℕ)) (range : Option (ℕ × ℕ)) (width : ℕ) (words lanes : List ℕ) (present : List Bool)
-    (least from low high found word : ℕ) → IsColumn values range width words lanes → map is_some values ≡ present → least_of range ≡ least → least ≤ high →
-    from % 64 ≡ 0
+pub marked_values : (values : List (Option ℕ)) (range : Option (ℕ × ℕ)) (present : List Bool) (lanes : List ℕ)
+    (least from low high found word : ℕ) → IsColumn values range present lanes → least_of range ≡ least → least ≤ high → from % 64 ≡ 0
     → AreMarked (drop from lanes) (low - least) (high - least) found → word ≡ number_of (take 64 (drop (64 * (from / 64)) present))
     → (k : ℕ) → k < 64 → (bit_at (bit_and found word) k == 1) ≡ is_within low high (get_or values (from + k) None)
-marked_values values range width words lanes present least from low high found word h there least_is order aligned found_is word_is k lt =
+marked_values values range present lanes least from low high found word h least_is order aligned found_is word_is k lt =
     let start : 64 * (from / 64) ≡ from = omega (arith, aligned) in
     let v = get_or values (from + k) None in
     let lane = get_or lanes (from + k) 0 in
     let bit : (bit_at (bit_and found word) k == 1) ≡ ((bit_at word k == 1) && (bit_at found k == 1)) =
     ap (λ n. n == 1) (bit_at_and found word k) ∙ both_one (bit_at found k) (bit_at word k) (bit_at-lt found k) (bit_at-lt word k) in
     bit ∙ one_place v least low high lane (bit_at word k == 1) (bit_at found k == 1) order
-    (subst (λ n. IfSome v (λ x. (n ≤ x) × (n + lane ≡ x))) least_is (lane_there values range width words lanes h (from + k)))
-    (present-at values present from word k there (word_is ∙ ap (λ n. number_of (take 64 (drop n present))) start) lt)
+    (subst (λ n. IfSome v (λ x. (n ≤ x) × (n + lane ≡ x))) least_is (lane_there values range present lanes h (from + k)))
+    (present-at values present from word k (sym h.present_is) (word_is ∙ ap (λ n. number_of (take 64 (drop n present))) start) lt)
     (found_is k lt ∙ ap (λ x. nat_le (low - least) x && nat_le x (high - least)) (get_or-drop from lanes k 0))

@@ -1,9 +1,7 @@
 -- A column: an optional value for each document.
 use Rattle.std.specs.Prelude.{◌≡◌, ℕ, ◌+◌, ◌-◌, ◌^◌, ◌<◌, ◌≤◌, ◌&&◌, nat_le, false, Bool, List, [], ◌∷◌, Option, Some}
-use Rattle.std.specs.Prelude.{None, All, Contains}
-use Rattle.std.specs.Prelude.{IfSome, length, map, max, min, if◌then◌else◌}
+use Rattle.std.specs.Prelude.{None, All, Contains, IfSome, is_some, length, map, max, min, if◌then◌else◌}
 use Rattle.std.specs.Option.{option_map_or}
-use Rattle.fts_pack.specs.bits.Digits.{IsWidthOf, words_of}
 use Rattle.fts_pack.specs.column.OffsetArray.{AreLanesOf}
 
 -- the least and greatest value, or none if there is no value
@@ -52,11 +50,9 @@ is_within low high (Some x) = nat_le low x && nat_le x high
 
 -- the fields of a column store these values
 pub record IsColumn
-    (values : List (Option ℕ)) (range : Option (ℕ × ℕ)) (width : ℕ) (words lanes : List ℕ) : Type 0 where
+    (values : List (Option ℕ)) (range : Option (ℕ × ℕ)) (present : List Bool) (lanes : List ℕ) : Type 0 where
   pub few : length values ≤ 2 ^ 32
   pub range_is : IsRangeOf values range
   pub range_fits : IfSome range (λ r. r.1 < 2 ^ 64)
-  pub width_within : width ≤ 64
-  pub width_is : IsWidthOf (spread_of range ∷ []) width
-  pub words_are : words ≡ words_of 64 width (offsets (least_of range) values)
+  pub present_is : present ≡ map is_some values
   pub lanes_are : AreLanesOf (offsets (least_of range) values) lanes

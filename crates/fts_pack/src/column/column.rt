@@ -1,15 +1,13 @@
-// One optional value per document. Each is stored as its offset from the least value, in as few bits as the greatest
-// offset needs, with a bit for presence. The offsets are stored again in an array of fixed-width integers, from which
-// values are read.
+// One optional value per document. Each is stored as its offset from the least value, in integers of one width, with a
+// bit for presence. `packed` gives the offsets in as few bits as the greatest needs.
 ghost use Rattle.std.specs.Prelude.{◌≡◌, ◌≤◌, ◌<◌, ◌+◌, ◌-◌, ◌*◌, ◌%◌, ◌^◌, ◌==◌, ℕ, List, [], ◌∷◌, Option, None};
 ghost use Rattle.std.specs.Prelude.{true, false, All, IfOk, IfSome, IsOkUnless, drop, is_some, length, map};
-ghost use Rattle.std.specs.Prelude.{slice_index, slice_index_or};
-ghost use Rattle.fts_pack.specs.bits.Digits.{IsWidthOf, numbers_in, words_of};
+ghost use Rattle.std.specs.Prelude.{slice_index, slice_index_or, take};
+ghost use Rattle.fts_pack.specs.bits.Digits.{IsWidthOf, words_of};
 ghost use Rattle.std.specs.Option.{option_map_or};
 ghost use Rattle.std.specs.Int.{bit_at};
 ghost use Rattle.fts_pack.specs.column.BlockRanges.{AreEndsOf, block_of, in_blocks};
-ghost use Rattle.fts_pack.specs.column.Column.{HaveOffsets, IsColumn, IsRangeOf, is_within, least_of, offsets};
-ghost use Rattle.fts_pack.specs.column.Column.{range_with};
+ghost use Rattle.fts_pack.specs.column.Column.{IsColumn, IsRangeOf, is_within, least_of, offsets, range_with};
 ghost use Rattle.fts_pack.specs.column.Column.{spread_of, values_at};
 ghost use Rattle.fts_pack.specs.column.Counts.{AreWithin, having};
 ghost use Rattle.fts_pack.specs.column.OffsetArray.{in_lanes};
@@ -17,45 +15,27 @@ ghost use Rattle.fts_pack.specs.column.OffsetArray.{in_lanes};
 use crate::bits::{Bits, widths};
 use crate::column::block_ranges::BlockRanges;
 use crate::column::offset_array::OffsetArray;
-use fts_base::{Refusal, release};
+use fts_base::Refusal;
 use std::alloc::{AllocError, Global};
 use std::marker::Model;
 
 /// An optional value for each document.
+#[derive(Drop)]
 pub struct Column {
     range: Option<(u64, u64)>,
-    width: u32,
     present: Bits,
-    words: Vec<u64>,
     lanes: OffsetArray,
     blocks: BlockRanges,
-}
-
-impl Drop for Column {
-    fn drop(self) {
-        let Column {
-            range: _,
-            width: _,
-            present: _,
-            words,
-            lanes: _,
-            blocks: _,
-        } = self;
-        release(words);
-    }
 }
 
 impl Model for Column {
     ghost Value = { List (Option ℕ) };
 
-    ghost view = { λ c. values_at (least_of c.range) c.present
-        (numbers_in 64 c.width (length c.present) c.words.items) };
+    ghost view = { λ c. values_at (least_of c.range) c.present (in_lanes c.lanes) };
 
-    ghost invariant = { λ c. IsColumn
-        (values_at (least_of c.range) c.present (numbers_in 64 c.width (length c.present) c.words.items))
-        c.range c.width c.words.items (in_lanes c.lanes)
-        × AreEndsOf (least_of c.range)
-        (values_at (least_of c.range) c.present (numbers_in 64 c.width (length c.present) c.words.items))
+    ghost invariant = { λ c. IsColumn (values_at (least_of c.range) c.present (in_lanes c.lanes)) c.range c.present
+        (in_lanes c.lanes)
+        × AreEndsOf (least_of c.range) (values_at (least_of c.range) c.present (in_lanes c.lanes))
         (in_blocks c.blocks) };
 }
 
@@ -66,10 +46,10 @@ impl Column {
         ensures ok { IfOk result (λ column. column ≡ values.now) }
         ensures memory { IsOkUnless result Refusal.Memory }
     {
-        Self::packed(alloc, values).map_err(|_| Refusal::Memory)
+        Self::of_values(alloc, values).map_err(|_| Refusal::Memory)
     }
 
-    fn packed(alloc: Global, values: &[Option<u64>]) -> Result<Column, AllocError>
+    fn of_values(alloc: Global, values: &[Option<u64>]) -> Result<Column, AllocError>
         requires { length values.now ≤ 2 ^ 32 }
         ensures { IfOk result (λ column. column ≡ values.now) }
     {
@@ -77,14 +57,11 @@ impl Column {
         let (least, greatest) = range.unwrap_or((0, 0));
         let width = widths::bit_length(greatest - least);
         let present = presence(alloc, values)?;
-        let words = packed_offsets(alloc, width, least, values)?;
         let lanes = OffsetArray::of_offsets(alloc, width, least, values)?;
         let blocks = BlockRanges::of_values(alloc, width, least, values)?;
         Ok(Column {
             range,
-            width,
             present,
-            words,
             lanes,
             blocks,
         })
@@ -199,20 +176,21 @@ impl Column {
         &self.present
     }
 
-    /// The number of bits of each stored offset.
-    pub fn width(&self) -> u32
-        ensures { (range : Option (ℕ × ℕ)) → IsRangeOf self.now range → IsWidthOf (spread_of range ∷ []) result }
+    /// The offsets from the least value as they are stated to be packed: the number of bits that the greatest needs, and
+    /// words with as many bits of each in turn. A missing value has the offset 0.
+    pub fn packed(&self, alloc: Global) -> Result<(u32, Vec<u64>), Refusal>
+        ensures width { IfOk result (λ p. (range : Option (ℕ × ℕ)) → IsRangeOf self.now range
+            → IsWidthOf (spread_of range ∷ []) p.0) }
+        ensures words { IfOk result (λ p. (range : Option (ℕ × ℕ)) → IsRangeOf self.now range
+            → p.1.items ≡ words_of 64 p.0 (offsets (least_of range) self.now)) }
+        ensures memory { IsOkUnless result Refusal.Memory }
     {
-        self.width
-    }
-
-    /// The words that the offsets are packed in.
-    pub fn words(&self) -> &[u64]
-        ensures { (range : Option (ℕ × ℕ)) (width : ℕ) → IsRangeOf self.now range
-            → IsWidthOf (spread_of range ∷ []) width
-            → result.now ≡ words_of 64 width (offsets (least_of range) self.now) }
-    {
-        &self.words
+        let (least, greatest) = self.range.unwrap_or((0, 0));
+        let width = widths::bit_length(greatest - least);
+        match packed_offsets(alloc, width, &self.lanes, self.len()) {
+            Ok(words) => Ok((width, words)),
+            Err(AllocError) => Err(Refusal::Memory),
+        }
     }
 }
 
@@ -253,23 +231,24 @@ fn presence(alloc: Global, values: &[Option<u64>]) -> Result<Bits, AllocError>
     Ok(present)
 }
 
-/// The packed offsets of the values from `least`.
+/// The first offsets of an array, this many, packed in words.
 fn packed_offsets(
     alloc: Global,
     width: u32,
-    least: u64,
-    values: &[Option<u64>],
+    lanes: &OffsetArray,
+    count: usize,
 ) -> Result<Vec<u64>, AllocError>
     requires narrow { width ≤ 64 }
-    requires offsets { HaveOffsets least width values.now }
-    ensures { IfOk result (λ words. words.items ≡ words_of 64 width (offsets least values.now)) }
+    requires few { count ≤ 2 ^ 32 }
+    requires enough { count ≤ length (in_lanes lanes.now) }
+    requires fits { All (λ x. x < 2 ^ width) (take count (in_lanes lanes.now)) }
+    ensures { IfOk result (λ words. words.items ≡ words_of 64 width (take count (in_lanes lanes.now))) }
 {
-    let count = widths::word_count_64(values.len() * width as usize);
-    let mut words = Vec::with_capacity(alloc, count)?;
+    let mut words = Vec::with_capacity(alloc, widths::word_count_64(count * width as usize))?;
     let mut pending = 0u128;
     let mut filled = 0u32;
-    for value in values {
-        pending |= u128::from(offset(least, *value)) << filled;
+    for doc in 0..count {
+        pending |= u128::from(lanes.at(doc)) << filled;
         filled += width;
         if filled >= 64 {
             words.push((pending & u128::from(u64::MAX)) as u64)?;

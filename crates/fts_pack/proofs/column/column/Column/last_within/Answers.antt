@@ -10,7 +10,7 @@ use Rattle.fts_pack.proofs.column.column.Column.last_within.Goals as goal
 pub last_within-requires : goal.last_within-requires
 last_within-requires c =
     let column = c.self.inside in
-    lane_each column.range column.width column.words.items (in_lanes column.lanes) column.present c.self.invariant.0
+    lane_each _ column.range column.present (in_lanes column.lanes) c.self.invariant.0
 
 told : (c : goal.After-last_within) → IsLastWithin (λ doc. get_or c.args.self.now doc None) c.args.low c.args.high c.args.docs.now c.last_within.result
 told c =
@@ -24,8 +24,7 @@ told c =
     let number = number_at column.present lanes in
     IsLastWithin-same number (λ doc. get_or values doc None) (low - least) (high - least) low high docs c.last_within.result
     (λ doc. is_within-above (number doc) least low high (omega (arith, c.if-high-least.false)) ∙ ap (is_within low high)
-    (sym (value_of_number values column.range column.width column.words.items lanes column.present least doc c.self.view_is c.self.invariant.0
-    (ap least_of c.in_ok-least.was))))
+    (sym (value_of_number _ values column.range column.present lanes least doc c.self.view_is c.self.invariant.0 (ap least_of c.in_ok-least.was))))
     (subst (λ above. IsLastWithin number above (high - least) docs c.last_within.result) c.saturating_sub-above.ensures c.last_within.ensures)
 
 pub returns : goal.returns
