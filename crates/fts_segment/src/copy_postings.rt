@@ -107,7 +107,8 @@ pub(crate) fn copy_postings(
     requires paired { length (listed list) ≡ length (position_lists_in positions) }
     requires numbered { All (λ doc. doc < length numbers.now) (listed list) }
     ensures same { lists_in lists.new ≡ lists_in lists.old }
-    ensures puts { OnOk result (Puts (moved numbers.now (postings_of (listed list.entry) (position_lists_in positions.entry)))
+    ensures puts { OnOk result (Puts
+        (moved numbers.now (postings_of (listed list.entry) (position_lists_in positions.entry)))
         docs.old.items log.old docs.new.items log.new) }
 {
     if let Some(first) = numbers.first() {
