@@ -83,7 +83,8 @@ HasRanked segment (Some top) docs top_k =
     }
 
 -- the first keys of these documents and of the last of more were kept, if a top list is asked for
-pub record HasRankedLast (segment : SegmentValue) (asked : Option Top) (docs more : List ℕ) (top_k : TopKValue) : Type 0 where
+pub record HasRankedLast (segment : SegmentValue) (asked : Option Top) (docs more : List ℕ) (top_k : TopKValue)
+    : Type 0 where
   pub passed : ℕ
   pub ranked : HasRanked segment asked (docs ++ drop passed more) top_k
 

@@ -1,6 +1,6 @@
 // The first hits of a segment, picked by their numbers in a column.
-ghost use Rattle.std.specs.Prelude.{◌≡◌, ◌+◌, ◌<◌, ◌/◌, ◌++◌, ◌∷◌, [], true, All, IfOk, IfSome, None, OnErr, OnOk, drop};
-ghost use Rattle.std.specs.Prelude.{length, map, slice_index};
+ghost use Rattle.std.specs.Prelude.{◌≡◌, ◌+◌, ◌<◌, ◌/◌, ◌++◌, ◌∷◌, [], true, All, IfOk, IfSome, None, OnErr, OnOk};
+ghost use Rattle.std.specs.Prelude.{drop, length, map, slice_index};
 ghost use Rattle.fts_model.specs.Queries.{is_number_field};
 ghost use Rattle.fts_segment.specs.Segments.{column};
 ghost use Rattle.fts_parts.specs.Ranks.{AreOfBlock, IsBeyond, Offers, OffersLast, best_rank, hit_of, rank_in};
