@@ -11,8 +11,8 @@ use Rattle.fts_cursor.specs.Most.{most_for_all}
 use Rattle.fts_cursor.specs.TreeValues.{TreeValue, all_most, remains}
 
 -- bits and cursors that have together what some queries find, and the cursors open no more than is said of the queries
-pub record AreShoulds (segment : SegmentValue) (qs : List Query) (bits : List (Bor (List Bool))) (parts : List TreeValue)
-    : Type 0 where
+pub record AreShoulds (segment : SegmentValue) (qs : List Query) (bits : List (Bor (List Bool)))
+    (parts : List TreeValue) : Type 0 where
   pub same : (d : ℕ) → in_some (map (λ q. segment_hits segment (query_value q)) qs) d
       ≡ (in_one bits d || in_some (remains parts) d)
   pub few : All (λ b. length b.now ≤ 2 ^ 32) bits
