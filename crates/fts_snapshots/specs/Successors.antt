@@ -50,6 +50,13 @@ follows_further a b c f g = record {
   next = le_trans f.next g.next;
   segments = λ e h l.
       let one = g.segments e h (lt_of_lt_of_le l f.next) in
-      let two = f.segments one.0 one.1 (subst (λ n. n < a.next_id) one.2.id l) in
-      (two.0, two.1, record { id = one.2.id ∙ two.2.id; segment = one.2.segment ∙ two.2.segment; live = λ n k. two.2.live n (one.2.live n k) });
+      let two = f.segments one.0 one.1 (subst (λ n. n < a.next_id) one.2.id l) in (
+        two.0,
+        two.1,
+        record {
+          id = one.2.id ∙ two.2.id;
+          segment = one.2.segment ∙ two.2.segment;
+          live = λ n k. two.2.live n (one.2.live n k);
+        },
+      );
 }
