@@ -1,6 +1,7 @@
 // The writer of an index: it opens rounds, commits their batches, merges segments, and publishes what these leave.
 ghost use Rattle.std.specs.Prelude.{◌≡◌, ◌+◌, ◌*◌, ◌^◌, ◌<◌, ◌≤◌, ◌⊎◌, ◌↔◌, ◌++◌, [], ◌∷◌, List, IsTrue, Some};
-ghost use Rattle.std.specs.Prelude.{None, Ok, Err, IfOk, IfErr, IfSome, OnOk, OnErr, IsOkUnless, map, length, option_map};
+ghost use Rattle.std.specs.Prelude.{None, Ok, Err, IfOk, IfErr, IfSome, OnOk, OnErr, IsOkUnless, map, length};
+ghost use Rattle.std.specs.Prelude.{option_map};
 ghost use Rattle.std.specs.List.{range_with_len};
 ghost use Rattle.fts_model.specs.Operations.{alive, adds};
 ghost use Rattle.fts_rounds.specs.Rounds.{fresh};
