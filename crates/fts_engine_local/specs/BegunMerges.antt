@@ -20,7 +20,8 @@ are_few entries = not (nat_lt most_merged (sum_by live_count entries))
 -- the segments of these numbers, if they can be merged
 abbrev pub job_of : List ℕ → List EntryValue → Option (List EntryValue)
 job_of ids entries =
-    if is_none (names_fault entries ids) && are_few (entries_at entries ids) then Some (entries_at entries ids) else None
+    if is_none (names_fault entries ids) && are_few (entries_at entries ids)
+    then Some (entries_at entries ids) else None
 
 -- the segments of the first of candidates that can be merged
 abbrev pub first_job : List (List ℕ) → List EntryValue → Option (List EntryValue)
@@ -35,5 +36,6 @@ due_job entries = first_job (candidate_ids_by (local_policy None) entries) entri
 -- sources, in which nothing is found differently, or a refusal.
 pub record EndsIn (job : List EntryValue) (s : SnapshotValue) (result : Result SnapshotValue Refusal) : Type 0 where
   pub snapshot :
-      Gives (λ new. new) result (ok_unless (end_fault s.next_id (merged_of job) s.entries) (after_end (merged_of job) s))
+      Gives (λ new. new) result
+      (ok_unless (end_fault s.next_id (merged_of job) s.entries) (after_end (merged_of job) s))
   pub content : IfOk result (λ new. content_of new ≡ content_of s)
