@@ -20,8 +20,10 @@ fn replies_to<R: AllocGlobal + Sync, E: EngineOver<R>>(rt: &R, text: &str) -> Re
     Ok(replies.into_bytes())
 }
 
-const SCRIPT: &str =
-    "{\"schema\":[{\"name\":\"title\",\"kind\":\"text\",\"default\":true}]}\n{\"add\":{\"title\":\"Programming Pearls\"}}\n{\"commit\":true}\n{\"search\":{\"query\":\"pearls\"}}\n";
+const SCRIPT: &str = "{\"schema\":[{\"name\":\"title\",\"kind\":\"text\",\"default\":true}]}\n\
+    {\"add\":{\"title\":\"Programming Pearls\"}}\n\
+    {\"commit\":true}\n\
+    {\"search\":{\"query\":\"pearls\"}}\n";
 
 fn main(rt: HostRuntime) -> ExitCode {
     match replies_to::<_, ListEngine>(&rt, SCRIPT) {
