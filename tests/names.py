@@ -45,7 +45,7 @@ OF_A_SUBJECT = {
 ITEM = re.compile(r"^(?:pub|pub\(crate\)|pub\(super\)) (?:const )?(fn|struct|enum|trait|type) (\w+)", re.MULTILINE)
 MODULE = re.compile(r"^(?:pub |pub\(crate\) )?mod \w+;", re.MULTILINE)
 OWNED = re.compile(r"^(?:pub |pub\(crate\) |pub\(super\) )?(?:struct|enum|trait|type) (\w+)", re.MULTILINE)
-COMMENT = re.compile(r"^\s*(?:///?|//!|--)\s*(The same|Of|,)\b", re.MULTILINE)
+COMMENT = re.compile(r"^\s*(?:///?|//!|--)\s*(The same\b|Of\b|,)", re.MULTILINE)
 
 
 def snake(name: str) -> str:
