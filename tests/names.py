@@ -3,8 +3,9 @@
 
     python3 tests/names.py
 
-A type's name has one owner. A file has a public item of its name: a type, or else a function whose name has the file's words. A
-comment doesn't begin with 'The same', 'Of' or a comma, since an editor shows each alone. The last line is 'N passed, M failed'.
+A type's name has one owner. A file's first public item has its name: it is a type, or else a function whose name has the file's
+words. Two lists excuse files, each for a reason. A comment doesn't begin with 'The same', 'Of' or a comma, since an editor shows
+each alone. The last line is 'N passed, M failed'.
 """
 from __future__ import annotations
 
@@ -42,6 +43,19 @@ OF_A_SUBJECT = {
     "fts_snapshots": {"entries/ids"},
     "fts_text": {"case_fold", "characters", "tokenizer"},
 }
+# Files whose item comes after what it is made of, types or functions that are smaller.
+AFTER_ITS_PARTS = {
+    "fts_cli": {"args"},
+    "fts_engine_local": {"begun_merge"},
+    "fts_model": {"answer", "document", "schema"},
+    "fts_parts": {"lent", "tally", "top", "top_k"},
+    "fts_pool": {"slots"},
+    "fts_query": {"clauses", "input", "meaning"},
+    "fts_rounds": {"lane", "stamps"},
+    "fts_script": {"command/command", "session/blank", "session/print", "session/reply"},
+    "fts_segment": {"segment", "term_groups", "term_log"},
+    "fts_snapshots": {"commits/batch_jobs", "commits/commit_job"},
+}
 ITEM = re.compile(r"^(?:pub|pub\(crate\)|pub\(super\)) (?:const )?(fn|struct|enum|trait|type) (\w+)", re.MULTILINE)
 MODULE = re.compile(r"^(?:pub |pub\(crate\) )?mod \w+;", re.MULTILINE)
 OWNED = re.compile(r"^(?:pub |pub\(crate\) |pub\(super\) )?(?:struct|enum|trait|type) (\w+)", re.MULTILINE)
@@ -56,25 +70,30 @@ def sources(pattern: str) -> dict[pathlib.Path, str]:
     return {path: path.read_text(encoding="utf-8") for path in sorted(CRATES.glob(pattern)) if "out" not in path.relative_to(CRATES).parts}
 
 
-def is_named(stem: str, text: str) -> bool:
-    """Whether a file has a public item of its name: a type, or a function with the file's words."""
-    words = set(stem.split("_"))
-    return any(words <= set(snake(name).split("_")) if kind == "fn" else snake(name) == stem for kind, name in ITEM.findall(text))
+def has_name(stem: str, kind: str, name: str) -> bool:
+    """Whether a public item has a file's name: a type has it, a function's name has its words."""
+    words = snake(name)
+    return set(stem.split("_")) <= set(words.split("_")) if kind == "fn" else words == stem
+
+
+def named(excused: dict[str, set[str]]) -> set[str]:
+    return {f"{crate}/{name}" for crate, names in excused.items() for name in names}
 
 
 def files(counts: Counts) -> None:
-    excused = {f"{crate}/{name}" for crate, names in OF_A_SUBJECT.items() for name in names}
+    of_a_subject, after = named(OF_A_SUBJECT), named(AFTER_ITS_PARTS)
     for path, text in sources("fts*/src/**/*.rt").items():
         crate, _, *rest = path.relative_to(CRATES).with_suffix("").parts
         name = f"{crate}/{'/'.join(rest)}"
         if path.stem in ("lib", "main", "laws") or MODULE.search(text):
             continue
-        named = is_named(path.stem, text)
-        counts.check(name, named or name in excused, f"{name}.rt has no public item of its name")
-        if named and name in excused:
-            counts.check(name, False, f"{name}.rt is excused, and needn't be")
-        excused.discard(name)
-    for name in sorted(excused):
+        found = [has_name(path.stem, *item) for item in ITEM.findall(text)]
+        counts.check(name, any(found) != (name in of_a_subject), f"{name}.rt has no public item of its name, or is excused and has one")
+        is_later = any(found) and not found[0]
+        counts.check(name, is_later == (name in after), f"{name}.rt has another public item first, or is excused and has its own first")
+        of_a_subject.discard(name)
+        after.discard(name)
+    for name in sorted(of_a_subject | after):
         counts.check(name, False, f"{name}.rt is excused, and isn't there")
 
 
