@@ -324,6 +324,10 @@ class Calls(unittest.TestCase):
             used = [node for node in ast.walk(tree) if isinstance(node, ast.Attribute)]
             own |= {node.attr for node in used if isinstance(node.value, ast.Name) and node.value.id in ("self", "cls")}
             taken = {node.attr for node in used if re.match("_[a-z]", node.attr)} - own - of_tuples
+            # A module with an underscore is the package's own.
+            modules = {module.stem for module in path.parent.glob("_*.py")}
+            imported = [alias.name for node in ast.walk(tree) if isinstance(node, ast.ImportFrom) for alias in node.names]
+            taken |= {name for name in imported if re.match("_[a-z]", name)} - modules
             self.assertEqual((path.name, taken), (path.name, set()))
 
     def test_versions(self):
