@@ -345,20 +345,6 @@ few_in_turn s ss =
       length-contents ss,
     )
 
--- the other sources have the schema of the first
-pub schemas_behind : (s : SourceValue) (ss : List SourceValue) → 0 < length ss → AreOfOneSchema (s ∷ ss) → AreOfOneSchema ss × (schema_of ss ≡ s.segment.schema)
-schemas_behind s [] some h = absurd (omega (arith, some))
-schemas_behind s (t ∷ ss) some h =
-    let Same : List Field → SourceValue → Type 0 = λ schema u. u.segment.schema ≡ schema in
-    let rest : All (Same s.segment.schema) (t ∷ ss) = All-tail (Same s.segment.schema) s (t ∷ ss) h in
-    let first : t.segment.schema ≡ s.segment.schema = All-head (Same s.segment.schema) t ss rest in
-    (subst (λ schema. All (Same schema) (t ∷ ss)) (sym first) rest, first)
-
-pub schemas_in_turn : (s : SourceValue) (ss : List SourceValue) → 0 < length ss → AreOfOneSchema (s ∷ ss) → AreOfOneSchema (s ∷ joined_source ss ∷ [])
-schemas_in_turn s ss some h =
-    let Same : SourceValue → Type 0 = λ u. u.segment.schema ≡ s.segment.schema in
-    All-cons Same s (joined_source ss ∷ []) refl (All-cons Same (joined_source ss) [] (schemas_behind s ss some h).1 (All-nil Same))
-
 -- a source has a schema
 abbrev pub SameSchema : List Field → SourceValue → Type 0
 SameSchema schema source = source.segment.schema ≡ schema

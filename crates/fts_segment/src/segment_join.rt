@@ -119,19 +119,6 @@ fn joined(alloc: Global, sources: &[LiveSegment<'_>]) -> Result<Segment, AllocEr
     }
 }
 
-/// Whether sources have at most `most` documents.
-fn are_few(sources: &[LiveSegment<'_>], most: usize) -> bool {
-    let mut room = most;
-    for source in sources {
-        let docs = source.segment().docs();
-        if docs > room {
-            return false;
-        }
-        room -= docs;
-    }
-    true
-}
-
 /// One segment of the live documents of two.
 fn joined_both(
     alloc: Global,
@@ -190,23 +177,6 @@ fn joined_by_halves(alloc: Global, sources: &[LiveSegment<'_>]) -> Result<Segmen
     Ok(segment)
 }
 
-/// One segment of the live documents of a source and of others after it; the others are joined first.
-fn joined_in_turn(
-    alloc: Global,
-    first: &LiveSegment<'_>,
-    others: &[LiveSegment<'_>],
-) -> Result<Segment, AllocError>
-    requires some { 0 < length others.now }
-    requires schemas { AreOfOneSchema (first.now ∷ others.now) }
-    requires few { live_count (first.now ∷ others.now) ≤ most_merged }
-    ensures { IfOk result (λ segment. segment ≡ joined_segment (first.now ∷ others.now)) }
-{
-    let second = joined_by_halves(alloc, others)?;
-    let live = all_live(alloc, &second)?;
-    let segment = joined_both(alloc, first.segment(), first.live(), &second, &live)?;
-    Ok(segment)
-}
-
 /// One segment of the live documents of one or more sources that have the same schema. The documents are in the order
 /// of the sources, and those of a source in the order of their numbers. They are handles, and their terms are merged
 /// from the sources' dictionaries: no text is read again.
@@ -217,14 +187,6 @@ pub fn join(alloc: Global, sources: &[LiveSegment<'_>]) -> Result<Segment, Refus
     ensures ok { IfOk result (λ segment. segment ≡ joined_segment sources.now) }
     ensures memory { IfErr result (λ e. e ≡ Memory) }
 {
-    // The terms of a large segment are compared with those of one other, and not with those of each small one.
-    if let [first, others @ ..] = sources
-        && others.len() > 1
-        && are_few(others, first.segment().docs() / 8)
-    {
-        let segment = joined_in_turn(alloc, first, others)?;
-        return Ok(segment);
-    }
     let segment = joined_by_halves(alloc, sources)?;
     Ok(segment)
 }
