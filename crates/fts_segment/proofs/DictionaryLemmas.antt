@@ -1,5 +1,5 @@
 -- The dictionary of a log.
-use Rattle.std.proofs.Common.{◌≡◌, ◌+◌, ◌<◌, ◌==◌, ℕ, suc, zero, Bool, true, false, cond, List, [], ◌∷◌, ◌++◌, Some, map, filter, drop, nat_eq, length, get_or}
+use Rattle.std.proofs.Common.{◌≡◌, ◌+◌, ◌<◌, ◌==◌, ℕ, suc, zero, Bool, true, false, cond, List, [], ◌∷◌, ◌++◌, Some, map, filter, flat_map, drop, nat_eq, length, get_or}
 use Rattle.std.proofs.Common.{refl, sym, ap, ap₂, subst, ◌∙◌, inl, inr, arith, All, Contains, bytes_eq, nat_lt, Less}
 use Rattle.std.specs.Prelude.{slice_get}
 use Rattle.std.specs.Ordering.{nat_cmp}
@@ -10,9 +10,10 @@ use Rattle.std.proofs.lemmas.Bool.{cases_eq, cases_Bool, lt-ltb}
 use Rattle.std.proofs.lemmas.Bool.Decides.{nat_tests}
 use Rattle.std.proofs.lemmas.Slice.Eq.{bytes_eq-Decides}
 use Rattle.std.proofs.lemmas.Option.{slice_get-get_or, get_or_from_slice_get, slice_get_within}
-use Rattle.std.proofs.lemmas.List.{get_or_default, get_or-map, length-map, same_lists, drop_more, append_assoc, map-append}
+use Rattle.std.proofs.lemmas.List.{get_or_default, get_or-map, length-map, same_lists, drop_more, append_assoc, append-nil, map-append}
 use Rattle.std.proofs.lemmas.List.Elements.{All-tail, All-map, filter_passes}
 use Rattle.std.proofs.lemmas.List.Kept.{AllPairs-filter}
+use Rattle.std.proofs.lemmas.Grind.{flat_map-append}
 use Rattle.std.proofs.lemmas.Simd.{map-map}
 use Rattle.fts_segment.specs.declared.term_log.Occurrence.{Occurrence}
 use Rattle.fts_segment.specs.declared.term_groups.DocPosition.{DocPosition}
@@ -113,6 +114,14 @@ listed_step f groups i places lists after within there put so_far =
     ap (λ ls. ls ++ listed_by f (drop (i + 1) groups)) put ∙ append_assoc lists (unless_none places (f places)) (listed_by f (drop (i + 1) groups))
     ∙ ap (λ ls. lists ++ ls) (sym (ap (listed_by f) first)) ∙ so_far
 
+-- the lists of one more group are appended
+pub flat_step : {X Y : Type 0} (f : X → List Y) (groups : List X) (i : ℕ) (d x : X) (lists after : List Y) → i < length groups → x ≡ get_or groups i d →
+    after ≡ lists ++ f x → lists ++ flat_map f (drop i groups) ≡ flat_map f groups → after ++ flat_map f (drop (i + 1) groups) ≡ flat_map f groups
+flat_step f groups i d x lists after within there put so_far =
+    let rest = drop (i + 1) groups in
+    ap (λ ls. ls ++ flat_map f rest) put ∙ append_assoc lists (f x) (flat_map f rest)
+    ∙ ap (λ xs. lists ++ flat_map f xs) (sym (drop_more groups i d within ∙ ap (λ y. y ∷ rest) (sym there))) ∙ so_far
+
 pub docs_with_places : (q : List ℕ) (os : List OccurrenceValue) → map (λ (p : DocPosition). p.doc) (places_with q os) ≡ docs_of q os
 docs_with_places q os = map-map (λ (p : DocPosition). p.doc) place_of (filter (is_term q) os)
 
@@ -154,6 +163,20 @@ listed_by-is f g os (q ∷ names) same =
     ap₂ (λ xs ys. xs ++ ys) (unless_none_map f g (places_with q os) q (same q)) (listed_by-is f g os names same)
     ∙ sym (map-append g (unless_none (places_with q os) q) (names_listed groups names))
 
+flat_one : (f : List ℕ → List (List ℕ)) (places : List DocPosition) (q : List ℕ) → position_lists_of places ≡ f q →
+    position_lists_of places ≡ flat_map f (unless_none places q)
+flat_one f [] q same = refl
+flat_one f (p ∷ ps) q same = same ∙ sym (append-nil (f q))
+
+-- the lists of positions of the groups are those of the names
+flat_listed : (os : List OccurrenceValue) (names : List (List ℕ)) → let groups = map (λ q. places_with q os) names in
+    flat_map position_lists_of groups ≡ flat_map (λ q. position_lists_with q os) (names_listed groups names)
+flat_listed os [] = refl
+flat_listed os (q ∷ names) =
+    let f : List ℕ → List (List ℕ) = λ q. position_lists_with q os in
+    ap₂ (λ xs ys. xs ++ ys) (flat_one f (places_with q os) q refl) (flat_listed os names)
+    ∙ sym (flat_map-append f (unless_none (places_with q os) q) (names_listed (map (λ q. places_with q os) names) names))
+
 contains_at : {X : Type 0} (p : X → Bool) (xs : List X) (k : ℕ) (x : X) → k < length xs → get_or xs k x ≡ x → p x ≡ true → Contains (filter p xs) x
 contains_at p [] k x within here passes = absurd (omega arith)
 contains_at p (y ∷ ys) zero x within here passes =
@@ -171,7 +194,7 @@ docs_right q os = ap (dedup nat_eq) (docs_with_places q os)
 pub IsDictionaryOf-listed : (names : List (List ℕ)) (log : List Occurrence) → Ascends names → AreNamed names log →
     let os = occurrence_values names log in
     let groups = map (λ q. places_with q os) names in
-    IsDictionaryOf os (names_listed groups names) (listed_by docs_in groups) (listed_by position_lists_of groups)
+    IsDictionaryOf os (names_listed groups names) (listed_by docs_in groups) (flat_map position_lists_of groups)
 IsDictionaryOf-listed names log up named =
     let os = occurrence_values names log in
     let is = names_listed-is os names in
@@ -180,7 +203,7 @@ IsDictionaryOf-listed names log up named =
     record {
       ascends = subst P (sym is) (Ascends-filter (occurs os) names up);
       listed = listed_by-is docs_in (λ q. docs_with q os) os names (λ q. docs_right q os);
-      positioned = listed_by-is position_lists_of (λ q. position_lists_with q os) os names (λ q. refl);
+      positioned = flat_listed os names;
       occur = subst Q (sym is) (filter_passes (occurs os) names);
       whole = λ q occurring.
           let number = named_where names q log named occurring in
@@ -192,7 +215,7 @@ IsDictionaryOf-listed names log up named =
 -- the names with the groups of their places, after terms got new ids by their order
 pub record IsGrouped (names sorted : List (List ℕ)) (log : List Occurrence) (groups : List (List DocPosition)) : Type 0 where
   pub groups_are : groups ≡ map (λ q. places_with q (occurrence_values names log)) sorted
-  pub dictionary_is : IsDictionaryOf (occurrence_values names log) (names_listed groups sorted) (listed_by docs_in groups) (listed_by position_lists_of groups)
+  pub dictionary_is : IsDictionaryOf (occurrence_values names log) (names_listed groups sorted) (listed_by docs_in groups) (flat_map position_lists_of groups)
 
 pub IsGrouped-sorted : (names sorted : List (List ℕ)) (ordinals : List ℕ) (log after : List Occurrence) (groups : List (List DocPosition)) (count : ℕ) →
     Ascends sorted → Stand names sorted ordinals → AreNamed names log →
@@ -207,7 +230,7 @@ IsGrouped-sorted names sorted ordinals log after groups count up stand named is 
     let are : groups ≡ places (occurrence_values names log) =
     groups_are sorted after groups up again (many ∙ long) (λ t within. grouped t (omega (arith, within, long))) ∙ ap places same in
     let Is : List OccurrenceValue → List (List DocPosition) → Type 0 =
-    λ os gs. IsDictionaryOf os (names_listed gs sorted) (listed_by docs_in gs) (listed_by position_lists_of gs) in
+    λ os gs. IsDictionaryOf os (names_listed gs sorted) (listed_by docs_in gs) (flat_map position_lists_of gs) in
     record {
       groups_are = are;
       dictionary_is = subst (Is (occurrence_values names log)) (sym are) (subst (λ os. Is os (places os)) same (IsDictionaryOf-listed sorted after up again));

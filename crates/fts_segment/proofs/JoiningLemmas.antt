@@ -9,7 +9,7 @@ use Rattle.std.specs.Ordering.{nat_cmp, is_gt}
 use Rattle.std.specs.Cmp.Lexicographic.{slice_cmp}
 use Rattle.std.proofs.lemmas.Cmp.{nat_list_cmp_total, tied_itself}
 use Rattle.std.proofs.lemmas.Slice.Eq.{bytes_eq-Decides}
-use Rattle.std.proofs.lemmas.List.{append-nil, map_push}
+use Rattle.std.proofs.lemmas.List.{append-nil, flat_map_more, map_push}
 use Rattle.std.proofs.lemmas.List.Elements.{Contains-append_left, Contains-append_right}
 use Rattle.fts_segment.specs.Dictionaries.{unless_none}
 use Rattle.fts_segment.specs.Postings.{Posting, documents, position_lists}
@@ -50,19 +50,19 @@ all-push P [] x h p = (p, tt)
 all-push P (y ∷ xs) x h p = (h.0, all-push P xs x h.1 p)
 
 -- the progress of a merge: the names have all postings of the streams, and every other term is left
-pub record IsJoining (all rest : List PartValue) (names lists : List (List ℕ)) (positions : List (List (List ℕ))) : Type 0 where
+pub record IsJoining (all rest : List PartValue) (names lists positions : List (List ℕ)) : Type 0 where
   pub sound : AllByRecursion IsSound rest
   pub ascend : Ascend names
   pub below : AllByRecursion (λ name. IsBelowAll name rest) names
   pub listed : lists ≡ map (λ q. documents (joined all q)) names
-  pub positioned : positions ≡ map (λ q. position_lists (joined all q)) names
+  pub positioned : positions ≡ flat_map (λ q. position_lists (joined all q)) names
   pub some : AllByRecursion (λ q. joined all q ≢ []) names
   pub left : (q : List ℕ) → Contains names q ⊎ (joined rest q ≡ joined all q)
 
-pub IsJoining-start : (ps : List PartValue) (names lists : List (List ℕ)) (positions : List (List (List ℕ))) → AllByRecursion IsSound ps → names ≡ [] →
+pub IsJoining-start : (ps : List PartValue) (names lists positions : List (List ℕ)) → AllByRecursion IsSound ps → names ≡ [] →
     lists ≡ [] → positions ≡ [] → IsJoining ps ps names lists positions
 IsJoining-start ps names lists positions sound no_names no_lists no_positions =
-    let P : List (List ℕ) → List (List ℕ) → List (List (List ℕ)) → Type 0 = λ ns ls qs. IsJoining ps ps ns ls qs in
+    let P : List (List ℕ) → List (List ℕ) → List (List ℕ) → Type 0 = λ ns ls qs. IsJoining ps ps ns ls qs in
     let none_yet : P [] [] [] = record { sound = sound; ascend = tt; below = tt; listed = refl; positioned = refl; some = tt; left = λ q. inr refl } in
     subst (λ ns. P ns lists positions) (sym no_names) (subst (λ ls. P [] ls positions) (sym no_lists) (subst (P [] []) (sym no_positions) none_yet))
 
@@ -84,7 +84,7 @@ not-among term (n ∷ names) h c = ⊎_elim
     (λ behind. not-among term names h.1 behind) (either n term names c)
 
 -- the postings that the streams give for the next term are all that they had
-pub all-given : (term : List ℕ) (postings : List Posting) (all rest : List PartValue) (names lists : List (List ℕ)) (positions : List (List (List ℕ))) →
+pub all-given : (term : List ℕ) (postings : List Posting) (all rest : List PartValue) (names lists positions : List (List ℕ)) →
     IsJoining all rest names lists positions →
     AreFrom term rest → IsMet term rest → postings ≡ flat_map (given term) rest → joined all term ≡ postings
 all-given term postings all rest names lists positions j from met is = ⊎_elim
@@ -92,7 +92,7 @@ all-given term postings all rest names lists positions j from met is = ⊎_elim
     (λ (same : joined rest term ≡ joined all term). sym same ∙ joined-given term rest j.sound from ∙ sym is) (j.left term)
 
 -- the postings of the next term rise
-pub postings-rise : (term : List ℕ) (postings : List Posting) (all rest : List PartValue) (names lists : List (List ℕ)) (positions : List (List (List ℕ))) →
+pub postings-rise : (term : List ℕ) (postings : List Posting) (all rest : List PartValue) (names lists positions : List (List ℕ)) →
     IsJoining all rest names lists positions →
     AreFrom term rest → IsMet term rest → postings ≡ flat_map (given term) rest → ((q : List ℕ) → IsStrictlyIncreasing (documents (joined all q))) →
     IsStrictlyIncreasing (documents postings)
@@ -101,7 +101,7 @@ postings-rise term postings all rest names lists positions j from met is rise =
     subst P (all-given term postings all rest names lists positions j from met is) (rise term)
 
 -- the merge goes past a term that has no posting
-pass-none : (term : List ℕ) (all rest : List PartValue) (names lists : List (List ℕ)) (positions : List (List (List ℕ))) →
+pass-none : (term : List ℕ) (all rest : List PartValue) (names lists positions : List (List ℕ)) →
     IsJoining all rest names lists positions →
     AreFrom term rest → joined all term ≡ [] → IsJoining all (map (passed term) rest) names lists positions
 pass-none term all rest names lists positions j from no_posting = record {
@@ -121,17 +121,17 @@ pass-none term all rest names lists positions j from no_posting = record {
 }
 
 -- the merge goes past a term that has postings
-pass-some : (term : List ℕ) (all rest : List PartValue) (names lists : List (List ℕ)) (positions : List (List (List ℕ))) →
+pass-some : (term : List ℕ) (all rest : List PartValue) (names lists positions : List (List ℕ)) →
     IsJoining all rest names lists positions →
     AreFrom term rest → IsMet term rest → joined all term ≢ [] →
-    IsJoining all (map (passed term) rest) (names ++ term ∷ []) (lists ++ documents (joined all term) ∷ []) (positions ++ position_lists (joined all term) ∷ [])
+    IsJoining all (map (passed term) rest) (names ++ term ∷ []) (lists ++ documents (joined all term) ∷ []) (positions ++ position_lists (joined all term))
 pass-some term all rest names lists positions j from met some_posting = record {
   sound = sound-all term rest j.sound;
   ascend = ascend-push term names j.ascend (are-before term rest names met j.below);
   below = all-push (λ name. IsBelowAll name (map (passed term) rest)) names term (all-below-after term rest names j.below)
       (below-all-passed term rest j.sound from);
   listed = ap (λ ls. ls ++ documents (joined all term) ∷ []) j.listed ∙ sym (map_push (λ q. documents (joined all q)) names term);
-  positioned = ap (λ ps. ps ++ position_lists (joined all term) ∷ []) j.positioned ∙ sym (map_push (λ q. position_lists (joined all q)) names term);
+  positioned = ap (λ ps. ps ++ position_lists (joined all term)) j.positioned ∙ flat_map_more (λ q. position_lists (joined all q)) [] names term;
   some = all-push (λ q. joined all q ≢ []) names term j.some some_posting;
   left = λ q. elim (bytes_eq term q) as (λ b. bytes_eq term q ≡ b → Contains (names ++ term ∷ []) q ⊎ (joined (map (passed term) rest) q ≡ joined all q)) [
     | true ↦ λ same.
@@ -144,18 +144,18 @@ pass-some term all rest names lists positions j from met some_posting = record {
 }
 
 -- the merge goes past a term
-pub IsJoining-next : (term : List ℕ) (postings : List Posting) (all rest : List PartValue) (names lists : List (List ℕ)) (positions : List (List (List ℕ))) →
+pub IsJoining-next : (term : List ℕ) (postings : List Posting) (all rest : List PartValue) (names lists positions : List (List ℕ)) →
     IsJoining all rest names lists positions →
     AreFrom term rest → IsMet term rest → joined all term ≡ postings →
     IsJoining all (map (passed term) rest) (names ++ unless_none postings term) (lists ++ unless_none postings (documents postings))
-    (positions ++ unless_none postings (position_lists postings))
+    (positions ++ position_lists postings)
 IsJoining-next term [] all rest names lists positions j from met is =
-    let P : List (List ℕ) → List (List ℕ) → List (List (List ℕ)) → Type 0 = λ ns ls qs. IsJoining all (map (passed term) rest) ns ls qs in
+    let P : List (List ℕ) → List (List ℕ) → List (List ℕ) → Type 0 = λ ns ls qs. IsJoining all (map (passed term) rest) ns ls qs in
     subst (λ ns. P ns (lists ++ []) (positions ++ [])) (sym (append-nil names)) (subst (λ ls. P names ls (positions ++ [])) (sym (append-nil lists))
     (subst (P names lists) (sym (append-nil positions)) (pass-none term all rest names lists positions j from is)))
 IsJoining-next term (p ∷ postings) all rest names lists positions j from met is =
     let P : List Posting → Type 0 =
-    λ ps. IsJoining all (map (passed term) rest) (names ++ term ∷ []) (lists ++ documents ps ∷ []) (positions ++ position_lists ps ∷ []) in
+    λ ps. IsJoining all (map (passed term) rest) (names ++ term ∷ []) (lists ++ documents ps ∷ []) (positions ++ position_lists ps) in
     subst P is (pass-some term all rest names lists positions j from met (λ no. let clash : p ∷ postings ≡ [] = sym is ∙ no in cc))
 
 -- a stream without a name has no posting
@@ -239,7 +239,7 @@ met-of-least ps term h = elim (least-met None ps term h) as (λ w. IsMet term ps
 ]
 
 -- a merge that is finished has all postings
-pub IsJoined-end : (all rest : List PartValue) (names lists : List (List ℕ)) (positions : List (List (List ℕ))) → IsJoining all rest names lists positions →
+pub IsJoined-end : (all rest : List PartValue) (names lists positions : List (List ℕ)) → IsJoining all rest names lists positions →
     least_of None rest ≡ None → IsJoined all names lists positions
 IsJoined-end all rest names lists positions j h = record {
   ascend = j.ascend;

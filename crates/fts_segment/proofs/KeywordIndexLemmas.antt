@@ -10,7 +10,6 @@ use Rattle.fts_model.specs.declared.value.FieldValue.{FieldValue}
 use Rattle.fts_model.specs.declared.value.FieldValue.TheVariants as values
 use Rattle.fts_segment.specs.declared.dictionary.Dictionary.{Dictionary}
 use Rattle.fts_segment.specs.FieldIndexes.{AreTerms}
-use Rattle.fts_segment.specs.TermPositionLists.{term_position_lists}
 use Rattle.fts_segment.specs.Keywords.{keyword_of, texts_in, texts_of, in_order, before}
 use Rattle.fts_segment.specs.Occurrences.{OccurrenceValue, occurrences, occurrence_at, docs_of, is_term}
 use Rattle.fts_segment.specs.Dictionaries.{IsDictionaryOf, occurs}
@@ -55,7 +54,7 @@ occurs_there doc (Some (values.Text t) ∷ vs) q h = by (is_term q (occurrence_a
     by false is later = ap (λ ns. nat_lt 0 (length ns)) (docs_of-cons q (occurrence_at doc (0, t)) os false is)
         ∙ later (⊎_elim (λ same. let clash : true ≡ false = sym ((bytes_eq-Decides t q).1 same) ∙ is in cc) (λ behind. behind) (either t q (texts vs) h))
 
-pub names_are_texts : (vs : List (Option FieldValue)) (names lists : List (List ℕ)) (positions : List (List (List ℕ))) →
+pub names_are_texts : (vs : List (Option FieldValue)) (names lists positions : List (List ℕ)) →
     IsDictionaryOf (occurrences kinds.Keyword 0 vs) names lists positions → names ≡ texts_of kinds.Keyword vs
 names_are_texts vs names lists positions index =
     same_texts names (in_order (texts vs)) (climbs_by_place names index.ascends) (in_order-climbs (texts vs))
@@ -64,7 +63,7 @@ names_are_texts vs names lists positions index =
 
 pub terms_are_texts : (vs : List (Option FieldValue)) (dictionary : Dictionary) → AreTerms kinds.Keyword vs dictionary →
     dictionary.names ≡ texts_of kinds.Keyword vs
-terms_are_texts vs dictionary terms = names_are_texts vs dictionary.names dictionary.lists (term_position_lists dictionary.positions) terms.dictionary_is
+terms_are_texts vs dictionary terms = names_are_texts vs dictionary.names dictionary.lists dictionary.positions terms.dictionary_is
 
 -- the text of a value is among the texts
 pub text_among : (vs : List (Option FieldValue)) (t : List ℕ) → Contains vs (Some (values.Text t)) → Contains (texts_of kinds.Keyword vs) t

@@ -22,7 +22,6 @@ pub mod OrderedLemmas
 pub mod PositionListsLemmas
 pub mod PackedLemmas
 pub mod UnpackedLemmas
-mod PositionListVectors
 pub mod TokenLemmas
 pub mod PositionsLemmas
 pub mod MovingLemmas
@@ -30,4 +29,5 @@ pub mod PutsLemmas
 pub mod PartLemmas
 pub mod JoiningLemmas
 pub mod PostingsLemmas
+pub mod TermPositionsLemmas
 pub mod SourceLemmas

@@ -107,7 +107,7 @@ postings_of-take (doc ∷ docs) (suc n) [] h = refl
 postings_of-take (doc ∷ docs) (suc n) (list ∷ lists) h = ap (λ ps. posting_at doc list ∷ ps) (postings_of-take docs n lists (omega (arith, h)))
 
 -- consecutive numbers leave out no posting
-pub documents-shifted : (numbers : List (Option ℕ)) (first : ℕ) (docs : List ℕ) (lists : List (List ℕ)) → AreInARow numbers first → length docs ≡ length lists →
+pub documents-shifted : (numbers : List (Option ℕ)) (first : ℕ) (docs : List ℕ) (lists : List (List ℕ)) → AreInARow numbers first → length docs ≤ length lists →
     All (λ doc. doc < length numbers) docs →
     documents (moved numbers (postings_of docs lists)) ≡ map (λ doc. first + doc) docs
 documents-shifted numbers first [] lists row paired within = refl
@@ -117,11 +117,10 @@ documents-shifted numbers first (doc ∷ docs) (list ∷ lists) row paired withi
     ap (λ o. documents (placed o (posting_at doc list) ++ moved numbers (postings_of docs lists))) (row.are doc (All-head Within doc docs within))
     ∙ ap (λ ds. (first + doc) ∷ ds) (documents-shifted numbers first docs lists row (omega (arith, paired)) (All-tail Within doc docs within))
 
-pub lists-shifted : (numbers : List (Option ℕ)) (first : ℕ) (docs : List ℕ) (lists : List (List ℕ)) → AreInARow numbers first → length docs ≡ length lists →
+pub lists-shifted : (numbers : List (Option ℕ)) (first : ℕ) (docs : List ℕ) (lists : List (List ℕ)) → AreInARow numbers first → length docs ≤ length lists →
     All (λ doc. doc < length numbers) docs →
-    position_lists (moved numbers (postings_of docs lists)) ≡ lists
-lists-shifted numbers first [] [] row paired within = refl
-lists-shifted numbers first [] (list ∷ lists) row paired within = absurd (omega (arith, paired))
+    position_lists (moved numbers (postings_of docs lists)) ≡ take (length docs) lists
+lists-shifted numbers first [] lists row paired within = refl
 lists-shifted numbers first (doc ∷ docs) [] row paired within = absurd (omega (arith, paired))
 lists-shifted numbers first (doc ∷ docs) (list ∷ lists) row paired within =
     let Within : ℕ → Type 0 = λ doc. doc < length numbers in

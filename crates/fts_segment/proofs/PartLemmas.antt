@@ -1,6 +1,6 @@
 -- Term streams as terms are taken.
 use Rattle.std.proofs.Common.{◌≡◌, ◌≢◌, ◌+◌, ◌<◌, ◌≤◌, inl, inr, ℕ, zero, suc, Bool, true, false, cond, List, [], ◌∷◌, ◌++◌, Option, Some, None, map, length}
-use Rattle.std.proofs.Common.{flat_map, sum_by, drop, get_or, refl, sym, ap, ap₂, subst, ◌∙◌, arith, Less, Equal, Greater}
+use Rattle.std.proofs.Common.{flat_map, sum_by, take, drop, get_or, refl, sym, ap, ap₂, subst, ◌∙◌, arith, Less, Equal, Greater}
 use Rattle.std.specs.Prelude.{slice_get}
 use Rattle.std.specs.List.{AllByRecursion}
 use Rattle.std.specs.Str.{bytes_eq}
@@ -9,13 +9,13 @@ use Rattle.std.specs.Cmp.Lexicographic.{slice_cmp}
 use Rattle.std.proofs.lemmas.Cmp.{nat_list_cmp_total, tied_itself}
 use Rattle.std.proofs.lemmas.Slice.Eq.{bytes_eq-Decides}
 use Rattle.std.proofs.lemmas.Bool.{cases_lt}
-use Rattle.std.proofs.lemmas.List.{drop_all, drop_more}
+use Rattle.std.proofs.lemmas.List.{drop_all, drop_more, drop-drop}
 use Rattle.std.proofs.lemmas.List.Sums.{sum_by-cons}
+use Rattle.fts_pack.proofs.SumLemmas.{sum-cons}
 use Rattle.fts_segment.specs.declared.dictionary.Dictionary.{Dictionary}
-use Rattle.fts_segment.specs.TermPositionLists.{term_position_lists}
-use Rattle.fts_segment.specs.Postings.{Posting, postings_of}
+use Rattle.fts_segment.specs.Postings.{Posting, documents_before, postings_by, postings_of}
 use Rattle.fts_segment.proofs.FindLemmas.{same_from_equal, turned}
-use Rattle.fts_segment.specs.Parts.{PartValue, IsWhole, part_from, postings_by, found, joined, moved, IsBelow, Ascend, IsSound, begins, passed, given}
+use Rattle.fts_segment.specs.Parts.{PartValue, IsWhole, part_from, found, joined, moved, IsBelow, Ascend, IsSound, begins, passed, given}
 
 -- a name differs from one before it
 less_differs : (a b : List ℕ) → slice_cmp nat_cmp a b ≡ Less → bytes_eq b a ≡ false
@@ -242,18 +242,18 @@ fewer-at term (q ∷ ps) (suc i) p e h =
 pub fewer : (term : List ℕ) (ps : List PartValue) → IsMet term ps → left (map (passed term) ps) < left ps
 fewer term ps met = fewer-at term ps met.1 met.0 met.2 met.3
 
-pub length-postings_by : (lists : List (List ℕ)) (positions : List (List (List ℕ))) → length lists ≡ length positions →
-    length (postings_by lists positions) ≡ length lists
-length-postings_by [] positions e = refl
-length-postings_by (l ∷ lists) [] e = absurd (omega (arith, e))
-length-postings_by (l ∷ lists) (p ∷ positions) e = ap suc (length-postings_by lists positions (omega (arith, e)))
+length-postings_by : (lists positions : List (List ℕ)) → length (postings_by lists positions) ≡ length lists
+length-postings_by [] positions = refl
+length-postings_by (l ∷ lists) positions = ap suc (length-postings_by lists (drop (length l) positions))
 
-postings_by-at : (lists : List (List ℕ)) (positions : List (List (List ℕ))) (i : ℕ) → length lists ≡ length positions → i < length lists →
-    get_or (postings_by lists positions) i [] ≡ postings_of (get_or lists i []) (get_or positions i [])
-postings_by-at [] positions i e within = absurd (omega (arith, within))
-postings_by-at (l ∷ lists) [] i e within = absurd (omega (arith, e))
-postings_by-at (l ∷ lists) (p ∷ positions) zero e within = refl
-postings_by-at (l ∷ lists) (p ∷ positions) (suc i) e within = postings_by-at lists positions i (omega (arith, e)) (omega (arith, within))
+postings_by-at : (lists positions : List (List ℕ)) (i : ℕ) → i < length lists →
+    get_or (postings_by lists positions) i [] ≡ postings_of (get_or lists i []) (drop (documents_before lists i) positions)
+postings_by-at [] positions i within = absurd (omega (arith, within))
+postings_by-at (l ∷ lists) positions zero within = refl
+postings_by-at (l ∷ lists) positions (suc i) within =
+    postings_by-at lists (drop (length l) positions) i (omega (arith, within))
+    ∙ ap (postings_of (get_or lists i [])) (drop-drop (documents_before lists i) (length l) positions
+    ∙ ap (λ n. drop n positions) (sym (sum-cons (length l) (take i (map length lists)))))
 
 -- a stream that begins with a term has a name left
 pub begins-within : (term : List ℕ) (names : List (List ℕ)) (at : ℕ) → begins term (drop at names) ≡ true → at < length names
@@ -264,26 +264,20 @@ begins-within term names at h = elim (cases_lt at (length names)) [
 
 -- the postings that the stream gives for its next name, and the rest of the stream
 pub given-here : (term : List ℕ) (at : ℕ) (d : Dictionary) (numbers : List (Option ℕ)) → IsWhole d numbers → begins term (drop at d.names) ≡ true →
-    given term (part_from at d numbers) ≡ moved numbers (postings_of (get_or d.lists at []) (get_or (term_position_lists d.positions) at []))
+    given term (part_from at d numbers) ≡ moved numbers (postings_of (get_or d.lists at []) (drop (documents_before d.lists at) d.positions))
 given-here term at d numbers is h =
-    let within = begins-within term d.names at h in
-    let lists = d.lists in
-    let positions = term_position_lists d.positions in
-    let paired : length lists ≡ length positions = sym is.listed ∙ is.positioned in
-    let there : at < length lists = omega (arith, within, is.listed) in
-    ap (λ b. cond b (moved numbers (get_or (drop at (postings_by lists positions)) 0 [])) []) h
-    ∙ ap (λ ps. moved numbers (get_or ps 0 []))
-    (drop_more (postings_by lists positions) at [] (omega (arith, there, length-postings_by lists positions paired)))
-    ∙ ap (moved numbers) (postings_by-at lists positions at paired there)
+    let postings = postings_by d.lists d.positions in
+    let there : at < length d.lists = omega (arith, begins-within term d.names at h, is.listed) in
+    ap (λ b. cond b (moved numbers (get_or (drop at postings) 0 [])) []) h
+    ∙ ap (λ ps. moved numbers (get_or ps 0 [])) (drop_more postings at [] (omega (arith, there, length-postings_by d.lists d.positions)))
+    ∙ ap (moved numbers) (postings_by-at d.lists d.positions at there)
 
 pub passed-here : (term : List ℕ) (at : ℕ) (d : Dictionary) (numbers : List (Option ℕ)) → IsWhole d numbers → begins term (drop at d.names) ≡ true →
     passed term (part_from at d numbers) ≡ part_from (at + 1) d numbers
 passed-here term at d numbers is h =
     let within = begins-within term d.names at h in
-    let lists = d.lists in
-    let positions = term_position_lists d.positions in
-    let paired : length lists ≡ length positions = sym is.listed ∙ is.positioned in
-    let many : at < length (postings_by lists positions) = omega (arith, within, is.listed, length-postings_by lists positions paired) in
+    let postings = postings_by d.lists d.positions in
+    let many : at < length postings = omega (arith, within, is.listed, length-postings_by d.lists d.positions) in
     let part : List (List ℕ) → List (List Posting) → PartValue = λ ns ps. record { names = ns; postings = ps; numbers = numbers } in
-    ap (λ b. cond b (part (drop 1 (drop at d.names)) (drop 1 (drop at (postings_by lists positions)))) (part_from at d numbers)) h
-    ∙ ap₂ part (ap (drop 1) (drop_more d.names at [] within)) (ap (drop 1) (drop_more (postings_by lists positions) at [] many))
+    ap (λ b. cond b (part (drop 1 (drop at d.names)) (drop 1 (drop at postings))) (part_from at d numbers)) h
+    ∙ ap₂ part (ap (drop 1) (drop_more d.names at [] within)) (ap (drop 1) (drop_more postings at [] many))

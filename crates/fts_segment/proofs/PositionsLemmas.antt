@@ -16,17 +16,13 @@ use Rattle.fts_model.specs.declared.operation.Term.{Term}
 use Rattle.fts_model.specs.Documents.{DocumentValue, value_in_field}
 use Rattle.fts_model.specs.Operations.{has, field_has}
 use Rattle.fts_segment.specs.declared.term_groups.DocPosition.{DocPosition}
-use Rattle.fts_segment.specs.declared.dictionary.Dictionary.{Dictionary}
 use Rattle.fts_segment.specs.Occurrences.{OccurrenceValue, occurrence_at, occurrences_at, occurrences, is_token, is_term, tokens_of, holds, values_in}
 use Rattle.fts_segment.specs.Occurrences.{HasFewTokens}
 use Rattle.fts_segment.specs.Segments.{SegmentValue, numbers_where, positions_among, document_tokens, positions, positions_of}
 use Rattle.fts_segment.specs.Positions.{place_of, places_with, position_lists_of, position_lists_with, value_position_lists}
-use Rattle.fts_segment.specs.TermPositionLists.{term_position_lists}
 use Rattle.fts_segment.specs.PositionLists.{IsPositionList}
-use Rattle.fts_segment.specs.FieldIndexes.{AreTerms}
 use Rattle.fts_segment.proofs.HoldingLemmas.{from_first, numbers_where-cons}
 use Rattle.fts_segment.proofs.PositionListsLemmas.{place_at, position_list_first}
-use Rattle.fts_segment.proofs.SegmentLemmas.{found_position_lists}
 use Rattle.fts_segment.proofs.TokenLemmas.{IsPositionList-tokens}
 use Rattle.fts_segment.proofs.FieldLemmas.{holds-tokens, field_at, field_holds}
 
@@ -97,13 +93,6 @@ ArePositionLists-occurrences q kind vs few =
     (All-map IsPositionList f (filter p vs)
     (All-filter p (λ v. IsPositionList (f v)) vs (All-weaker (HasFewTokens kind) (λ v. IsPositionList (f v)) (λ v few. IsPositionList-tokens q kind v few)
     vs few)))
-
--- a term has the positions that its documents have
-pub position_lists_found : {kind : Kind} {vs : List (Option FieldValue)} {dictionary : Dictionary} (text : List ℕ) (i : ℕ) → AreTerms kind vs dictionary →
-    slice_get dictionary.names i ≡ Some text →
-    get_or (term_position_lists dictionary.positions) i [] ≡ value_position_lists kind (values.Text text) vs
-position_lists_found {kind} {vs} {dictionary} text i a found = found_position_lists i text a.dictionary_is found
-    ∙ position_lists_with-occurrences text kind 0 vs
 
 map_filter-map : {X Y Z : Type 0} (f : X → Z) (h : Y → Z) (p : X → Bool) (q : Y → Bool) (g : X → Y) → ((x : X) → h (g x) ≡ f x) → ((x : X) → q (g x) ≡ p x) →
     (xs : List X) →

@@ -1,5 +1,5 @@
 -- The postings of a term, from its documents and its positions in them.
-use Rattle.std.proofs.Common.{◌≡◌, ◌≢◌, ◌+◌, ◌<◌, ℕ, zero, suc, Bool, true, false, cond, List, [], ◌∷◌, Option, map, length, get_or, nat_eq, nat_lt, refl, sym}
+use Rattle.std.proofs.Common.{◌≡◌, ◌≢◌, ◌+◌, ◌<◌, ◌≤◌, ◌++◌, ℕ, zero, suc, Bool, true, false, cond, List, [], ◌∷◌, Option, flat_map, map, length, get_or, nat_eq, nat_lt, refl, sym}
 use Rattle.std.proofs.Common.{ap, ap₂, subst, ◌∙◌, ⊎_elim, arith, All, Contains}
 use Rattle.std.specs.List.{AllByRecursion, dedup, dedup_from, list_any}
 use Rattle.std.specs.Str.{bytes_eq}
@@ -7,7 +7,7 @@ use Rattle.std.specs.Ordering.{nat_cmp}
 use Rattle.std.specs.Cmp.Lexicographic.{slice_cmp}
 use Rattle.std.specs.declared.cmp.Ordering.TheVariants.{Less}
 use Rattle.std.proofs.lemmas.Bool.{lt-ltb}
-use Rattle.std.proofs.lemmas.List.{length-map}
+use Rattle.std.proofs.lemmas.List.{drop_at, length-map, take_at}
 use Rattle.std.proofs.lemmas.List.Elements.{All-head, All-tail, All-cons, All-nil}
 use Rattle.std.proofs.lemmas.Slice.Eq.{bytes_eq-Decides}
 use Rattle.fts_model.specs.declared.schema.Kind.{Kind}
@@ -15,12 +15,13 @@ use Rattle.fts_model.specs.declared.value.FieldValue.{FieldValue}
 use Rattle.fts_segment.specs.Dictionaries.{occurs, IsDictionaryOf}
 use Rattle.fts_segment.specs.Occurrences.{OccurrenceValue, occurrences, tokens_of, is_token, docs_of, docs_with}
 use Rattle.fts_segment.specs.Positions.{position_lists_with}
-use Rattle.fts_segment.specs.Postings.{Posting, posting_at, postings_of, documents, position_lists}
+use Rattle.fts_segment.specs.Postings.{Posting, posting_at, postings_by, postings_of, documents, position_lists}
 use Rattle.fts_segment.specs.Segments.{positions_among}
 use Rattle.fts_segment.specs.Sorted.{Ascends}
-use Rattle.fts_segment.specs.Parts.{postings_by, postings_with, found, joined, Ascend, IsBelow, IsSound, IsJoined, PartValue}
+use Rattle.fts_segment.specs.Parts.{postings_with, found, joined, Ascend, IsBelow, IsSound, IsJoined, PartValue}
 use Rattle.fts_segment.proofs.HoldingLemmas.{docs_with-occurrences, numbers_where-cons}
 use Rattle.fts_segment.proofs.KeywordsLemmas.{Climbs, climbs_by_place, either, none}
+use Rattle.fts_segment.proofs.MovingLemmas.{postings_of-take}
 use Rattle.fts_segment.proofs.PositionsLemmas.{position_lists-cons}
 
 -- postings have the documents and the lists that they are made of
@@ -116,16 +117,26 @@ occurs-some q os some = by (occurs os q) refl
     by true is = is
     by false is = absurd (some (postings-none q os (λ yes. let clash : true ≡ false = sym yes ∙ is in cc)))
 
-postings_by-map : (os : List OccurrenceValue) (names : List (List ℕ)) →
-    postings_by (map (λ q. docs_with q os) names) (map (λ q. position_lists_with q os) names) ≡ map (λ q. postings_with q os) names
-postings_by-map os [] = refl
-postings_by-map os (q ∷ names) = ap (λ ps. postings_with q os ∷ ps) (postings_by-map os names)
+-- each document that has a term has positions of it
+abbrev pub ArePaired : List OccurrenceValue → Type 0
+ArePaired os = (q : List ℕ) → length (docs_with q os) ≡ length (position_lists_with q os)
+
+postings_by-map : (os : List OccurrenceValue) (names : List (List ℕ)) → ArePaired os →
+    postings_by (map (λ q. docs_with q os) names) (flat_map (λ q. position_lists_with q os) names) ≡ map (λ q. postings_with q os) names
+postings_by-map os [] paired = refl
+postings_by-map os (q ∷ names) paired =
+    let docs = docs_with q os in
+    let lists = position_lists_with q os in
+    let rest = flat_map (λ q. position_lists_with q os) names in
+    let many : length lists ≡ length docs = sym (paired q) in
+    let le : length docs ≤ length docs = omega arith in
+    ap₂ (λ p ps. p ∷ ps) (sym (postings_of-take docs (length docs) (lists ++ rest) le) ∙ ap (postings_of docs) (take_at lists rest (length docs) many))
+    (ap (postings_by (map (λ q. docs_with q os) names)) (drop_at lists rest (length docs) many) ∙ postings_by-map os names paired)
 
 -- a dictionary has the postings of its terms
-pub postings_by-dictionary : (os : List OccurrenceValue) (names lists : List (List ℕ)) (positions : List (List (List ℕ))) →
-    IsDictionaryOf os names lists positions →
+pub postings_by-dictionary : (os : List OccurrenceValue) (names lists positions : List (List ℕ)) → ArePaired os → IsDictionaryOf os names lists positions →
     postings_by lists positions ≡ map (λ q. postings_with q os) names
-postings_by-dictionary os names lists positions d = ap₂ postings_by d.listed d.positioned ∙ postings_by-map os names
+postings_by-dictionary os names lists positions paired d = ap₂ postings_by d.listed d.positioned ∙ postings_by-map os names paired
 
 -- the postings found for a term among images of names are its image
 found-map : (f : List ℕ → List Posting) (names : List (List ℕ)) (q : List ℕ) → ((Contains names q → ⊥) → f q ≡ []) → found names (map f names) q ≡ f q
@@ -138,11 +149,11 @@ found-map f (n ∷ names) q gone = elim (bytes_eq n q) as (λ b. bytes_eq n q �
 ] refl
 
 -- the postings found in a dictionary are those of the term
-pub found-dictionary : (os : List OccurrenceValue) (names lists : List (List ℕ)) (positions : List (List (List ℕ))) → IsDictionaryOf os names lists positions →
+pub found-dictionary : (os : List OccurrenceValue) (names lists positions : List (List ℕ)) → ArePaired os → IsDictionaryOf os names lists positions →
     (q : List ℕ) →
     found names (postings_by lists positions) q ≡ postings_with q os
-found-dictionary os names lists positions d q =
-    ap (λ ps. found names ps q) (postings_by-dictionary os names lists positions d)
+found-dictionary os names lists positions paired d q =
+    ap (λ ps. found names ps q) (postings_by-dictionary os names lists positions paired d)
     ∙ found-map (λ q. postings_with q os) names q (λ absent. postings-none q os (λ occurring. absent (d.whole q occurring)))
 
 below-climbs : (t : List ℕ) (ts : List (List ℕ)) → All (λ k. slice_cmp nat_cmp t k ≡ Less) ts → IsBelow t ts
@@ -153,12 +164,12 @@ ascend-climbs : (ts : List (List ℕ)) → Climbs ts → Ascend ts
 ascend-climbs [] h = tt
 ascend-climbs (t ∷ ts) h = (below-climbs t ts h.0, ascend-climbs ts h.1)
 
-pub sound-dictionary : (os : List OccurrenceValue) (names lists : List (List ℕ)) (positions : List (List (List ℕ))) (numbers : List (Option ℕ)) →
+pub sound-dictionary : (os : List OccurrenceValue) (names lists positions : List (List ℕ)) (numbers : List (Option ℕ)) → ArePaired os →
     IsDictionaryOf os names lists positions →
     IsSound (record { names = names; postings = postings_by lists positions; numbers = numbers })
-sound-dictionary os names lists positions numbers d = record {
+sound-dictionary os names lists positions numbers paired d = record {
   ascend = ascend-climbs names (climbs_by_place names d.ascends);
-  paired = sym (ap length (postings_by-dictionary os names lists positions d) ∙ length-map names (λ q. postings_with q os));
+  paired = sym (ap length (postings_by-dictionary os names lists positions paired d) ∙ length-map names (λ q. postings_with q os));
 }
 
 below-at : (t : List ℕ) (ts : List (List ℕ)) (i : ℕ) → IsBelow t ts → i < length ts → slice_cmp nat_cmp t (get_or ts i []) ≡ Less
@@ -174,6 +185,10 @@ ascends-ascend (t ∷ ts) h zero (suc j) lower within = below-at t ts j h.0 (ome
 ascends-ascend (t ∷ ts) h (suc i) zero lower within = absurd (omega (arith, lower))
 ascends-ascend (t ∷ ts) h (suc i) (suc j) lower within = ascends-ascend ts h.1 i j (omega (arith, lower)) (omega (arith, within))
 
+flat_map-same : {X Y : Type 0} (f g : X → List Y) → ((x : X) → f x ≡ g x) → (xs : List X) → flat_map f xs ≡ flat_map g xs
+flat_map-same f g same [] = refl
+flat_map-same f g same (x ∷ xs) = ap₂ (λ y ys. y ++ ys) (same x) (flat_map-same f g same xs)
+
 map-same : {X Y : Type 0} (f g : X → Y) → ((x : X) → f x ≡ g x) → (xs : List X) → map f xs ≡ map g xs
 map-same f g same [] = refl
 map-same f g same (x ∷ xs) = ap₂ (λ y ys. y ∷ ys) (same x) (map-same f g same xs)
@@ -186,18 +201,17 @@ all-occur os parts (q ∷ names) same some =
     All-cons (λ q. occurs os q ≡ true) q names (occurs-some q os (λ empty. some.0 (same q ∙ empty))) (all-occur os parts names same some.1)
 
 -- a merged dictionary is that of occurrences, if the streams have their postings
-pub dictionary-joined : (kind : Kind) (vs : List (Option FieldValue)) (parts : List PartValue) (names lists : List (List ℕ))
-    (positions : List (List (List ℕ))) →
+pub dictionary-joined : (kind : Kind) (vs : List (Option FieldValue)) (parts : List PartValue) (names lists positions : List (List ℕ)) →
     ((q : List ℕ) → joined parts q ≡ postings_with q (occurrences kind 0 vs)) → IsJoined parts names lists positions →
     IsDictionaryOf (occurrences kind 0 vs) names lists positions
 dictionary-joined kind vs parts names lists positions same j =
     let os = occurrences kind 0 vs in
-    let paired : (q : List ℕ) → length (docs_with q os) ≡ length (position_lists_with q os) = λ q. paired-occurrences q kind 0 vs in
+    let paired : ArePaired os = λ q. paired-occurrences q kind 0 vs in
     record {
       ascends = ascends-ascend names j.ascend;
       listed = j.listed ∙ map-same (λ q. documents (joined parts q)) (λ q. docs_with q os)
           (λ q. ap documents (same q) ∙ documents-postings_of (docs_with q os) (position_lists_with q os) (paired q)) names;
-      positioned = j.positioned ∙ map-same (λ q. position_lists (joined parts q)) (λ q. position_lists_with q os)
+      positioned = j.positioned ∙ flat_map-same (λ q. position_lists (joined parts q)) (λ q. position_lists_with q os)
           (λ q. ap position_lists (same q) ∙ position_lists-postings_of (docs_with q os) (position_lists_with q os) (paired q)) names;
       occur = all-occur os parts names same j.some;
       whole = λ q is. j.whole q (λ empty. let clash : true ≡ false = sym is ∙ occurs-none q os (paired q) (sym (same q) ∙ empty) in cc);

@@ -8,7 +8,6 @@ use Rattle.std.proofs.lemmas.List.{get_or-map, length-map, nil_from_length}
 use Rattle.fts_segment.specs.Occurrences.{OccurrenceValue}
 use Rattle.fts_segment.specs.Occurrences.{docs_of, docs_with}
 use Rattle.fts_segment.specs.Dictionaries.{occurs, IsDictionaryOf}
-use Rattle.fts_segment.specs.Positions.{position_lists_with}
 
 never_none : (k : ℕ) (xs : List ℕ) → dedup_from nat_eq k xs ≡ [] → ⊥
 never_none k [] h = cc
@@ -20,7 +19,7 @@ some_left [] more h = omega arith
 some_left (x ∷ xs) more h = never_none x xs h
 
 -- a term of the dictionary has its list, which is not empty
-pub found_list : {os : List OccurrenceValue} {names lists : List (List ℕ)} {positions : List (List (List ℕ))} (k : ℕ) (q : List ℕ) →
+pub found_list : {os : List OccurrenceValue} {names lists positions : List (List ℕ)} (k : ℕ) (q : List ℕ) →
     IsDictionaryOf os names lists positions → slice_get names k ≡ Some q →
     (k < length lists) × (get_or lists k [] ≡ docs_with q os) × (docs_with q os ≡ [] → ⊥)
 found_list {os} {names} {lists} {positions} k q index found =
@@ -32,18 +31,10 @@ found_list {os} {names} {lists} {positions} k q index found =
     )
 
 -- a term that is not in the dictionary doesn't occur
-pub absent_list : {os : List OccurrenceValue} {names lists : List (List ℕ)} {positions : List (List (List ℕ))} (q : List ℕ) →
+pub absent_list : {os : List OccurrenceValue} {names lists positions : List (List ℕ)} (q : List ℕ) →
     IsDictionaryOf os names lists positions → ((k : ℕ) → slice_get names k ≡ Some q → ⊥) → docs_with q os ≡ []
 absent_list {os} {names} {lists} {positions} q index absent = elim (cases_Bool (occurs os q)) [
   | inl is ↦ absurd (let at = index.whole q is in absent at.0 (slice_get-get_or names at.0 q at.1 ∙ ap Some at.2))
   | inr is ↦ ap (dedup nat_eq) (nil_from_length (docs_of q os) (let none : length (docs_of q os) ≡ 0 = omega (arith, ltb-false 0 (length (docs_of q os)) is) in
       none))
 ]
-
--- a term of the dictionary has its positions
-pub found_position_lists : {os : List OccurrenceValue} {names lists : List (List ℕ)} {positions : List (List (List ℕ))} (k : ℕ) (q : List ℕ) →
-    IsDictionaryOf os names lists positions → slice_get names k ≡ Some q →
-    get_or positions k [] ≡ position_lists_with q os
-found_position_lists {os} {names} {lists} {positions} k q index found =
-    let g : List ℕ → List (List ℕ) = λ q. position_lists_with q os in
-    ap (λ ps. get_or ps k []) index.positioned ∙ get_or-map g names k [] [] (slice_get_within names k q found) ∙ ap g (get_or_from_slice_get names k q [] found)

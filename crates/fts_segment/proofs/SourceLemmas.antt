@@ -1,6 +1,6 @@
 -- The live documents of sources, source by source.
 use Rattle.std.proofs.Common.{◌≡◌, ◌+◌, ◌<◌, ◌≤◌, ℕ, zero, suc, Bool, true, false, cond, List, [], ◌∷◌, ◌++◌, Option, Some, None, map, length, drop, get_or}
-use Rattle.std.proofs.Common.{count_by, replicate, refl, sym, ap, ap₂, subst, ◌∙◌, arith, All, append_assoc}
+use Rattle.std.proofs.Common.{count_by, replicate, sum, refl, sym, ap, ap₂, subst, ◌∙◌, arith, All, append_assoc}
 use Rattle.std.specs.Prelude.{slice_get}
 use Rattle.std.specs.List.{AllByRecursion, list_any}
 use Rattle.std.specs.List.Sorted.{IsStrictlyIncreasing}
@@ -22,12 +22,12 @@ use Rattle.fts_segment.specs.Positions.{position_lists_with}
 use Rattle.fts_segment.specs.Postings.{Posting, posting_at, documents}
 use Rattle.fts_segment.specs.Segments.{SegmentValue, AllFit, positions_among}
 use Rattle.fts_segment.specs.Sources.{SourceValue, AreOfOneSchema, HasBits, both, live_count, contents, schema_of, joined_segment}
-use Rattle.fts_segment.specs.TermPositionLists.{term_position_lists}
 use Rattle.fts_segment.specs.Parts.{PartValue, renumbered, placed, moved, found, joined, part_from, postings_with, IsSound, IsWhole, IsPart, AreParts, IsJoined}
 use Rattle.fts_segment.proofs.HoldingLemmas.{docs_with-rise}
 use Rattle.fts_segment.proofs.MovingLemmas.{dropped_at}
-use Rattle.fts_segment.proofs.PostingsLemmas.{postings-cons, paired-occurrences, docs-within, documents-postings_of, found-dictionary, sound-dictionary}
+use Rattle.fts_segment.proofs.PostingsLemmas.{ArePaired, postings-cons, paired-occurrences, docs-within, documents-postings_of, found-dictionary, sound-dictionary}
 use Rattle.fts_segment.proofs.PostingsLemmas.{dictionary-joined}
+use Rattle.fts_segment.proofs.TermPositionsLemmas.{lengths-flat}
 
 -- there are as many live members as bits are set
 pub length-where_set : {X : Type 0} (xs : List X) (bits : List Bool) → length bits ≡ length xs → length (where_set xs bits) ≡ count_by (λ bit. bit) bits
@@ -138,10 +138,11 @@ pub part-is : (kind : Kind) (field next : ℕ) (source : SourceValue) (dictionar
     AreTerms kind (values_in field source.segment.documents) dictionary →
     numbers ≡ renumbered next source.live → IsPart kind field next source (part_from 0 dictionary numbers)
 part-is kind field next source dictionary numbers terms are =
-    let os = occurrences kind 0 (values_in field source.segment.documents) in
-    let positions = term_position_lists dictionary.positions in record {
-      sound = sound-dictionary os dictionary.names dictionary.lists positions numbers terms.dictionary_is;
-      postings_are = found-dictionary os dictionary.names dictionary.lists positions terms.dictionary_is;
+    let vs = values_in field source.segment.documents in
+    let os = occurrences kind 0 vs in
+    let paired : ArePaired os = λ q. paired-occurrences q kind 0 vs in record {
+      sound = sound-dictionary os dictionary.names dictionary.lists dictionary.positions numbers paired terms.dictionary_is;
+      postings_are = found-dictionary os dictionary.names dictionary.lists dictionary.positions paired terms.dictionary_is;
       numbers_are = are;
     }
 
@@ -154,12 +155,10 @@ terms-whole kind vs dictionary numbers terms count =
     let d = terms.dictionary_is in
     let list : (i : ℕ) → i < length names → get_or dictionary.lists i [] ≡ docs_with (get_or names i []) os =
     λ i within. ap (λ ls. get_or ls i []) d.listed ∙ get_or-map (λ q. docs_with q os) names i [] [] within in
-    let position : (i : ℕ) → i < length names → get_or (term_position_lists dictionary.positions) i [] ≡ position_lists_with (get_or names i []) os =
-    λ i within. ap (λ ls. get_or ls i []) d.positioned ∙ get_or-map (λ q. position_lists_with q os) names i [] [] within in
     record {
       listed = sym (ap length d.listed ∙ length-map names (λ q. docs_with q os));
-      positioned = sym (ap length d.positioned ∙ length-map names (λ q. position_lists_with q os));
-      paired = λ i within. ap length (list i within) ∙ paired-occurrences (get_or names i []) kind 0 vs ∙ sym (ap length (position i within));
+      paired = ap (λ ls. sum (map length ls)) d.listed
+          ∙ lengths-flat (λ q. position_lists_with q os) (λ q. docs_with q os) (λ q. paired-occurrences q kind 0 vs) names ∙ sym (ap length d.positioned);
       numbered = λ i within. let P : List ℕ → Type 0 = All (λ doc. doc < length numbers) in
           subst P (sym (list i within)) (docs-within (get_or names i []) kind 0 (length numbers) vs (omega (arith, count)));
     }
@@ -232,12 +231,12 @@ parts-rise kind field ss ps bits are q =
 pub terms-joined : (kind : Kind) (field : ℕ) (ss : List SourceValue) (ps : List PartValue) (dictionary : Dictionary) → holds_numbers kind ≡ false →
     All HasBits ss → AreParts kind field 0 ss ps →
     All (λ s. All (HasFewTokens kind) (values_in field s.segment.documents)) ss →
-    IsJoined ps dictionary.names dictionary.lists (term_position_lists dictionary.positions) →
+    IsJoined ps dictionary.names dictionary.lists dictionary.positions →
     AreTerms kind (values_in field (contents ss)) dictionary
 terms-joined kind field ss ps dictionary kind_is bits are few j = record {
   kind_is = kind_is;
   few = few-contents kind field ss few;
-  dictionary_is = dictionary-joined kind (values_in field (contents ss)) ps dictionary.names dictionary.lists (term_position_lists dictionary.positions)
+  dictionary_is = dictionary-joined kind (values_in field (contents ss)) ps dictionary.names dictionary.lists dictionary.positions
       (λ q. parts-joined q kind field 0 ss ps bits are) j;
 }
 

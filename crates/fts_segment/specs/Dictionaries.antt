@@ -1,5 +1,6 @@
 -- A dictionary and its lists, compared with occurrences.
-use Rattle.std.specs.Prelude.{◌≡◌, ◌++◌, ℕ, nat_lt, Bool, true, List, [], ◌∷◌, length, map, nat_eq, Contains, All}
+use Rattle.std.specs.Prelude.{◌≡◌, ◌++◌, ℕ, nat_lt, Bool, true, List, [], ◌∷◌, flat_map, length, map, nat_eq}
+use Rattle.std.specs.Prelude.{Contains, All}
 use Rattle.std.specs.List.{dedup}
 use Rattle.fts_segment.specs.declared.term_groups.DocPosition.{DocPosition}
 use Rattle.fts_segment.specs.Occurrences.{OccurrenceValue}
@@ -15,12 +16,12 @@ docs_in places = dedup nat_eq (map (λ p. p.doc) places)
 abbrev pub occurs : List OccurrenceValue → List ℕ → Bool
 occurs os term = nat_lt 0 (length (docs_of term os))
 
--- the names are the terms that occur, in order, and each has the list of its documents and its positions in each
-pub record IsDictionaryOf (os : List OccurrenceValue) (names lists : List (List ℕ)) (positions : List (List (List ℕ)))
-    : Type 0 where
+-- the names are the terms that occur, in order, each has the list of its documents, and the positions in each of these
+-- follow those of the names before it
+pub record IsDictionaryOf (os : List OccurrenceValue) (names lists positions : List (List ℕ)) : Type 0 where
   pub ascends : Ascends names
   pub listed : lists ≡ map (λ q. docs_with q os) names
-  pub positioned : positions ≡ map (λ q. position_lists_with q os) names
+  pub positioned : positions ≡ flat_map (λ q. position_lists_with q os) names
   pub occur : All (λ q. occurs os q ≡ true) names
   pub whole : (q : List ℕ) → occurs os q ≡ true → Contains names q
 

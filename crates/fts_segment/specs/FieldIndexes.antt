@@ -15,7 +15,6 @@ use Rattle.fts_segment.specs.declared.keyword_index.KeywordIndex.{KeywordIndex}
 use Rattle.fts_segment.specs.declared.number_index.NumberIndex.{NumberIndex}
 use Rattle.fts_segment.specs.Occurrences.{occurrences, values_in, HasFewTokens}
 use Rattle.fts_segment.specs.Dictionaries.{IsDictionaryOf}
-use Rattle.fts_segment.specs.TermPositionLists.{term_position_lists}
 use Rattle.fts_segment.specs.Keywords.{ordinals_of, texts_of}
 use Rattle.fts_segment.specs.Numbers.{Fits64, numbers_of, IsNumberIndex}
 
@@ -23,8 +22,7 @@ use Rattle.fts_segment.specs.Numbers.{Fits64, numbers_of, IsNumberIndex}
 pub record AreTerms (kind : Kind) (vs : List (Option FieldValue)) (dictionary : Dictionary) : Type 0 where
   pub kind_is : holds_numbers kind ≡ false
   pub few : All (HasFewTokens kind) vs
-  pub dictionary_is : IsDictionaryOf (occurrences kind 0 vs)
-      dictionary.names dictionary.lists (term_position_lists dictionary.positions)
+  pub dictionary_is : IsDictionaryOf (occurrences kind 0 vs) dictionary.names dictionary.lists dictionary.positions
 
 -- a keyword index is that of a keyword field
 pub record AreKeywords (kind : Kind) (vs : List (Option FieldValue)) (index : KeywordIndex) : Type 0 where

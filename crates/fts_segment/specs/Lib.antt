@@ -18,8 +18,6 @@ pub mod SegmentData
 pub mod PositionLists
 pub mod PositionListLogs
 pub mod PositionListBounds
-pub mod PositionLogs
-pub mod TermPositionLists
 pub mod ListIds
 pub mod PositionsLeft
 pub mod PositionCopiers

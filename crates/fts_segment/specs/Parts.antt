@@ -1,6 +1,7 @@
 -- Term streams: the postings of a dictionary under new document numbers, and those that are left after some terms.
 use Rattle.std.specs.Prelude.{◌≡◌, ◌≢◌, ◌+◌, ◌<◌, ◌^◌, ℕ, Bool, true, false, List, [], ◌∷◌, ◌++◌, All, Contains, Option}
-use Rattle.std.specs.Prelude.{Some, None, count_by, drop, length, map, slice_get, slice_index_or, if◌then◌else◌}
+use Rattle.std.specs.Prelude.{Some, None, count_by, drop, flat_map, length, map, slice_get, slice_index_or, sum}
+use Rattle.std.specs.Prelude.{if◌then◌else◌}
 use Rattle.std.specs.List.{AllByRecursion}
 use Rattle.std.specs.Str.{bytes_eq}
 use Rattle.std.specs.Ordering.{nat_cmp, is_gt}
@@ -11,9 +12,8 @@ use Rattle.fts_segment.specs.declared.dictionary.Dictionary.{Dictionary}
 use Rattle.fts_segment.specs.declared.position_copier.PositionCopier.{PositionCopier}
 use Rattle.fts_segment.specs.Occurrences.{OccurrenceValue, occurrences, values_in, docs_with}
 use Rattle.fts_segment.specs.Positions.{position_lists_with}
-use Rattle.fts_segment.specs.Postings.{Posting, postings_of, documents, position_lists}
+use Rattle.fts_segment.specs.Postings.{Posting, postings_by, postings_of, documents, position_lists}
 use Rattle.fts_segment.specs.Sources.{SourceValue}
-use Rattle.fts_segment.specs.TermPositionLists.{term_position_lists}
 use Rattle.fts_segment.specs.PositionCopiers.{lists_in}
 
 -- the new number of each document: live ones are numbered from `next`, and a deleted one has none
@@ -44,12 +44,6 @@ abbrev pub moved : List (Option ℕ) → List Posting → List Posting
 moved numbers [] = []
 moved numbers (p ∷ ps) = placed (slice_get numbers p.doc) p ++ moved numbers ps
 
--- the postings of each term
-abbrev pub postings_by : List (List ℕ) → List (List (List ℕ)) → List (List Posting)
-postings_by [] positions = []
-postings_by (list ∷ lists) [] = []
-postings_by (list ∷ lists) (p ∷ ps) = postings_of list p ∷ postings_by lists ps
-
 -- a term stream: ascending terms, the postings of each, and new numbers for their documents
 pub record PartValue : Type 0 where
   pub names : List (List ℕ)
@@ -60,16 +54,14 @@ pub record PartValue : Type 0 where
 abbrev pub part_from : ℕ → Dictionary → List (Option ℕ) → PartValue
 part_from at dictionary numbers = record {
   names = drop at dictionary.names;
-  postings = drop at (postings_by dictionary.lists (term_position_lists dictionary.positions));
+  postings = drop at (postings_by dictionary.lists dictionary.positions);
   numbers = numbers;
 }
 
--- each term has its lists, with positions for each document, and each document is in the map of new numbers
+-- each term has its list, each of its documents has positions, and each document is in the map of new numbers
 pub record IsWhole (dictionary : Dictionary) (numbers : List (Option ℕ)) : Type 0 where
   pub listed : length dictionary.names ≡ length dictionary.lists
-  pub positioned : length dictionary.names ≡ length (term_position_lists dictionary.positions)
-  pub paired : (i : ℕ) → i < length dictionary.names → length (slice_index_or dictionary.lists i [])
-      ≡ length (slice_index_or (term_position_lists dictionary.positions) i [])
+  pub paired : sum (map length dictionary.lists) ≡ length dictionary.positions
   pub numbered : (i : ℕ) → i < length dictionary.names →
       All (λ doc. doc < length numbers) (slice_index_or dictionary.lists i [])
 
@@ -78,7 +70,7 @@ pub record IsPartOf (at : ℕ) (dictionary : Dictionary) (numbers : List (Option
     (lists : PositionCopier) : Type 0 where
   pub whole : IsWhole dictionary numbers
   pub next : term ≡ slice_get (drop at dictionary.names) 0
-  pub lists_are : lists_in lists ≡ dictionary.positions.lists
+  pub lists_are : lists_in lists ≡ dictionary.positions
 
 -- the postings of a term among those of names, or none
 abbrev pub found : List (List ℕ) → List (List Posting) → List ℕ → List Posting
@@ -106,11 +98,10 @@ pub record IsSound (part : PartValue) : Type 0 where
   pub paired : length part.names ≡ length part.postings
 
 -- the merged dictionary of streams: the terms that have a posting, in order, each with the postings of every stream
-pub record IsJoined (parts : List PartValue) (names lists : List (List ℕ)) (positions : List (List (List ℕ)))
-    : Type 0 where
+pub record IsJoined (parts : List PartValue) (names lists positions : List (List ℕ)) : Type 0 where
   pub ascend : Ascend names
   pub listed : lists ≡ map (λ q. documents (joined parts q)) names
-  pub positioned : positions ≡ map (λ q. position_lists (joined parts q)) names
+  pub positioned : positions ≡ flat_map (λ q. position_lists (joined parts q)) names
   pub some : AllByRecursion (λ q. joined parts q ≢ []) names
   pub whole : (q : List ℕ) → joined parts q ≢ [] → Contains names q
 

@@ -28,6 +28,11 @@ pub record ArePacked (counts starts gaps : List ℕ) : Type 0 where
   pub starts_are : (block : ℕ) → block < length starts → slice_index starts block ≡ sum (take (block * 128) counts)
   pub fit : All (λ list. All (λ p. p < 2 ^ 32) list) (position_lists_at counts gaps)
 
+-- the lists behind an optional reference, or none
+abbrev pub lists_behind : Option (Bor (List (List ℕ))) → List (List ℕ)
+lists_behind None = []
+lists_behind (Some lists) = lists.now
+
 -- the numbers behind an optional reference, or none
 abbrev pub numbers_behind : Option (Bor (List ℕ)) → List ℕ
 numbers_behind None = []

@@ -6,13 +6,11 @@ ghost use Rattle.fts_segment.specs.Parts.{moved, placed};
 ghost use Rattle.fts_segment.specs.PositionListLogs.{IsPositionListLog};
 ghost use Rattle.fts_segment.specs.Postings.{posting_at, postings_of};
 ghost use Rattle.fts_segment.specs.Puts.{Puts};
-ghost use Rattle.fts_segment.specs.TermPositionLists.{position_lists_in};
 ghost use Rattle.fts_segment.specs.PositionCopiers.{lists_in};
 
 use crate::doc_map::DocMap;
 use crate::position_copier::PositionCopier;
 use crate::position_lists::PositionListLog;
-use crate::term_positions::TermPositionLists;
 use fts_pack::{BLOCK, Blocks, ListRef};
 use std::alloc::AllocError;
 
@@ -92,10 +90,11 @@ fn copy_block(
 }
 
 /// Appends the postings of a term under new document numbers: their documents to `docs` and their positions to a log.
-/// `room` is a scratch buffer for a block of documents. If every document is live, the positions are copied as a whole.
+/// `start` is the index of its first list of positions, and `room` a scratch buffer for a block of documents. If every
+/// document is live, the positions are copied as a whole.
 pub(crate) fn copy_postings(
     list: ListRef<'_>,
-    positions: TermPositionLists<'_>,
+    start: usize,
     numbers: &DocMap,
     lists: &mut PositionCopier<'_>,
     room: &mut [u32; BLOCK],
@@ -103,24 +102,23 @@ pub(crate) fn copy_postings(
     log: &mut PositionListLog,
 ) -> Result<(), AllocError>
     requires is { IsPositionListLog log.old }
-    requires lists { lists_in lists.old ≡ positions.lists.now }
-    requires paired { length (listed list) ≡ length (position_lists_in positions) }
+    requires paired { start + length (listed list) ≤ length (lists_in lists.old) }
     requires numbered { All (λ doc. doc < length numbers.now) (listed list) }
     ensures same { lists_in lists.new ≡ lists_in lists.old }
     ensures puts { OnOk result (Puts
-        (moved numbers.now (postings_of (listed list.entry) (position_lists_in positions.entry)))
+        (moved numbers.now (postings_of (listed list.entry) (drop start (lists_in lists.old))))
         docs.old.items log.old docs.new.items log.new) }
 {
     if let Some(first) = numbers.first() {
         copy_shifted(list, first, room, docs)?;
-        lists.move_lists(positions.start, positions.end, log)?;
+        lists.move_lists(start, start + list.len(), log)?;
         return Ok(());
     }
     let mut source = list.source();
     for block in 0..source.blocks() {
         let count = source.open(block, room);
-        let start = positions.start + block * BLOCK;
-        copy_block(&room[..count], start, numbers, lists, docs, log)?;
+        let first = start + block * BLOCK;
+        copy_block(&room[..count], first, numbers, lists, docs, log)?;
     }
     Ok(())
 }

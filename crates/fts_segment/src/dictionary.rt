@@ -8,8 +8,8 @@ ghost use Rattle.fts_segment.specs.Keywords.{texts_of};
 
 use crate::binary_search::find_name;
 use crate::names::Names;
+use crate::position_lists::PositionLists;
 use crate::segment::ListId;
-use crate::term_positions::TermPositions;
 use crate::token_log::log_of_field;
 use fts_model::{Document, Kind, Stamped};
 use fts_pack::{Blocks, ListRef, Lists};
@@ -20,7 +20,8 @@ use std::alloc::{AllocError, Global};
 pub(crate) struct Dictionary {
     pub(crate) names: Names,
     pub(crate) lists: Lists,
-    pub(crate) positions: TermPositions,
+    /// The positions in each document of the first list, then in each of the second, and so on.
+    pub(crate) positions: PositionLists,
 }
 
 impl Dictionary {
@@ -30,7 +31,7 @@ impl Dictionary {
     ghost use Rattle.fts_segment.specs.Occurrences.{occurrences, values_in, HasFewTokens};
     ghost use Rattle.fts_segment.specs.Sorted.{Ascends};
     ghost use Rattle.fts_segment.specs.ListIds.{documents_in, positions_in};
-    ghost use Rattle.fts_segment.specs.TermPositionLists.{term_position_lists};
+    ghost use Rattle.fts_segment.specs.Postings.{term_positions};
 
     /// The terms of the documents in a text or keyword field.
     pub(crate) fn new(
@@ -41,7 +42,7 @@ impl Dictionary {
     ) -> Result<Dictionary, AllocError>
         requires { length documents.now ≤ 2 ^ 32 }
         ensures is { IfOk result (λ dictionary. IsDictionaryOf (occurrences kind 0 (values_in field documents.now))
-            dictionary.names dictionary.lists (term_position_lists dictionary.positions)) }
+            dictionary.names dictionary.lists dictionary.positions) }
         ensures few { OnOk result (All (HasFewTokens kind) (values_in field documents.now)) }
     {
         let log = log_of_field(alloc, documents, field, kind)?;
@@ -52,16 +53,19 @@ impl Dictionary {
     pub(crate) fn find(&self, term: &str) -> Option<ListId<'_>>
         requires ascends { Ascends self.now.names }
         requires listed { length self.now.names ≡ length self.now.lists }
-        requires positioned { length self.now.names ≡ length (term_position_lists self.now.positions) }
         ensures { MatchOption result ((i : ℕ) → slice_get self.now.names i ≡ Some term.now → ⊥)
             (λ list. (i : ℕ) × (slice_get self.now.names i ≡ Some term.now)
             × (documents_in list ≡ slice_index_or self.now.lists i [])
-            × (positions_in list ≡ slice_index_or (term_position_lists self.now.positions) i [])) }
+            × (positions_in list ≡ term_positions self.now.lists self.now.positions i)) }
     {
         let number = find_name(&self.names, term.as_bytes())?;
+        // Reveals to the proof that the number after it is a `usize`.
+        let _ = self.lists.len();
         Some(ListId {
             list: self.lists.get(number),
-            positions: Some(self.positions.get(number)),
+            positions: Some(&self.positions),
+            start: self.lists.start(number),
+            end: self.lists.start(number + 1),
         })
     }
 

@@ -44,7 +44,6 @@ mod term_groups;
 mod term_ids;
 mod term_log;
 mod term_merge;
-mod term_positions;
 mod term_stream;
 mod token_log;
 

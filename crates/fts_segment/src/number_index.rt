@@ -91,6 +91,8 @@ impl NumberIndex {
         Some(ListId {
             list: self.lists.get(index),
             positions: None,
+            start: 0,
+            end: 0,
         })
     }
 }

@@ -1,15 +1,15 @@
 // Writes the postings of terms in their order: the documents of each term, and its positions in them.
-ghost use Rattle.std.specs.Prelude.{◌≡◌, ◌++◌, OnOk, IfOk, All, length, map};
+ghost use Rattle.std.specs.Prelude.{◌≡◌, ◌≢◌, ◌==◌, ◌++◌, ◌∷◌, [], OnOk, IfOk, All, cond, flat_map, length, map};
 ghost use Rattle.std.specs.List.Sorted.{IsStrictlyIncreasing};
 ghost use Rattle.fts_segment.specs.Dictionaries.{docs_in, unless_none, names_listed, listed_by};
 ghost use Rattle.fts_segment.specs.Positions.{position_lists_of};
 ghost use Rattle.fts_segment.specs.PositionLists.{IsPositionList};
-ghost use Rattle.fts_segment.specs.PositionLogs.{IsPositionLog, logged_term_position_lists};
+ghost use Rattle.fts_segment.specs.PositionListLogs.{IsPositionListLog, logged_position_lists};
 
 use crate::dictionary::Dictionary;
 use crate::names::{Name, Names};
+use crate::position_lists::{PositionListLog, PositionLists};
 use crate::term_groups::{DocPosition, TermGroups};
-use crate::term_positions::{PositionLog, TermPositions};
 use fts_base::release;
 use fts_pack::Lists;
 use std::alloc::{AllocError, Global};
@@ -19,7 +19,70 @@ use std::alloc::{AllocError, Global};
 pub(crate) struct PostingsWriter {
     pub(crate) names: Names,
     pub(crate) lists: Lists,
-    pub(crate) positions: PositionLog,
+    /// A list of positions for each document of the first term, then of the second, and so on.
+    pub(crate) positions: PositionListLog,
+}
+
+impl PostingsWriter {
+    ghost use Rattle.std.specs.Prelude.{◌≡◌, ◌++◌, ◌∷◌, [], IfOk, OnOk};
+    ghost use Rattle.std.specs.List.Sorted.{IsStrictlyIncreasing};
+    ghost use Rattle.fts_segment.specs.PositionListLogs.{IsPositionListLog, logged_position_lists};
+
+    /// An empty writer with capacity for this many terms and positions.
+    pub(crate) fn with_capacity(
+        alloc: Global,
+        terms: usize,
+        positions: usize,
+    ) -> Result<PostingsWriter, AllocError>
+        ensures names { IfOk result (λ writer. writer.names ≡ []) }
+        ensures lists { IfOk result (λ writer. writer.lists ≡ []) }
+        ensures positions { IfOk result (λ writer. logged_position_lists writer.positions ≡ []) }
+        ensures is { IfOk result (λ writer. IsPositionListLog writer.positions) }
+    {
+        Ok(PostingsWriter {
+            names: Names::with_capacity(alloc, terms)?,
+            lists: Lists::with_capacity(alloc, terms)?,
+            positions: PositionListLog::with_capacity(alloc, positions)?,
+        })
+    }
+
+    /// Appends a term with these documents. Its positions are appended to the log.
+    pub(crate) fn push(
+        &mut self,
+        alloc: Global,
+        name: &Name<'_>,
+        docs: &[u32],
+    ) -> Result<(), AllocError>
+        requires { IsStrictlyIncreasing docs.now }
+        ensures names { OnOk result (self.new.names ≡ self.old.names ++ name.now ∷ []) }
+        ensures lists { OnOk result (self.new.lists ≡ self.old.lists ++ docs.now ∷ []) }
+        ensures positions { self.new.positions ≡ self.old.positions }
+    {
+        self.names.push(name)?;
+        self.lists.push(alloc, docs)
+    }
+
+    /// The dictionary of the terms, with their positions packed.
+    pub(crate) fn finish(self, alloc: Global) -> Result<Dictionary, AllocError>
+        requires { IsPositionListLog self.positions }
+        ensures names { IfOk result (λ dictionary. dictionary.names ≡ self.names) }
+        ensures lists { IfOk result (λ dictionary. dictionary.lists ≡ self.lists) }
+        ensures positions { IfOk result (λ dictionary. dictionary.positions ≡ logged_position_lists self.positions) }
+    {
+        let PostingsWriter {
+            mut names,
+            mut lists,
+            positions,
+        } = self;
+        names.shrink_to_fit();
+        lists.shrink_to_fit();
+        let positions = PositionLists::build(alloc, positions)?;
+        Ok(Dictionary {
+            names,
+            lists,
+            positions,
+        })
+    }
 }
 
 /// Sets `docs` to the documents of places, without duplicates.
@@ -34,108 +97,57 @@ pub(crate) fn set_docs(docs: &mut Vec<u32>, places: &[DocPosition]) -> Result<()
     Ok(())
 }
 
-impl PostingsWriter {
-    ghost use Rattle.std.specs.Prelude.{◌≡◌, ◌++◌, ◌∷◌, [], ℕ, List, All, IfOk, OnOk, length};
-    ghost use Rattle.std.specs.List.Sorted.{IsStrictlyIncreasing};
-    ghost use Rattle.fts_segment.specs.Dictionaries.{docs_in};
-    ghost use Rattle.fts_segment.specs.Positions.{position_lists_of};
-    ghost use Rattle.fts_segment.specs.PositionLists.{IsPositionList};
-    ghost use Rattle.fts_base.specs.Pieces.{pieces, AreEnds};
-    ghost use Rattle.fts_segment.specs.PositionListLogs.{IsPositionListLog, logged_position_lists};
-    ghost use Rattle.fts_segment.specs.PositionLogs.{HasTerm, IsPositionLog, logged_term_position_lists};
-    ghost use Rattle.fts_segment.specs.TermPositionLists.{term_position_lists};
-
-    /// An empty writer with capacity for this many terms and positions.
-    pub(crate) fn with_capacity(
-        alloc: Global,
-        terms: usize,
-        positions: usize,
-    ) -> Result<PostingsWriter, AllocError>
-        ensures names { IfOk result (λ writer. writer.names ≡ []) }
-        ensures lists { IfOk result (λ writer. writer.lists ≡ []) }
-        ensures positions { IfOk result (λ writer. logged_term_position_lists writer.positions ≡ []) }
-        ensures is { IfOk result (λ writer. IsPositionLog writer.positions) }
-    {
-        Ok(PostingsWriter {
-            names: Names::with_capacity(alloc, terms)?,
-            lists: Lists::with_capacity(alloc, terms)?,
-            positions: PositionLog::with_capacity(alloc, terms, positions)?,
-        })
+/// Appends the position of a place to `list`, the positions in document `doc`. If the place is in another document, the
+/// list is first appended to the log.
+fn push_place(
+    lists: &mut PositionListLog,
+    list: &mut Vec<u32>,
+    doc: u32,
+    place: DocPosition,
+) -> Result<(), AllocError>
+    requires is { IsPositionListLog lists.old }
+    requires list { place.doc ≢ doc → IsPositionList list.old.items }
+    ensures is { OnOk result (IsPositionListLog lists.new) }
+    ensures positions { OnOk result (logged_position_lists lists.new
+        ≡ logged_position_lists lists.old ++ cond (place.doc == doc) [] (list.old.items ∷ [])) }
+    ensures list { OnOk result (list.new.items
+        ≡ cond (place.doc == doc) list.old.items [] ++ place.position ∷ []) }
+{
+    if place.doc != doc {
+        lists.push(list)?;
+        list.clear();
     }
-
-    /// Appends a term with the documents of its places. `room` is a scratch buffer for the documents.
-    fn push(
-        &mut self,
-        alloc: Global,
-        room: &mut Vec<u32>,
-        name: &[u8],
-        places: &[DocPosition],
-    ) -> Result<(), AllocError>
-        requires rise { IsStrictlyIncreasing (docs_in places.now) }
-        requires positions { All IsPositionList (position_lists_of places.now) }
-        requires is { IsPositionLog self.old.positions }
-        ensures names { OnOk result (self.new.names ≡ self.old.names ++ name.now ∷ []) }
-        ensures lists { OnOk result (self.new.lists
-            ≡ self.old.lists ++ docs_in places.now ∷ []) }
-        ensures positions { OnOk result (logged_term_position_lists self.new.positions
-            ≡ logged_term_position_lists self.old.positions ++ position_lists_of places.now ∷ []) }
-        ensures is { OnOk result (IsPositionLog self.new.positions) }
-    {
-        set_docs(room, places)?;
-        self.names.push(&Name::new(name))?;
-        self.lists.push(alloc, room)?;
-        self.positions.push(room, places)
-    }
-
-    /// Appends a term with these documents; its positions are already in the log.
-    pub(crate) fn end_term(
-        &mut self,
-        alloc: Global,
-        name: &Name<'_>,
-        docs: &[u32],
-    ) -> Result<(), AllocError>
-        requires rise { IsStrictlyIncreasing docs.now }
-        requires is { IsPositionListLog self.old.positions.lists }
-        ensures names { OnOk result (self.new.names ≡ self.old.names ++ name.now ∷ []) }
-        ensures lists { OnOk result (self.new.lists ≡ self.old.lists ++ docs.now ∷ []) }
-        ensures positions { (before more : List (List ℕ))
-            → AreEnds 0 self.old.positions.ends.items (length before)
-            → logged_position_lists self.old.positions.lists ≡ before ++ more
-            → OnOk result (HasTerm self.new.positions (pieces 0 before self.old.positions.ends.items) more) }
-    {
-        self.names.push(name)?;
-        self.lists.push(alloc, docs)?;
-        self.positions.end_term()?;
-        Ok(())
-    }
-
-    /// The dictionary of the terms, with their positions packed.
-    pub(crate) fn finish(self, alloc: Global) -> Result<Dictionary, AllocError>
-        requires { IsPositionLog self.positions }
-        ensures names { IfOk result (λ dictionary. dictionary.names ≡ self.names) }
-        ensures lists { IfOk result (λ dictionary. dictionary.lists ≡ self.lists) }
-        ensures positions { IfOk result
-            (λ dictionary. term_position_lists dictionary.positions
-            ≡ logged_term_position_lists self.positions) }
-    {
-        let PostingsWriter {
-            mut names,
-            mut lists,
-            positions,
-        } = self;
-        names.shrink_to_fit();
-        lists.shrink_to_fit();
-        let positions = TermPositions::build(alloc, positions)?;
-        Ok(Dictionary {
-            names,
-            lists,
-            positions,
-        })
-    }
+    list.push(place.position)?;
+    Ok(())
 }
 
-/// Appends a term, if it has a place.
-pub(crate) fn put(
+/// Appends the positions of places to the log, one list for each document.
+fn push_position_lists(
+    lists: &mut PositionListLog,
+    list: &mut Vec<u32>,
+    places: &[DocPosition],
+) -> Result<(), AllocError>
+    requires is { IsPositionListLog lists.old }
+    requires positions { All IsPositionList (position_lists_of places.now) }
+    ensures is { OnOk result (IsPositionListLog lists.new) }
+    ensures positions { OnOk result (logged_position_lists lists.new
+        ≡ logged_position_lists lists.old ++ position_lists_of places.now) }
+{
+    let [first, rest @ ..] = places else {
+        return Ok(());
+    };
+    let mut doc = first.doc;
+    list.clear();
+    list.push(first.position)?;
+    for place in rest {
+        push_place(lists, list, doc, *place)?;
+        doc = place.doc;
+    }
+    lists.push(list)
+}
+
+/// Appends a term with its places, if it has one. `room` is a scratch buffer.
+fn put(
     writer: &mut PostingsWriter,
     alloc: Global,
     room: &mut Vec<u32>,
@@ -144,20 +156,21 @@ pub(crate) fn put(
 ) -> Result<(), AllocError>
     requires rise { IsStrictlyIncreasing (docs_in places.now) }
     requires positions { All IsPositionList (position_lists_of places.now) }
-    requires is { IsPositionLog writer.old.positions }
+    requires is { IsPositionListLog writer.old.positions }
     ensures names { OnOk result (writer.new.names
         ≡ writer.old.names ++ unless_none places.now name.now) }
     ensures lists { OnOk result (writer.new.lists
         ≡ writer.old.lists ++ unless_none places.now (docs_in places.now)) }
-    ensures positions { OnOk result (logged_term_position_lists writer.new.positions
-        ≡ logged_term_position_lists writer.old.positions
-        ++ unless_none places.now (position_lists_of places.now)) }
-    ensures is { OnOk result (IsPositionLog writer.new.positions) }
+    ensures positions { OnOk result (logged_position_lists writer.new.positions
+        ≡ logged_position_lists writer.old.positions ++ position_lists_of places.now) }
+    ensures is { OnOk result (IsPositionListLog writer.new.positions) }
 {
-    match places {
-        [] => Ok(()),
-        [_, ..] => writer.push(alloc, room, name, places),
-    }
+    let [_, ..] = places else {
+        return Ok(());
+    };
+    set_docs(room, places)?;
+    writer.push(alloc, &Name::new(name), room)?;
+    push_position_lists(&mut writer.positions, room, places)
 }
 
 /// Writes each name that has a place, with the places of its group.
@@ -172,8 +185,8 @@ pub(crate) fn write_terms(
     ensures names { IfOk result (λ all. all.names ≡ names_listed groups.now (map (λ n. n.now) names.now)) }
     ensures lists { IfOk result (λ all. all.lists ≡ listed_by docs_in groups.now) }
     ensures positions { IfOk result
-        (λ all. logged_term_position_lists all.positions ≡ listed_by position_lists_of groups.now) }
-    ensures is { IfOk result (λ all. IsPositionLog all.positions) }
+        (λ all. logged_position_lists all.positions ≡ flat_map position_lists_of groups.now) }
+    ensures is { IfOk result (λ all. IsPositionListLog all.positions) }
 {
     let mut writer = PostingsWriter::with_capacity(alloc, names.len(), groups.places())?;
     let mut room = Vec::new(alloc);

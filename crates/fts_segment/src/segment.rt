@@ -21,9 +21,9 @@ ghost use Rattle.fts_segment.specs.ListIds.{documents_in, positions_in};
 use crate::binary_search::equal_range;
 use crate::dictionary::Dictionary;
 use crate::field_index::FieldIndex;
+use crate::position_lists::PositionLists;
 use crate::position_reader::PositionReader;
 use crate::sorted_column::SortedColumn;
-use crate::term_positions::TermPositionLists;
 use fts_base::release;
 use fts_model::{Document, FieldValue, Schema, Stamp, Stamped, Term};
 use fts_pack::column::Column;
@@ -36,7 +36,11 @@ use std::sync::Arc;
 #[derive(Clone, Copy)]
 pub struct ListId<'a> {
     pub(crate) list: ListRef<'a>,
-    pub(crate) positions: Option<TermPositionLists<'a>>,
+    /// The positions of the field's terms, unless this is a number.
+    pub(crate) positions: Option<&'a PositionLists>,
+    /// The index of the term's first list of positions, and the index after its last.
+    pub(crate) start: usize,
+    pub(crate) end: usize,
 }
 
 /// The data that copies of a segment share.
@@ -149,7 +153,7 @@ impl Segment {
     pub fn positions<'a>(&self, list: ListId<'a>) -> PositionReader<'a>
         ensures { result ≡ positions_in list.entry }
     {
-        PositionReader::new(list.positions)
+        PositionReader::new(list.positions, list.start, list.end)
     }
 
     /// The column of a field. For a number field it has the documents' numbers, an `i64` as the `u64` that `i64_to_u64`

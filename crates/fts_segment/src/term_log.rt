@@ -46,7 +46,6 @@ impl TermLog {
     ghost use Rattle.fts_segment.specs.Dictionaries.{IsDictionaryOf};
     ghost use Rattle.fts_segment.specs.Positions.{position_lists_with};
     ghost use Rattle.fts_segment.specs.PositionLists.{IsPositionList};
-    ghost use Rattle.fts_segment.specs.TermPositionLists.{term_position_lists};
 
     /// An empty log.
     pub(crate) fn new(alloc: Global) -> TermLog
@@ -81,8 +80,7 @@ impl TermLog {
         requires rise { (q : List ℕ) → IsStrictlyIncreasing (docs_with q self) }
         requires positions { (q : List ℕ) → All IsPositionList (position_lists_with q self) }
         ensures { IfOk result
-            (λ dictionary. IsDictionaryOf self dictionary.names dictionary.lists
-            (term_position_lists dictionary.positions)) }
+            (λ dictionary. IsDictionaryOf self dictionary.names dictionary.lists dictionary.positions) }
     {
         let TermLog { terms, mut log } = self;
         let terms = terms.into_names();

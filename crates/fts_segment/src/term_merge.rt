@@ -4,11 +4,9 @@ ghost use Rattle.std.specs.List.{AllByRecursion};
 ghost use Rattle.std.specs.List.Sorted.{IsStrictlyIncreasing};
 ghost use Rattle.fts_segment.specs.Dictionaries.{unless_none};
 ghost use Rattle.fts_segment.specs.Parts.{given, passed, least_of, lesser, joined, IsSound, IsJoined};
-ghost use Rattle.fts_segment.specs.PositionListLogs.{IsPositionListLog};
-ghost use Rattle.fts_segment.specs.PositionLogs.{IsPositionLog, logged_term_position_lists};
+ghost use Rattle.fts_segment.specs.PositionListLogs.{IsPositionListLog, logged_position_lists};
 ghost use Rattle.fts_segment.specs.Postings.{documents, position_lists};
 ghost use Rattle.fts_segment.specs.Puts.{Puts};
-ghost use Rattle.fts_segment.specs.TermPositionLists.{term_position_lists};
 
 use crate::dictionary::Dictionary;
 use crate::names::Name;
@@ -73,32 +71,30 @@ fn merge_term(
     term: &Name<'_>,
 ) -> Result<(), AllocError>
     requires rise { IsStrictlyIncreasing (documents (flat_map (given term.now) parts.old)) }
-    requires is { IsPositionLog writer.old.positions }
+    requires is { IsPositionListLog writer.old.positions }
     ensures parts { OnOk result (parts.new ≡ map (passed term.now) parts.old) }
     ensures names { OnOk result (writer.new.names
         ≡ writer.old.names ++ unless_none (flat_map (given term.now) parts.old) term.now) }
     ensures lists { OnOk result (writer.new.lists ≡ writer.old.lists
         ++ unless_none (flat_map (given term.now) parts.old) (documents (flat_map (given term.now) parts.old))) }
-    ensures positions { OnOk result (logged_term_position_lists writer.new.positions
-        ≡ logged_term_position_lists writer.old.positions
-        ++ unless_none (flat_map (given term.now) parts.old) (position_lists (flat_map (given term.now) parts.old))) }
-    ensures is { OnOk result (IsPositionLog writer.new.positions) }
+    ensures positions { OnOk result (logged_position_lists writer.new.positions
+        ≡ logged_position_lists writer.old.positions ++ position_lists (flat_map (given term.now) parts.old)) }
+    ensures is { OnOk result (IsPositionListLog writer.new.positions) }
 {
     docs.clear();
-    take_from_each(parts, term, docs, &mut writer.positions.lists)?;
+    take_from_each(parts, term, docs, &mut writer.positions)?;
     if docs.is_empty() {
         return Ok(());
     }
-    writer.end_term(alloc, term, docs)?;
-    Ok(())
+    writer.push(alloc, term, docs)
 }
 
 /// A writer with capacity for the terms and positions of all streams, so that it seldom grows.
 fn writer_for(alloc: Global, parts: &[TermStream<'_>]) -> Result<PostingsWriter, AllocError>
     ensures names { IfOk result (λ writer. writer.names ≡ []) }
     ensures lists { IfOk result (λ writer. writer.lists ≡ []) }
-    ensures positions { IfOk result (λ writer. logged_term_position_lists writer.positions ≡ []) }
-    ensures is { IfOk result (λ writer. IsPositionLog writer.positions) }
+    ensures positions { IfOk result (λ writer. logged_position_lists writer.positions ≡ []) }
+    ensures is { IfOk result (λ writer. IsPositionListLog writer.positions) }
 {
     let mut terms = 0usize;
     let mut positions = 0usize;
@@ -118,7 +114,7 @@ pub(crate) fn merge_terms(
     requires sound { AllByRecursion IsSound parts.old }
     requires rise { (q : List ℕ) → IsStrictlyIncreasing (documents (joined parts.old q)) }
     ensures { IfOk result (λ dictionary. IsJoined parts.old
-        dictionary.names dictionary.lists (term_position_lists dictionary.positions)) }
+        dictionary.names dictionary.lists dictionary.positions) }
 {
     let mut writer = writer_for(alloc, parts)?;
     let mut docs = Vec::new(alloc);

@@ -60,7 +60,7 @@ impl<'a> TermStream<'a> {
             numbers,
             at: 0,
             term: term_at(dictionary, 0),
-            lists: dictionary.positions.lists.unpacked(),
+            lists: dictionary.positions.unpacked(),
             room: [0; BLOCK],
         }
     }
@@ -72,7 +72,7 @@ impl<'a> TermStream<'a> {
             positions,
             ..
         } = self.dictionary;
-        (names.len(), positions.lists.positions())
+        (names.len(), positions.positions())
     }
 
     /// The next term, if one is left.
@@ -112,10 +112,10 @@ impl<'a> TermStream<'a> {
             // Shows the proof that the number of terms is a `usize`.
             let _ = self.dictionary.lists.len();
             let list = self.dictionary.lists.get(self.at);
-            let positions = self.dictionary.positions.get(self.at);
+            let start = self.dictionary.lists.start(self.at);
             copy_postings(
                 list,
-                positions,
+                start,
                 &self.numbers,
                 &mut self.lists,
                 &mut self.room,

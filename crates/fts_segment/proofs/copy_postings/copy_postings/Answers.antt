@@ -1,6 +1,5 @@
 use Rattle.std.proofs.Common.{◌≡◌, ◌++◌, ◌+◌, ◌-◌, ◌*◌, ◌^◌, ◌≤◌, ◌<◌, ℕ, List, [], length, length-drop, take, drop, get_or, refl, ap, sym, subst, ◌∙◌, arith}
-use Rattle.std.specs.Prelude.{slice_range}
-use Rattle.std.proofs.lemmas.List.{length-take, take_all}
+use Rattle.std.proofs.lemmas.List.{take_all}
 use Rattle.std.proofs.lemmas.List.Elements.{All-weaker}
 use Rattle.fts_pack.specs.ListRef.{listed}
 use Rattle.fts_pack.specs.Documents.{block_at, block_count, blocks_of}
@@ -9,10 +8,8 @@ use Rattle.fts_segment.specs.Parts.{moved}
 use Rattle.fts_segment.specs.PositionListLogs.{logged_position_lists}
 use Rattle.fts_segment.specs.Postings.{postings_of}
 use Rattle.fts_segment.specs.Puts.{Puts}
-use Rattle.fts_segment.specs.declared.term_positions.TermPositionLists.{TermPositionLists}
-use Rattle.fts_segment.specs.TermPositionLists.{position_lists_in}
 use Rattle.fts_segment.specs.PositionCopiers.{lists_in}
-use Rattle.fts_segment.proofs.MovingLemmas.{documents-shifted, lists-shifted, moved-block, postings_of-take}
+use Rattle.fts_segment.proofs.MovingLemmas.{documents-shifted, lists-shifted, moved-block}
 use Rattle.fts_segment.proofs.PackedLemmas.{length-position_lists_at}
 use Rattle.fts_segment.proofs.PutsLemmas.{puts-as, puts-more, puts-none}
 use Rattle.fts_segment.proofs.copy_postings.copy_postings.Goals as goal
@@ -21,11 +18,6 @@ use Rattle.fts_segment.proofs.copy_postings.copy_postings.Goals.{After-open-coun
 -- the number of blocks of a list
 blocks : (docs list : List ℕ) → docs ≡ list → length (blocks_of docs) ≡ block_count (length list)
 blocks docs list same = ap (λ ds. length (blocks_of ds)) same ∙ length-blocks_of list
-
--- there is a list of positions for each document
-room : (p : TermPositionLists) (list : List ℕ) (lists : List (List ℕ)) → lists ≡ p.lists.now → length list ≡ length (position_lists_in p) →
-    length list ≤ length lists - p.start
-room p list lists same paired = omega (arith, paired, length-take (p.end - p.start) (drop p.start p.lists.now), length-drop p.start p.lists.now, ap length same)
 
 opened_of : (c : After-open-count) → take c.open-count.result c.open-count.new.out ≡ block_at (listed c.args.list) c.loop-block.block
 opened_of c =
@@ -41,20 +33,26 @@ copy_shifted-requires c =
     All-weaker (λ doc. doc < length numbers) (λ doc. first + doc < 2 ^ 32) (λ doc within. omega (arith, within, c.in-Some.ensures.fit)) (listed c.args.list)
     c.requires.numbered
 
+pub overflow_add-start : goal.overflow_add-start
+overflow_add-start c =
+    let l = c.args.lists.now in
+    omega (arith, c.len.ensures, c.requires.paired, length-position_lists_at l.counts.numbers.now l.gaps.numbers.now, l.counts.few)
+
 pub returns-in-Some-clause-puts : goal.returns-in-Some-clause-puts
 returns-in-Some-clause-puts c =
-    let p = c.args.positions in
     let numbers = c.args.numbers.now in
     let list = listed c.args.list in
+    let lists = drop c.args.start (lists_in c.args.lists.now) in
     let row = c.in-Some.ensures in
+    let room : length list ≤ length lists = omega (arith, c.requires.paired, length-drop c.args.start (lists_in c.args.lists.now)) in
+    let count : c.args.start + c.len.result - c.args.start ≡ length list = omega (arith, c.len.ensures) in
     record {
       is = c.in_ok-move_lists.ensures.is;
       documents_are = c.in_ok-copy_shifted.ensures
-          ∙ ap (λ ds. c.args.docs.now.items ++ ds)
-          (sym (documents-shifted numbers c.in-Some.first list (position_lists_in p) row c.requires.paired c.requires.numbered));
-      positions_are = c.in_ok-move_lists.ensures.moved ∙ ap (λ ls. logged_position_lists c.args.log.now ++ slice_range ls p.start p.end) c.requires.lists
+          ∙ ap (λ ds. c.args.docs.now.items ++ ds) (sym (documents-shifted numbers c.in-Some.first list lists row room c.requires.numbered));
+      positions_are = c.in_ok-move_lists.ensures.moved
           ∙ ap (λ ls. logged_position_lists c.args.log.now ++ ls)
-          (sym (lists-shifted numbers c.in-Some.first list (position_lists_in p) row c.requires.paired c.requires.numbered));
+          (ap (λ n. take n lists) count ∙ sym (lists-shifted numbers c.in-Some.first list lists row room c.requires.numbered));
     }
 
 pub loop-block-init : goal.loop-block-init
@@ -69,14 +67,14 @@ overflow_mul-start c =
       arith,
       count,
       c.loop-block-test.true,
-      room c.args.positions list (lists_in lists) c.requires.lists c.requires.paired,
+      c.requires.paired,
       length-position_lists_at
           lists.counts.numbers.now lists.gaps.numbers.now,
       lists.counts.few,
     )
 
-pub overflow_add-start : goal.overflow_add-start
-overflow_add-start c =
+pub overflow_add-start-2 : goal.overflow_add-start-2
+overflow_add-start-2 c =
     let list = listed c.args.list in
     let lists = c.args.lists.now in
     let count : c.blocks-block-end.result ≡ block_count (length list) = c.blocks-block-end.ensures ∙ blocks _ list c.source-source.ensures.documents in
@@ -84,7 +82,7 @@ overflow_add-start c =
       arith,
       count,
       c.loop-block-test.true,
-      room c.args.positions list (lists_in lists) c.requires.lists c.requires.paired,
+      c.requires.paired,
       length-position_lists_at
           lists.counts.numbers.now lists.gaps.numbers.now,
       lists.counts.few,
@@ -100,8 +98,7 @@ copy_block-requires-clause-within c =
       arith,
       ap length (opened_of a),
       length-block_at (listed c.args.list) c.loop-block.block,
-      room c.args.positions (listed c.args.list) (lists_in c.args.lists.now)
-          c.requires.lists c.requires.paired,
+      c.requires.paired,
       ap length c.loop-block.invariant.same,
     )
 
@@ -112,7 +109,7 @@ loop-block-preserved c =
     let list = listed c.args.list in
     let numbers = c.args.numbers.now in
     let lists = lists_in c.args.lists.now in
-    let start = c.args.positions.start in
+    let start = c.args.start in
     let first = start + l.block * 128 in
     let count : c.blocks-block-end.result ≡ block_count (length list) = c.blocks-block-end.ensures ∙ blocks _ list c.source-source.ensures.documents in
     let within : l.block * 128 ≤ length list = omega (arith, count, c.loop-block-test.true) in
@@ -130,15 +127,8 @@ loop-block-preserved c =
 pub returns-clause-puts : goal.returns-clause-puts
 returns-clause-puts c =
     let list = listed c.args.list in
-    let numbers = c.args.numbers.now in
-    let p = c.args.positions in
-    let some = drop p.start p.lists.now in
     let block = c.loop-block.block in
     let count : c.blocks-block-end.result ≡ block_count (length list) = c.blocks-block-end.ensures ∙ blocks _ list c.source-source.ensures.documents in
     let beyond : length list ≤ block * 128 = omega (arith, count, c.loop-block-test.false) in
-    let long : length list ≤ p.end - p.start = omega (arith, c.requires.paired, length-take (p.end - p.start) some) in
-    puts-as
-    (ap (moved numbers) (postings_of-take list (p.end - p.start) some long) ∙ ap (λ ls. moved numbers (postings_of list (drop p.start ls)))
-    (sym c.requires.lists)
-    ∙ ap (λ ds. moved numbers (postings_of ds (drop p.start (lists_in c.args.lists.now)))) (sym (take_all (block * 128) list beyond)))
+    puts-as (ap (λ ds. moved c.args.numbers.now (postings_of ds (drop c.args.start (lists_in c.args.lists.now)))) (sym (take_all (block * 128) list beyond)))
     c.loop-block.invariant.puts

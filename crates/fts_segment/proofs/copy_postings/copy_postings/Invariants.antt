@@ -12,6 +12,6 @@ abbrev pub invariant-loop-block : goal.invariant-loop-block
 invariant-loop-block l = record {
   source : blocks_of (documents_in l.source) ≡ blocks_of (listed l.list);
   same : lists_in l.lists ≡ lists_in l.fn.lists;
-  puts : Puts (moved l.numbers (postings_of (take (l.block * 128) (listed l.list)) (drop l.positions.start (lists_in l.fn.lists)))) l.fn.docs.items l.fn.log l.docs.items
+  puts : Puts (moved l.numbers (postings_of (take (l.block * 128) (listed l.list)) (drop l.start (lists_in l.fn.lists)))) l.fn.docs.items l.fn.log l.docs.items
       l.log;
 }

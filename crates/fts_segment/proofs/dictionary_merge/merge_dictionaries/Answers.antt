@@ -3,7 +3,6 @@ use Rattle.std.specs.List.{AllByRecursion}
 use Rattle.std.specs.List.Sorted.{IsStrictlyIncreasing}
 use Rattle.fts_segment.specs.Parts.{PartValue, IsJoined, IsSound, joined}
 use Rattle.fts_segment.specs.Postings.{documents}
-use Rattle.fts_segment.specs.TermPositionLists.{term_position_lists}
 use Rattle.fts_segment.proofs.SourceLemmas.{sound-parts, parts-rise, terms-joined}
 use Rattle.fts_segment.proofs.dictionary_merge.merge_dictionaries.Goals as goal
 
@@ -21,7 +20,7 @@ merge_terms-requires-clause-rise c =
 pub returns : goal.returns
 returns c =
     let d = c.in_ok-dictionary.dictionary in
-    let P : List PartValue → Type 0 = λ ps. IsJoined ps d.names d.lists (term_position_lists d.positions) in
+    let P : List PartValue → Type 0 = λ ps. IsJoined ps d.names d.lists d.positions in
     terms-joined c.args.kind c.args.field c.args.sources.now c.in_ok-parts.parts.items d c.requires.terms c.in_ok-parts.ensures.bits c.in_ok-parts.ensures.are
     c.in_ok-parts.ensures.few
     (subst P c.deref_mut.ensures.value c.in_ok-dictionary.ensures)

@@ -1,6 +1,6 @@
 use Rattle.std.proofs.Common.{Some, ap, inl, inr, sym, ◌∙◌}
 use Rattle.fts_segment.proofs.FieldLemmas.{if_none, if_some, text_absent, text_found, text_without, texts_without}
-use Rattle.fts_segment.proofs.PositionsLemmas.{position_lists_found}
+use Rattle.fts_segment.proofs.TermPositionsLemmas.{position_lists_found}
 use Rattle.fts_segment.proofs.field_index.find_text.Goals as goal
 
 pub returns-in-Text-clause-none : goal.returns-in-Text-clause-none

@@ -2,8 +2,8 @@ use Rattle.std.proofs.Common.{◌≡◌, ◌<◌, ℕ, List, [], Bor, map, lengt
 use Rattle.std.proofs.lemmas.List.{get_or-map, length-map}
 use Rattle.fts_segment.specs.Dictionaries.{docs_in}
 use Rattle.fts_segment.specs.Positions.{position_lists_of}
-use Rattle.fts_segment.specs.PositionLogs.{logged_term_position_lists}
-use Rattle.fts_segment.proofs.DictionaryLemmas.{names_step, listed_step}
+use Rattle.fts_segment.specs.PositionListLogs.{logged_position_lists}
+use Rattle.fts_segment.proofs.DictionaryLemmas.{flat_step, names_step, listed_step}
 use Rattle.fts_segment.proofs.postings_writer.write_terms.Goals as goal
 
 pub loop-number-preserved : goal.loop-number-preserved
@@ -24,7 +24,7 @@ loop-number-preserved c =
           c.in_ok-put.ensures.names l.invariant.names;
       lists = listed_step docs_in groups l.number places l.writer.lists c.put.new.writer.lists inside c.get.ensures c.in_ok-put.ensures.lists
           l.invariant.lists;
-      positions = listed_step position_lists_of groups l.number places (logged_term_position_lists l.writer.positions)
-          (logged_term_position_lists c.put.new.writer.positions) inside c.get.ensures c.in_ok-put.ensures.positions l.invariant.positions;
+      positions = flat_step position_lists_of groups l.number [] places (logged_position_lists l.writer.positions)
+          (logged_position_lists c.put.new.writer.positions) inside c.get.ensures c.in_ok-put.ensures.positions l.invariant.positions;
       is = c.in_ok-put.ensures.is;
     }

@@ -4,7 +4,7 @@ use Rattle.fts_segment.specs.PositionLists.{IsPositionList}
 use Rattle.fts_segment.specs.PositionListLogs.{logged_position_lists}
 use Rattle.fts_segment.specs.Positions.{position_lists_of}
 use Rattle.fts_segment.proofs.PositionListsLemmas.{position_lists-step, ArePositionLists-step, ArePositionLists-end}
-use Rattle.fts_segment.proofs.term_positions.push_position_lists.Goals as goal
+use Rattle.fts_segment.proofs.postings_writer.push_position_lists.Goals as goal
 
 pub push_place-requires-clause-list : goal.push_place-requires-clause-list
 push_place-requires-clause-list c =
