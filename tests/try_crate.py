@@ -41,6 +41,7 @@ TABLE = {
     "fts_scan": Tried(SEGMENTS, "scan queries"),
     "fts_query": Tried(SEGMENTS, "queries scan"),
     "fts_pack": Tried(SEGMENTS, "packing", "tests_segments"),
+    "fts_positions": Tried(SEGMENTS, "segments joins queries", "tests_segments"),
     "fts_segment": Tried(SEGMENTS, "segments generated joins lists", "tests_segments"),
     "fts_merge": Tried(SEGMENTS, "merges joins cuttings", "tests_segments"),
     "fts_postings": Tried(SEGMENTS, "cursors walks"),

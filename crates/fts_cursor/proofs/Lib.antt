@@ -9,7 +9,6 @@ pub mod TreeLemmas
 pub mod GatherLemmas
 pub mod PhraseLeads
 pub mod PhraseLemmas
-pub mod WalkLemmas
 pub mod HitsLemmas
 pub mod BoolHits
 pub mod LeadingLemmas

@@ -1,9 +1,10 @@
 -- Where a phrase stands.
-use Rattle.std.proofs.Common.{◌≡◌, ℕ, zero, suc, ◌+◌, ◌^◌, ◌<◌, ◌≤◌, nat_lt, cond, Bool, ◌&&◌, Some, None, List, [], ◌∷◌, All, length, get_or, set, drop, refl}
+use Rattle.std.proofs.Common.{◌≡◌, ℕ, zero, suc, ◌+◌, ◌^◌, ◌<◌, ◌≤◌, ◌==◌, nat_lt, cond, Bool, false, ◌&&◌, ◌||◌, Some, None, List, [], ◌∷◌, All, length, get_or, set, drop, refl}
 use Rattle.std.proofs.Common.{sym, subst, ap, ap₂, ◌∙◌, arith}
-use Rattle.std.specs.List.{AllZip, filter, list_all, slice_get}
+use Rattle.std.specs.List.{AllZip, filter, list_all, list_any, slice_get}
 use Rattle.std.specs.List.Sorted.{IsStrictlyIncreasing}
 use Rattle.std.proofs.lemmas.Bool.{le-ltb, lt-ltb}
+use Rattle.std.proofs.lemmas.Bool.Decides.{nat_tests}
 use Rattle.std.proofs.lemmas.List.{get_or-drop, length-drop, set-get_or}
 use Rattle.std.proofs.lemmas.List.Elements.{All-cons, All-head, All-nil, All-tail}
 use Rattle.std.proofs.lemmas.Option.{get_or_from_slice_get, slice_get_within}
@@ -169,3 +170,11 @@ all_dropped f (y ∷ ys) (suc k) x inside is = all_dropped f ys k x (omega (arit
 pub all_drop : {X : Type 0} (f : X → Bool) (xs : List X) (k : ℕ) (x : X) → k < length xs → x ≡ get_or xs k x →
     list_all f (drop k xs) ≡ (f x && list_all f (drop (k + 1) xs))
 all_drop f xs k x inside is = let on : suc k ≡ k + 1 = omega arith in all_dropped f xs k x inside is ∙ ap (λ n. f x && list_all f (drop n xs)) on
+
+no_sum : (q offset sum : ℕ) → sum < offset → (q + offset == sum) ≡ false
+no_sum q offset sum below = grind (arith, nat_tests)
+
+-- a sum below the offset is none
+pub none-sum : (offset sum : ℕ) (qs : List ℕ) → sum < offset → list_any (λ q. q + offset == sum) qs ≡ false
+none-sum offset sum [] below = refl
+none-sum offset sum (q ∷ qs) below = ap₂ (λ a b. a || b) (no_sum q offset sum below) (none-sum offset sum qs below)

@@ -1,7 +1,6 @@
 pub mod Standing
 pub mod Terms
 pub mod Openings
-pub mod Walks
 pub mod Phrases
 pub mod Leading
 pub mod Builds

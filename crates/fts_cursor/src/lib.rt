@@ -27,7 +27,6 @@ mod filter;
 mod hit_tests;
 mod list_union;
 mod phrase;
-mod position_cursor;
 mod query_tree;
 mod range;
 mod rows;
@@ -35,7 +34,6 @@ mod scan;
 mod term_lists;
 mod terms;
 mod tree;
-mod walk;
 mod word_marks;
 
 pub use cursor::Cursor;

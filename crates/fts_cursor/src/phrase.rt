@@ -14,8 +14,8 @@ ghost use Rattle.fts_postings.specs.Takes.{Takes};
 ghost use Rattle.fts_cursor.specs.Standing.{Continues, Walked};
 ghost use Rattle.fts_cursor.specs.Terms.{AreTied};
 
-use crate::position_cursor::PositionCursor;
 use fts_pack::ListSource;
+use fts_positions::PositionReader;
 use fts_postings::{Conjunction, DocSet};
 use fts_segment::ListId;
 use std::marker::Model;
@@ -24,7 +24,7 @@ use std::marker::Model;
 #[derive(Drop)]
 pub(crate) struct Member<'a> {
     pub(crate) list: ListId<'a>,
-    pub(crate) positions: PositionCursor<'a>,
+    pub(crate) positions: PositionReader<'a>,
     pub(crate) offset: u32,
 }
 

@@ -20,7 +20,6 @@ ghost use Rattle.fts_cursor.specs.TreeValues.{TreeValue, all_most, remains};
 use crate::any::{Shoulds, apart_by_words, told_by, union_of};
 use crate::cursor::Cursor;
 use crate::phrase::{Member, PhraseCursor};
-use crate::position_cursor::PositionCursor;
 use crate::range::of_range;
 use crate::rows::Kept;
 use crate::scan::ScanCursor;
@@ -308,7 +307,7 @@ fn members_of<'a>(
             None => return Ok(None),
             Some(list) => members.push(Member {
                 list,
-                positions: PositionCursor::new(segment.positions(list)),
+                positions: segment.positions(list),
                 offset: *offset,
             })?,
         }

@@ -22,7 +22,7 @@ use Rattle.fts_segment.specs.TermLogs.{occurrence_value, occurrence_values, AreN
 use Rattle.fts_segment.specs.TermGroups.{is_of, place, places_of}
 use Rattle.fts_segment.specs.Occurrences.{is_term, docs_of, docs_with}
 use Rattle.fts_segment.specs.Positions.{place_of, places_with, position_lists_of, position_lists_with}
-use Rattle.fts_segment.specs.PositionLists.{IsPositionList}
+use Rattle.fts_positions.specs.PositionLists.{IsPositionList}
 use Rattle.fts_segment.specs.Sorted.{Ascends}
 use Rattle.fts_segment.specs.Dictionaries.{occurs, docs_in, IsDictionaryOf, unless_none, names_listed, listed_by}
 use Rattle.fts_segment.proofs.TermsLemmas.{one_place}

@@ -20,8 +20,6 @@ pub mod SumsLemmas
 pub mod CountLemmas
 pub mod OrderedLemmas
 pub mod PositionListsLemmas
-pub mod PackedLemmas
-pub mod UnpackedLemmas
 pub mod TokenLemmas
 pub mod PositionsLemmas
 pub mod MovingLemmas

@@ -7,7 +7,7 @@ use Rattle.std.proofs.lemmas.List.{drop_more, drop_all}
 use Rattle.std.proofs.lemmas.List.Elements.{All-head, All-tail}
 use Rattle.fts_segment.specs.declared.term_groups.DocPosition.{DocPosition}
 use Rattle.fts_segment.specs.Positions.{position_lists_from, position_lists_of}
-use Rattle.fts_segment.specs.PositionLists.{IsPositionList}
+use Rattle.fts_positions.specs.PositionLists.{IsPositionList}
 
 -- one more place
 pub position_lists-step : (whole lists after : List (List ℕ)) (doc : ℕ) (list next : List ℕ) (places : List DocPosition) (i : ℕ) (d p : DocPosition) → i < length places →

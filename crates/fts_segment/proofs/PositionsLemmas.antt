@@ -20,7 +20,7 @@ use Rattle.fts_segment.specs.Occurrences.{OccurrenceValue, occurrence_at, occurr
 use Rattle.fts_segment.specs.Occurrences.{HasFewTokens}
 use Rattle.fts_segment.specs.Segments.{SegmentValue, numbers_where, positions_among, document_tokens, positions, positions_of}
 use Rattle.fts_segment.specs.Positions.{place_of, places_with, position_lists_of, position_lists_with, value_position_lists}
-use Rattle.fts_segment.specs.PositionLists.{IsPositionList}
+use Rattle.fts_positions.specs.PositionLists.{IsPositionList}
 use Rattle.fts_segment.proofs.HoldingLemmas.{from_first, numbers_where-cons}
 use Rattle.fts_segment.proofs.PositionListsLemmas.{place_at, position_list_first}
 use Rattle.fts_segment.proofs.TokenLemmas.{IsPositionList-tokens}

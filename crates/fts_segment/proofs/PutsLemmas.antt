@@ -1,8 +1,8 @@
 -- Postings that are appended in several steps.
 use Rattle.std.proofs.Common.{◌≡◌, ◌++◌, ℕ, List, [], append-nil, map, sym, ap, subst, ◌∙◌}
 use Rattle.std.proofs.lemmas.List.{append_assoc, map-append}
-use Rattle.fts_segment.specs.declared.position_lists.PositionListLog.{PositionListLog}
-use Rattle.fts_segment.specs.PositionListLogs.{IsPositionListLog, logged_position_lists}
+use Rattle.fts_positions.specs.declared.position_lists.PositionListLog.{PositionListLog}
+use Rattle.fts_positions.specs.PositionListLogs.{IsPositionListLog, logged_position_lists}
 use Rattle.fts_segment.specs.Postings.{Posting}
 use Rattle.fts_segment.specs.Puts.{Puts}
 

@@ -1,6 +1,6 @@
 -- The lists of positions of terms, which follow each other.
 use Rattle.std.proofs.Common.{◌≡◌, ◌+◌, ◌-◌, ◌<◌, ◌≤◌, ℕ, zero, suc, List, [], ◌∷◌, ◌++◌, Some, flat_map, map, length, get_or, take, drop, sum, refl, sym, ap}
-use Rattle.std.proofs.Common.{ap₂, ◌∙◌, arith}
+use Rattle.std.proofs.Common.{Option, ap₂, ◌∙◌, arith}
 use Rattle.std.specs.Prelude.{slice_get}
 use Rattle.std.proofs.lemmas.List.{drop_at, drop_more, drop-drop, get_or-map, length-append, length-map, take_at}
 use Rattle.std.proofs.lemmas.Option.{get_or_from_slice_get, slice_get_within}
@@ -15,7 +15,7 @@ use Rattle.fts_segment.specs.Positions.{position_lists_with, value_position_list
 use Rattle.fts_segment.specs.Postings.{documents_before, term_positions}
 use Rattle.fts_segment.proofs.PositionsLemmas.{position_lists_with-occurrences}
 use Rattle.fts_segment.proofs.PostingsLemmas.{paired-occurrences}
-use Rattle.fts_segment.proofs.UnpackedLemmas.{sum-more, sum-within}
+use Rattle.fts_positions.proofs.UnpackedLemmas.{sum-more, sum-within}
 
 -- the documents of one more term
 pub documents_before-more : (lists : List (List ℕ)) (i : ℕ) → i < length lists → documents_before lists (i + 1) ≡ documents_before lists i
@@ -64,7 +64,7 @@ term_positions-flat f g paired names i within =
     let here : length (get_or lists i []) ≡ length (f q) = ap length (get_or-map g names i [] [] within) ∙ paired q in
     let count : documents_before lists (i + 1) - before ≡ length (f q) =
     omega (arith, documents_before-more lists i (omega (arith, within, length-map names g)), here) in
-    ap₂ take count (drop-flat f g paired names i ∙ ap (flat_map f) (drop_more names i [] within))
+    ap₂ (λ n (ls : List (List ℕ)). take n ls) count (drop-flat f g paired names i ∙ ap (flat_map f) (drop_more names i [] within))
     ∙ take_at (f q) (flat_map f (drop (i + 1) names)) (length (f q)) refl
 
 -- a term has the positions that its documents have

@@ -18,7 +18,7 @@ use Rattle.fts_model.specs.declared.value.FieldValue.TheVariants as values
 use Rattle.fts_pack.specs.Documents.{Rises}
 use Rattle.fts_segment.specs.Occurrences.{is_token, tokens_of, value_tokens, HasFewTokens}
 use Rattle.fts_segment.specs.Segments.{positions_among}
-use Rattle.fts_segment.specs.PositionLists.{IsPositionList}
+use Rattle.fts_positions.specs.PositionLists.{IsPositionList}
 use Rattle.fts_segment.proofs.OccurrencesLemmas.{map-map}
 
 -- a text has no more tokens than bytes

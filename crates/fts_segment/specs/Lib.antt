@@ -15,12 +15,7 @@ pub mod NumberLogs
 pub mod FieldIndexes
 pub mod SortedColumns
 pub mod SegmentData
-pub mod PositionLists
-pub mod PositionListLogs
-pub mod PositionListBounds
 pub mod ListIds
-pub mod PositionsLeft
-pub mod PositionCopiers
 pub mod Postings
 pub mod Puts
 pub mod Sources

@@ -2,7 +2,7 @@
 use Rattle.std.specs.Prelude.{ℕ, List, slice_range}
 use Rattle.fts_pack.specs.ListRef.{listed}
 use Rattle.fts_segment.specs.declared.segment.ListId.{ListId}
-use Rattle.fts_segment.specs.PositionLists.{lists_behind}
+use Rattle.fts_positions.specs.PositionLists.{lists_behind}
 
 -- the numbers of the documents that have the term
 abbrev pub documents_in : ListId → List ℕ

@@ -9,12 +9,12 @@ use Rattle.std.specs.Cmp.Lexicographic.{slice_cmp}
 use Rattle.std.specs.declared.cmp.Ordering.TheVariants.{Less}
 use Rattle.fts_model.specs.declared.schema.Kind.{Kind}
 use Rattle.fts_segment.specs.declared.dictionary.Dictionary.{Dictionary}
-use Rattle.fts_segment.specs.declared.position_copier.PositionCopier.{PositionCopier}
+use Rattle.fts_positions.specs.declared.position_copier.PositionCopier.{PositionCopier}
 use Rattle.fts_segment.specs.Occurrences.{OccurrenceValue, occurrences, values_in, docs_with}
 use Rattle.fts_segment.specs.Positions.{position_lists_with}
 use Rattle.fts_segment.specs.Postings.{Posting, postings_by, postings_of, documents, position_lists}
 use Rattle.fts_segment.specs.Sources.{SourceValue}
-use Rattle.fts_segment.specs.PositionCopiers.{lists_in}
+use Rattle.fts_positions.specs.PositionCopiers.{lists_in}
 
 -- the new number of each document: live ones are numbered from `next`, and a deleted one has none
 abbrev pub renumbered : ℕ → List Bool → List (Option ℕ)

@@ -1,7 +1,7 @@
 -- Postings that are appended to others.
 use Rattle.std.specs.Prelude.{◌≡◌, ◌++◌, ℕ, List}
-use Rattle.fts_segment.specs.declared.position_lists.PositionListLog.{PositionListLog}
-use Rattle.fts_segment.specs.PositionListLogs.{IsPositionListLog, logged_position_lists}
+use Rattle.fts_positions.specs.declared.position_lists.PositionListLog.{PositionListLog}
+use Rattle.fts_positions.specs.PositionListLogs.{IsPositionListLog, logged_position_lists}
 use Rattle.fts_segment.specs.Postings.{Posting, documents, position_lists}
 
 -- postings were appended: their documents to `docs`, and their positions to a log

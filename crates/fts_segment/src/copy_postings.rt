@@ -3,15 +3,14 @@ ghost use Rattle.std.specs.Prelude.{◌≡◌, ◌+◌, ◌-◌, ◌<◌, ◌≤
 ghost use Rattle.std.specs.Prelude.{slice_get, slice_index_or};
 ghost use Rattle.fts_pack.specs.ListRef.{listed};
 ghost use Rattle.fts_segment.specs.Parts.{moved, placed};
-ghost use Rattle.fts_segment.specs.PositionListLogs.{IsPositionListLog};
+ghost use Rattle.fts_positions.specs.PositionListLogs.{IsPositionListLog};
 ghost use Rattle.fts_segment.specs.Postings.{posting_at, postings_of};
 ghost use Rattle.fts_segment.specs.Puts.{Puts};
-ghost use Rattle.fts_segment.specs.PositionCopiers.{lists_in};
+ghost use Rattle.fts_positions.specs.PositionCopiers.{lists_in};
 
 use crate::doc_map::DocMap;
-use crate::position_copier::PositionCopier;
-use crate::position_lists::PositionListLog;
 use fts_pack::{BLOCK, Blocks, ListRef};
+use fts_positions::{PositionCopier, PositionListLog};
 use std::alloc::AllocError;
 
 /// Appends documents, each with a number added.
@@ -105,8 +104,8 @@ pub(crate) fn copy_postings(
     requires paired { start + length (listed list) ≤ length (lists_in lists.old) }
     requires numbered { All (λ doc. doc < length numbers.now) (listed list) }
     ensures same { lists_in lists.new ≡ lists_in lists.old }
-    ensures puts { OnOk result (Puts
-        (moved numbers.now (postings_of (listed list.entry) (drop start (lists_in lists.old))))
+    ensures puts { OnOk result
+        (Puts (moved numbers.now (postings_of (listed list.entry) (drop start (lists_in lists.old))))
         docs.old.items log.old docs.new.items log.new) }
 {
     if let Some(first) = numbers.first() {

@@ -8,11 +8,11 @@ ghost use Rattle.fts_segment.specs.Keywords.{texts_of};
 
 use crate::binary_search::find_name;
 use crate::names::Names;
-use crate::position_lists::PositionLists;
 use crate::segment::ListId;
 use crate::token_log::log_of_field;
 use fts_model::{Document, Kind, Stamped};
 use fts_pack::{Blocks, ListRef, Lists};
+use fts_positions::PositionLists;
 use std::alloc::{AllocError, Global};
 
 /// The terms of a field, with the documents of each and its positions in them.

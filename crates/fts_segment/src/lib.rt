@@ -2,9 +2,9 @@
 //!
 //! A [`Builder`] collects documents and makes a [`Segment`] of them. The segment numbers its documents from 0, and
 //! finds the list of a term ([`Segment::find`]): the documents that have it ([`Segment::postings`]), and its positions
-//! in each ([`Segment::positions`], a [`PositionReader`]). A number field has a column ([`Segment::column`]), and the
-//! documents with a number within bounds are counted without reading them ([`Segment::documents_between`]). A copy of a
-//! segment shares its data, so commits, merges and searches hand segments on at the cost of one reference count.
+//! in each ([`Segment::positions`]). A number field has a column ([`Segment::column`]), and the documents with a number
+//! within bounds are counted without reading them ([`Segment::documents_between`]). A copy of a segment shares its
+//! data, so commits, merges and searches hand segments on at the cost of one reference count.
 //! [`join`] makes one segment of the live documents of several, each a [`LiveSegment`].
 //!
 //! ```text
@@ -18,7 +18,6 @@
 #![tactic(auto)]
 
 mod binary_search;
-mod block_reader;
 mod builder;
 mod copy_postings;
 mod dictionary;
@@ -31,10 +30,6 @@ pub mod laws;
 mod live_segment;
 mod names;
 mod number_index;
-mod position_copier;
-mod position_lists;
-mod position_reader;
-mod positions;
 mod postings_writer;
 mod segment;
 mod segment_join;
@@ -49,7 +44,5 @@ mod token_log;
 
 pub use builder::Builder;
 pub use live_segment::LiveSegment;
-pub use position_reader::PositionReader;
-pub use positions::Positions;
 pub use segment::{ListId, Segment};
 pub use segment_join::join;

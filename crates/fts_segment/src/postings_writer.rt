@@ -3,15 +3,15 @@ ghost use Rattle.std.specs.Prelude.{◌≡◌, ◌≢◌, ◌==◌, ◌++◌, �
 ghost use Rattle.std.specs.List.Sorted.{IsStrictlyIncreasing};
 ghost use Rattle.fts_segment.specs.Dictionaries.{docs_in, unless_none, names_listed, listed_by};
 ghost use Rattle.fts_segment.specs.Positions.{position_lists_of};
-ghost use Rattle.fts_segment.specs.PositionLists.{IsPositionList};
-ghost use Rattle.fts_segment.specs.PositionListLogs.{IsPositionListLog, logged_position_lists};
+ghost use Rattle.fts_positions.specs.PositionLists.{IsPositionList};
+ghost use Rattle.fts_positions.specs.PositionListLogs.{IsPositionListLog, logged_position_lists};
 
 use crate::dictionary::Dictionary;
 use crate::names::{Name, Names};
-use crate::position_lists::{PositionListLog, PositionLists};
 use crate::term_groups::{DocPosition, TermGroups};
 use fts_base::release;
 use fts_pack::Lists;
+use fts_positions::{PositionListLog, PositionLists};
 use std::alloc::{AllocError, Global};
 
 /// Terms with their lists, and their positions before they are packed.
@@ -26,7 +26,7 @@ pub(crate) struct PostingsWriter {
 impl PostingsWriter {
     ghost use Rattle.std.specs.Prelude.{◌≡◌, ◌++◌, ◌∷◌, [], IfOk, OnOk};
     ghost use Rattle.std.specs.List.Sorted.{IsStrictlyIncreasing};
-    ghost use Rattle.fts_segment.specs.PositionListLogs.{IsPositionListLog, logged_position_lists};
+    ghost use Rattle.fts_positions.specs.PositionListLogs.{IsPositionListLog, logged_position_lists};
 
     /// An empty writer with capacity for this many terms and positions.
     pub(crate) fn with_capacity(
@@ -59,7 +59,8 @@ impl PostingsWriter {
         ensures positions { self.new.positions ≡ self.old.positions }
     {
         self.names.push(name)?;
-        self.lists.push(alloc, docs)
+        self.lists.push(alloc, docs)?;
+        Ok(())
     }
 
     /// The dictionary of the terms, with their positions packed.
@@ -170,7 +171,8 @@ fn put(
     };
     set_docs(room, places)?;
     writer.push(alloc, &Name::new(name), room)?;
-    push_position_lists(&mut writer.positions, room, places)
+    push_position_lists(&mut writer.positions, room, places)?;
+    Ok(())
 }
 
 /// Writes each name that has a place, with the places of its group.

@@ -45,7 +45,7 @@ impl TermLog {
     ghost use Rattle.fts_segment.specs.Occurrences.{docs_with};
     ghost use Rattle.fts_segment.specs.Dictionaries.{IsDictionaryOf};
     ghost use Rattle.fts_segment.specs.Positions.{position_lists_with};
-    ghost use Rattle.fts_segment.specs.PositionLists.{IsPositionList};
+    ghost use Rattle.fts_positions.specs.PositionLists.{IsPositionList};
 
     /// An empty log.
     pub(crate) fn new(alloc: Global) -> TermLog

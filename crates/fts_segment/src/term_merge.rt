@@ -4,16 +4,16 @@ ghost use Rattle.std.specs.List.{AllByRecursion};
 ghost use Rattle.std.specs.List.Sorted.{IsStrictlyIncreasing};
 ghost use Rattle.fts_segment.specs.Dictionaries.{unless_none};
 ghost use Rattle.fts_segment.specs.Parts.{given, passed, least_of, lesser, joined, IsSound, IsJoined};
-ghost use Rattle.fts_segment.specs.PositionListLogs.{IsPositionListLog, logged_position_lists};
+ghost use Rattle.fts_positions.specs.PositionListLogs.{IsPositionListLog, logged_position_lists};
 ghost use Rattle.fts_segment.specs.Postings.{documents, position_lists};
 ghost use Rattle.fts_segment.specs.Puts.{Puts};
 
 use crate::dictionary::Dictionary;
 use crate::names::Name;
-use crate::position_lists::PositionListLog;
 use crate::postings_writer::PostingsWriter;
 use crate::term_stream::TermStream;
 use fts_base::release;
+use fts_positions::PositionListLog;
 use std::alloc::{AllocError, Global};
 
 /// The first in order of two optional terms.
@@ -86,7 +86,8 @@ fn merge_term(
     if docs.is_empty() {
         return Ok(());
     }
-    writer.push(alloc, term, docs)
+    writer.push(alloc, term, docs)?;
+    Ok(())
 }
 
 /// A writer with capacity for the terms and positions of all streams, so that it seldom grows.

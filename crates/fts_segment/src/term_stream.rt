@@ -1,16 +1,15 @@
 // A stream of a dictionary's terms, which is merged with others.
 ghost use Rattle.std.specs.Prelude.{◌≡◌, drop, slice_get, OnOk};
 ghost use Rattle.fts_segment.specs.Parts.{begins, given, passed, part_from, IsWhole};
-ghost use Rattle.fts_segment.specs.PositionListLogs.{IsPositionListLog};
+ghost use Rattle.fts_positions.specs.PositionListLogs.{IsPositionListLog};
 ghost use Rattle.fts_segment.specs.Puts.{Puts};
 
 use crate::copy_postings::copy_postings;
 use crate::dictionary::Dictionary;
 use crate::doc_map::DocMap;
 use crate::names::Name;
-use crate::position_copier::PositionCopier;
-use crate::position_lists::PositionListLog;
 use fts_pack::BLOCK;
+use fts_positions::{PositionCopier, PositionListLog};
 use std::alloc::AllocError;
 use std::marker::Model;
 

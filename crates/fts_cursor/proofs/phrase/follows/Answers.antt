@@ -1,6 +1,6 @@
 -- A position that makes the sum with the offset is the difference, and there is none where the offset is more.
 use Rattle.std.proofs.Common.{◌+◌, [], get_or, sym, arith}
-use Rattle.fts_cursor.proofs.WalkLemmas.{none-sum}
+use Rattle.fts_cursor.proofs.PhraseLemmas.{none-sum}
 use Rattle.fts_cursor.proofs.phrase.follows.Goals as goal
 
 pub returns-in-None-clause-follows : goal.returns-in-None-clause-follows

@@ -1,7 +1,7 @@
 -- The positions of the first member lie where its posting does.
 use Rattle.std.proofs.Common.{◌≡◌, ℕ, ◌||◌, Bool, ap, sym, ◌∙◌}
 use Rattle.std.specs.List.{list_all, list_any}
-use Rattle.fts_segment.specs.PositionsLeft.{positions_left}
+use Rattle.fts_positions.specs.PositionsLeft.{positions_left}
 use Rattle.fts_cursor.specs.Phrases.{is_behind}
 use Rattle.fts_cursor.proofs.PhraseLemmas.{first_positions, lead_few}
 use Rattle.fts_cursor.proofs.phrase.stands.Goals as goal

@@ -1,7 +1,7 @@
 -- The positions of the first term that are left decide.
 use Rattle.std.proofs.Common.{◌≡◌, ℕ, Some, length}
 use Rattle.std.specs.List.{list_all, list_any, slice_get}
-use Rattle.fts_segment.specs.PositionsLeft.{positions_left}
+use Rattle.fts_positions.specs.PositionsLeft.{positions_left}
 use Rattle.fts_postings.specs.Conjoined.{common_of}
 use Rattle.fts_cursor.specs.Phrases.{is_behind}
 use Rattle.fts_cursor.proofs.phrase.stands.Given as goal

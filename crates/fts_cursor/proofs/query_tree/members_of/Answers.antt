@@ -9,6 +9,6 @@ loop-offset-preserved c =
     let found = rw c.in-Some.is at c.in_ok-find_text.ensures in
     rw c.in_ok-push-in-Some.ensures.items (more_paired (IsMemberFor c.args.segment.now c.args.field) c.args.pattern.now c.loop-offset.members.items
     c.loop-offset.offset-index c.loop-offset-item.result
-    (record { list = c.in-Some.list; positions = c.new.result; offset = c.loop-offset-item.result.0 }) c.loop-offset.invariant c.loop-offset-test.true
+    (record { list = c.in-Some.list; positions = c.positions.result; offset = c.loop-offset-item.result.0 }) c.loop-offset.invariant c.loop-offset-test.true
     c.loop-offset-item.is
-    (record { offset = refl; documents = found.0; positions_are = c.new.ensures ∙ c.positions.ensures ∙ found.1 }))
+    (record { offset = refl; documents = found.0; positions_are = c.positions.ensures ∙ found.1 }))

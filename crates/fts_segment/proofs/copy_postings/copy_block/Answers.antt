@@ -4,9 +4,9 @@ use Rattle.std.proofs.lemmas.List.{take_all}
 use Rattle.fts_segment.specs.Parts.{moved, placed}
 use Rattle.fts_segment.specs.Postings.{posting_at, postings_of}
 use Rattle.fts_segment.specs.Puts.{Puts}
-use Rattle.fts_segment.specs.PositionCopiers.{lists_in}
+use Rattle.fts_positions.specs.PositionCopiers.{lists_in}
 use Rattle.fts_segment.proofs.MovingLemmas.{moved-one}
-use Rattle.fts_segment.proofs.PackedLemmas.{length-position_lists_at}
+use Rattle.fts_positions.proofs.PackedLemmas.{length-position_lists_at}
 use Rattle.fts_segment.proofs.PutsLemmas.{puts-as, puts-more, puts-none}
 use Rattle.fts_segment.proofs.copy_postings.copy_block.Goals as goal
 

@@ -2,7 +2,7 @@ use Rattle.std.proofs.Common.{◌≡◌, take, drop}
 use Rattle.fts_segment.specs.Parts.{moved}
 use Rattle.fts_segment.specs.Postings.{postings_of}
 use Rattle.fts_segment.specs.Puts.{Puts}
-use Rattle.fts_segment.specs.PositionCopiers.{lists_in}
+use Rattle.fts_positions.specs.PositionCopiers.{lists_in}
 use Rattle.fts_segment.proofs.copy_postings.copy_block.Given as goal
 
 abbrev pub invariant-loop-index : goal.invariant-loop-index

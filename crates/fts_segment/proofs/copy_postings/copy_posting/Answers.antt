@@ -1,12 +1,12 @@
 use Rattle.std.proofs.Common.{◌++◌, [], ap, ◌∙◌, get_or, arith}
 use Rattle.std.specs.Prelude.{slice_get}
 use Rattle.fts_segment.specs.Postings.{posting_at}
-use Rattle.fts_segment.specs.PositionListLogs.{logged_position_lists}
-use Rattle.fts_segment.specs.PositionCopiers.{lists_in}
+use Rattle.fts_positions.specs.PositionListLogs.{logged_position_lists}
+use Rattle.fts_positions.specs.PositionCopiers.{lists_in}
 use Rattle.fts_segment.proofs.MovingLemmas.{placed-none, placed-some}
-use Rattle.fts_segment.proofs.PackedLemmas.{length-position_lists_at}
+use Rattle.fts_positions.proofs.PackedLemmas.{length-position_lists_at}
 use Rattle.fts_segment.proofs.PutsLemmas.{puts-as, puts-none}
-use Rattle.fts_segment.proofs.UnpackedLemmas.{range_one}
+use Rattle.fts_positions.proofs.UnpackedLemmas.{range_one}
 use Rattle.fts_segment.proofs.copy_postings.copy_posting.Goals as goal
 
 pub overflow_add-list : goal.overflow_add-list

@@ -5,12 +5,12 @@ use Rattle.fts_pack.specs.ListRef.{listed}
 use Rattle.fts_pack.specs.Documents.{block_at, block_count, blocks_of}
 use Rattle.fts_pack.specs.SourceLaws.{length-block_at, length-blocks_of, get_or-blocks_of}
 use Rattle.fts_segment.specs.Parts.{moved}
-use Rattle.fts_segment.specs.PositionListLogs.{logged_position_lists}
+use Rattle.fts_positions.specs.PositionListLogs.{logged_position_lists}
 use Rattle.fts_segment.specs.Postings.{postings_of}
 use Rattle.fts_segment.specs.Puts.{Puts}
-use Rattle.fts_segment.specs.PositionCopiers.{lists_in}
+use Rattle.fts_positions.specs.PositionCopiers.{lists_in}
 use Rattle.fts_segment.proofs.MovingLemmas.{documents-shifted, lists-shifted, moved-block}
-use Rattle.fts_segment.proofs.PackedLemmas.{length-position_lists_at}
+use Rattle.fts_positions.proofs.PackedLemmas.{length-position_lists_at}
 use Rattle.fts_segment.proofs.PutsLemmas.{puts-as, puts-more, puts-none}
 use Rattle.fts_segment.proofs.copy_postings.copy_postings.Goals as goal
 use Rattle.fts_segment.proofs.copy_postings.copy_postings.Goals.{After-open-count}
@@ -58,8 +58,8 @@ returns-in-Some-clause-puts c =
 pub loop-block-init : goal.loop-block-init
 loop-block-init c = record { source = ap blocks_of c.source-source.ensures.documents; same = refl; puts = puts-none c.requires.is }
 
-pub overflow_mul-start : goal.overflow_mul-start
-overflow_mul-start c =
+pub overflow_mul-first : goal.overflow_mul-first
+overflow_mul-first c =
     let list = listed c.args.list in
     let lists = c.args.lists.now in
     let count : c.blocks-block-end.result ≡ block_count (length list) = c.blocks-block-end.ensures ∙ blocks _ list c.source-source.ensures.documents in
@@ -73,8 +73,8 @@ overflow_mul-start c =
       lists.counts.few,
     )
 
-pub overflow_add-start-2 : goal.overflow_add-start-2
-overflow_add-start-2 c =
+pub overflow_add-first : goal.overflow_add-first
+overflow_add-first c =
     let list = listed c.args.list in
     let lists = c.args.lists.now in
     let count : c.blocks-block-end.result ≡ block_count (length list) = c.blocks-block-end.ensures ∙ blocks _ list c.source-source.ensures.documents in

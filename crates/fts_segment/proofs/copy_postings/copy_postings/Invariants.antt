@@ -5,7 +5,7 @@ use Rattle.fts_pack.specs.ListSource.{documents_in}
 use Rattle.fts_segment.specs.Parts.{moved}
 use Rattle.fts_segment.specs.Postings.{postings_of}
 use Rattle.fts_segment.specs.Puts.{Puts}
-use Rattle.fts_segment.specs.PositionCopiers.{lists_in}
+use Rattle.fts_positions.specs.PositionCopiers.{lists_in}
 use Rattle.fts_segment.proofs.copy_postings.copy_postings.Given as goal
 
 abbrev pub invariant-loop-block : goal.invariant-loop-block

@@ -1,7 +1,7 @@
 use Rattle.std.proofs.Common.{◌-◌, ◌++◌, length, take, drop, refl, sym, subst, arith}
 use Rattle.fts_segment.specs.declared.term_groups.DocPosition.{DocPosition}
-use Rattle.fts_segment.specs.PositionLists.{IsPositionList}
-use Rattle.fts_segment.specs.PositionListLogs.{logged_position_lists}
+use Rattle.fts_positions.specs.PositionLists.{IsPositionList}
+use Rattle.fts_positions.specs.PositionListLogs.{logged_position_lists}
 use Rattle.fts_segment.specs.Positions.{position_lists_of}
 use Rattle.fts_segment.proofs.PositionListsLemmas.{position_lists-step, ArePositionLists-step, ArePositionLists-end}
 use Rattle.fts_segment.proofs.postings_writer.push_position_lists.Goals as goal

@@ -1,7 +1,7 @@
 use Rattle.std.proofs.Common.{◌≡◌, ◌++◌, All, drop}
 use Rattle.fts_segment.specs.Positions.{position_lists_from, position_lists_of}
-use Rattle.fts_segment.specs.PositionLists.{IsPositionList}
-use Rattle.fts_segment.specs.PositionListLogs.{IsPositionListLog, logged_position_lists}
+use Rattle.fts_positions.specs.PositionLists.{IsPositionList}
+use Rattle.fts_positions.specs.PositionListLogs.{IsPositionListLog, logged_position_lists}
 use Rattle.fts_segment.proofs.postings_writer.push_position_lists.Given as goal
 
 abbrev pub invariant-loop-place : goal.invariant-loop-place

@@ -2,7 +2,7 @@ use Rattle.std.proofs.Common.{◌≡◌, ◌<◌, ℕ, List, [], Bor, map, lengt
 use Rattle.std.proofs.lemmas.List.{get_or-map, length-map}
 use Rattle.fts_segment.specs.Dictionaries.{docs_in}
 use Rattle.fts_segment.specs.Positions.{position_lists_of}
-use Rattle.fts_segment.specs.PositionListLogs.{logged_position_lists}
+use Rattle.fts_positions.specs.PositionListLogs.{logged_position_lists}
 use Rattle.fts_segment.proofs.DictionaryLemmas.{flat_step, names_step, listed_step}
 use Rattle.fts_segment.proofs.postings_writer.write_terms.Goals as goal
 

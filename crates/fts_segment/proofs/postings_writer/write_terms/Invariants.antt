@@ -1,7 +1,7 @@
 use Rattle.std.proofs.Common.{◌≡◌, ◌++◌, flat_map, map, drop}
 use Rattle.fts_segment.specs.Dictionaries.{docs_in, names_listed, listed_by}
 use Rattle.fts_segment.specs.Positions.{position_lists_of}
-use Rattle.fts_segment.specs.PositionListLogs.{IsPositionListLog, logged_position_lists}
+use Rattle.fts_positions.specs.PositionListLogs.{IsPositionListLog, logged_position_lists}
 use Rattle.fts_segment.proofs.postings_writer.write_terms.Given as goal
 
 abbrev pub invariant-loop-number : goal.invariant-loop-number

@@ -3,7 +3,7 @@ use Rattle.std.specs.List.Sorted.{IsStrictlyIncreasing}
 use Rattle.std.proofs.lemmas.Bool.{eqb-true, eqb-false}
 use Rattle.std.proofs.lemmas.List.{nil_from_length}
 use Rattle.fts_segment.specs.Parts.{given}
-use Rattle.fts_segment.specs.PositionListLogs.{logged_position_lists}
+use Rattle.fts_positions.specs.PositionListLogs.{logged_position_lists}
 use Rattle.fts_segment.specs.Postings.{documents}
 use Rattle.fts_segment.proofs.JoiningLemmas.{no_documents, none_put, some_put}
 use Rattle.fts_segment.proofs.term_merge.merge_term.Goals as goal

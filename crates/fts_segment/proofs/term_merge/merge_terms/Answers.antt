@@ -1,6 +1,6 @@
 use Rattle.std.proofs.Common.{◌≡◌, Some, None, List, flat_map, map, refl, ◌∙◌, sym, subst, ◌<◌}
 use Rattle.fts_segment.specs.Parts.{PartValue, given, passed, least_of}
-use Rattle.fts_segment.specs.PositionListLogs.{logged_position_lists}
+use Rattle.fts_positions.specs.PositionListLogs.{logged_position_lists}
 use Rattle.fts_segment.proofs.PartLemmas.{left, fewer}
 use Rattle.fts_segment.proofs.JoiningLemmas.{IsJoining-start, IsJoining-next, IsJoined-end, all-given, postings-rise, least-from, met-of-least}
 use Rattle.fts_segment.proofs.term_merge.merge_terms.Goals as goal

@@ -1,4 +1,4 @@
-use Rattle.fts_segment.specs.PositionListLogs.{IsPositionListLog, logged_position_lists}
+use Rattle.fts_positions.specs.PositionListLogs.{IsPositionListLog, logged_position_lists}
 use Rattle.fts_segment.proofs.PartLemmas.{left}
 use Rattle.fts_segment.proofs.JoiningLemmas.{IsJoining}
 use Rattle.fts_segment.proofs.term_merge.merge_terms.Given as goal

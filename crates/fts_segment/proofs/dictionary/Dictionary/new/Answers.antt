@@ -2,7 +2,7 @@ use Rattle.std.proofs.Common.{All, List, subst, sym}
 use Rattle.std.specs.List.Sorted.{IsStrictlyIncreasing}
 use Rattle.fts_segment.specs.Occurrences.{OccurrenceValue, docs_with, values_in}
 use Rattle.fts_segment.specs.Positions.{position_lists_with}
-use Rattle.fts_segment.specs.PositionLists.{IsPositionList}
+use Rattle.fts_positions.specs.PositionLists.{IsPositionList}
 use Rattle.fts_segment.proofs.HoldingLemmas.{docs_with-rise}
 use Rattle.fts_segment.proofs.PositionsLemmas.{ArePositionLists-occurrences}
 use Rattle.fts_segment.proofs.dictionary.Dictionary.new.Goals as goal

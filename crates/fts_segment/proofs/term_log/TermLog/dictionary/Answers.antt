@@ -6,7 +6,7 @@ use Rattle.fts_segment.specs.declared.term_groups.DocPosition.{DocPosition}
 use Rattle.fts_segment.specs.Dictionaries.{docs_in}
 use Rattle.fts_segment.specs.Occurrences.{OccurrenceValue, docs_with}
 use Rattle.fts_segment.specs.Positions.{position_lists_of, position_lists_with}
-use Rattle.fts_segment.specs.PositionLists.{IsPositionList}
+use Rattle.fts_positions.specs.PositionLists.{IsPositionList}
 use Rattle.fts_segment.specs.TermLogs.{AreNamed, by_ordinal}
 use Rattle.fts_segment.proofs.DictionaryLemmas.{IsGrouped, IsGrouped-sorted, lists_rise, groups_have_position_lists}
 use Rattle.fts_segment.proofs.TermLogsLemmas.{Stand, AreNamed-by_ordinal}
