@@ -16,7 +16,7 @@ use Rattle.fts_cursor.specs.Hits.{is_live}
 use Rattle.fts_cursor.specs.Scans.{has_within_live}
 use Rattle.fts_cursor.specs.declared.dense.Dense.{Dense}
 use Rattle.fts_cursor.proofs.DenseLemmas.{AreTold}
-use Rattle.fts_postings.proofs.WordsLemmas.{bit_of_and}
+use Rattle.fts_pack.proofs.ChangeLemmas.{bit_of_and}
 use Rattle.fts_cursor.proofs.WithinLemmas.{none_past}
 
 -- what passes one test and another

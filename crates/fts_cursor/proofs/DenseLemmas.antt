@@ -17,7 +17,7 @@ use Rattle.fts_cursor.specs.Dense.{AreWithin, Tells, in_each, in_one, is_dense}
 use Rattle.fts_postings.specs.Windows.{is_marked, marked, passing}
 use Rattle.fts_postings.proofs.PassingLemmas.{passing-append}
 use Rattle.fts_postings.proofs.WindowLemmas.{passing-same, nothing}
-use Rattle.fts_postings.proofs.WordsLemmas.{bit_of_and, bit_of_not, bit_of_or}
+use Rattle.fts_pack.proofs.ChangeLemmas.{bit_of_and, bit_of_not, bit_of_or}
 
 pub Tells-every : (list : List (Bor (List Bool))) (from : ℕ) → Tells (in_each (take 0 list)) from (2 ^ 64 - 1)
 Tells-every list from k inside = ap (λ n. n == 1) (bit_at_ones 64 k inside)

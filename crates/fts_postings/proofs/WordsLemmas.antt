@@ -1,47 +1,17 @@
 -- Words of 64 documents: one bit more, a word joined with another, and what the bits of a word tell.
 use Rattle.std.proofs.Common.{◌≡◌, ◌≢◌, ℕ, zero, suc, ◌+◌, ◌-◌, ◌*◌, ◌/◌, ◌%◌, ◌^◌, ◌<◌, ◌≤◌, Bool, false, cond, ◌||◌, ◌&&◌, ◌==◌, nat_le, List, [], ◌∷◌}
-use Rattle.std.proofs.Common.{get_or, length, max, min, replicate, set, bit_and, bit_or, refl, sym, ap, ap₂, ◌∙◌, inl, inr, arith}
-use Rattle.std.specs.Int.{bit_at, bit_not, w64}
+use Rattle.std.proofs.Common.{get_or, length, replicate, set, bit_or, refl, sym, ap, ap₂, ◌∙◌, inl, inr, arith}
+use Rattle.std.specs.Int.{bit_at, w64}
 use Rattle.std.specs.List.{filter}
-use Rattle.std.specs.Prelude.{not}
 use Rattle.std.proofs.Math.Bool.{or-false}
 use Rattle.std.proofs.lemmas.Bool.{cases_Bool, cases_lt, le-leb, lt-leb}
 use Rattle.std.proofs.lemmas.List.{get_or-replicate, get_or-set_other, get_or-set_same, get_or_past, length-replicate}
-use Rattle.std.proofs.lemmas.Nat.Bits.{bit_at_and, bit_at-lt, bit_at_not, bit_at_or, bit_at_set_other, bit_at_set_same, bit_at-zero}
+use Rattle.std.proofs.lemmas.Nat.Bits.{bit_at_set_other, bit_at_set_same, bit_at-zero}
+use Rattle.fts_pack.specs.bits.Changes.{AreChanged}
+use Rattle.fts_pack.proofs.ChangeLemmas.{bit_of_or}
 use Rattle.fts_postings.specs.Sets.{with_one}
 use Rattle.fts_postings.specs.Windows.{AreMarksFrom, found_in, is_found, passing}
 use Rattle.fts_postings.proofs.WindowLemmas.{nothing, passing-mark, passing-same, unset}
-
-or_one : (a b : ℕ) → a < 2 → b < 2 → (max a b == 1) ≡ ((a == 1) || (b == 1))
-or_one zero zero low high = refl
-or_one zero (suc zero) low high = refl
-or_one (suc zero) zero low high = refl
-or_one (suc zero) (suc zero) low high = refl
-or_one (suc (suc a)) b low high = absurd (omega (arith, low))
-or_one a (suc (suc b)) low high = absurd (omega (arith, high))
-
-and_one : (a b : ℕ) → a < 2 → b < 2 → (min a b == 1) ≡ ((a == 1) && (b == 1))
-and_one zero zero low high = refl
-and_one zero (suc zero) low high = refl
-and_one (suc zero) zero low high = refl
-and_one (suc zero) (suc zero) low high = refl
-and_one (suc (suc a)) b low high = absurd (omega (arith, low))
-and_one a (suc (suc b)) low high = absurd (omega (arith, high))
-
-not_one : (a : ℕ) → a < 2 → (1 - a == 1) ≡ not (a == 1)
-not_one zero low = refl
-not_one (suc zero) low = refl
-not_one (suc (suc a)) low = absurd (omega (arith, low))
-
--- words joined
-pub bit_of_or : (a b k : ℕ) → (bit_at (bit_or a b) k == 1) ≡ ((bit_at a k == 1) || (bit_at b k == 1))
-bit_of_or a b k = ap (λ n. n == 1) (bit_at_or a b k) ∙ or_one (bit_at a k) (bit_at b k) (bit_at-lt a k) (bit_at-lt b k)
-
-pub bit_of_and : (a b k : ℕ) → (bit_at (bit_and a b) k == 1) ≡ ((bit_at a k == 1) && (bit_at b k == 1))
-bit_of_and a b k = ap (λ n. n == 1) (bit_at_and a b k) ∙ and_one (bit_at a k) (bit_at b k) (bit_at-lt a k) (bit_at-lt b k)
-
-pub bit_of_not : (a k : ℕ) → a < 2 ^ 64 → k < 64 → (bit_at (bit_not w64 a) k == 1) ≡ not (bit_at a k == 1)
-bit_of_not a k fits inside = ap (λ n. n == 1) (bit_at_not w64 a k fits inside) ∙ not_one (bit_at a k) (bit_at-lt a k)
 
 -- what passes one test, and of that what passes another
 passing-both : (p q : ℕ → Bool) (from n : ℕ) → passing (λ d. p d && q d) from n ≡ filter q (passing p from n)
@@ -138,22 +108,20 @@ found-joined base start first count d old new words is below joined rest ends up
           ]
     ]
 
--- each word is met with one that tells which documents pass
-pub found-and : (base from last : ℕ) (words new : List ℕ) (word : ℕ → ℕ) (test : ℕ → Bool) → base ≤ from → length words ≡ 64 → length new ≡ 64 →
-    ((k : ℕ) → k < 64 → get_or new k 0 ≡ bit_and (get_or words k 0) (word k)) →
-    ((k j : ℕ) → j < 64 → (bit_at (word k) j == 1) ≡ test (base + 64 * k + j)) → found_in base from last new ≡ filter test (found_in base from last words)
-found-and base from last words new word test order long long_new met tells =
+-- of the documents that are found, those that pass are kept
+pub found-and : (base from last : ℕ) (words new : List ℕ) (test : ℕ → Bool) → base ≤ from → base % 64 ≡ 0 → length words ≡ 64 →
+    AreChanged (λ doc told. told && test doc) (base / 64) words new → found_in base from last new ≡ filter test (found_in base from last words)
+found-and base from last words new test order aligned long cut =
     passing-same (is_found base new) (λ d. is_found base words d && test d) from (suc last - from)
     (λ d up down.
     let k = (d - base) / 64 in
     let j = (d - base) % 64 in
     elim (cases_lt k 64) [
       | inl inside ↦
-          let at : base + 64 * k + j ≡ d = omega (arith, up, order) in
-          ap (λ n. bit_at n j == 1) (met k inside) ∙ bit_of_and (get_or words k 0) (word k) j
-          ∙ ap (λ b. (bit_at (get_or words k 0) j == 1) && b) (tells k j (omega arith) ∙ ap test at)
+          let at : 64 * (base / 64 + k) + j ≡ d = omega (arith, up, order, aligned) in
+          cut.told k j (omega (arith, inside, long)) (omega arith) ∙ ap (λ i. (bit_at (get_or words k 0) j == 1) && test i) at
       | inr past ↦
-          ap (λ n. bit_at n j == 1) (get_or_past new k 0 (omega (arith, past, long_new))) ∙ unset 0 j (bit_at-zero j)
+          ap (λ n. bit_at n j == 1) (get_or_past new k 0 (omega (arith, past, long, cut.long))) ∙ unset 0 j (bit_at-zero j)
           ∙ sym (ap (λ b. b && test d) (ap (λ n. bit_at n j == 1) (get_or_past words k 0 (omega (arith, past, long))) ∙ unset 0 j (bit_at-zero j)))
     ])
     ∙ passing-both (is_found base words) test from (suc last - from)

@@ -276,10 +276,7 @@ impl Window {
             ≡ filter (is_set bits.now) (found_in self.old.base self.old.from self.old.last self.old.words) }
         ensures last { self.new.last ≡ self.old.last }
     {
-        let first = self.base as usize / 64;
-        for index in 0..64 {
-            self.words[index] &= bits.word(first + index);
-        }
+        bits.and_into(self.base as usize / 64, &mut self.words);
     }
 
     /// Passes the documents of the word of the first place, and returns how many of them are marked.
