@@ -177,6 +177,14 @@ class Heads(Faults):
         told = self.all(self.opened(server, post + b"nonsense\r\n\r\n"))
         self.assertEqual((told.count(b"HTTP/1.1"), told.count(b"201 Created")), (1, 1))
 
+    def test_chunks_of_an_older_version(self):
+        """What a request of HTTP/1.0 sends as chunks is no request of its own."""
+        server = self.serve()
+        within = self.request(server, "GET /healthz")
+        chunked = self.request(server, "POST /documents", JSON, "Connection: keep-alive", "Transfer-Encoding: chunked")
+        told = self.all(self.opened(server, chunked.replace(b"HTTP/1.1", b"HTTP/1.0", 1) + within))
+        self.assertEqual((told.count(b"HTTP/1.1 400 "), told.count(b"HTTP/1.")), (1, 1), told)
+
     def test_slow(self):
         """A head and a body that drip are refused after their time; one that is silent is closed."""
         server = self.serve("--head-seconds", 1, "--body-seconds", 2, "--idle", 3)

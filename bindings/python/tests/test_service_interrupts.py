@@ -284,12 +284,16 @@ class Ends(Stored):
         return [thread.name for thread in threading.enumerate() if thread.name.startswith("dilforec")]
 
     def test_all_ends(self):
-        """A store that is closed has no thread any more, and is collected, though it began merges."""
+        """A store that is closed has no thread any more, and is collected, though it began merges, and ended some."""
         stores = []
-        for number in range(5):
-            with mock.patch.object(dilforec.Index, "begin_merge", side_effect=[Merge()] + [None] * 50):
+        for number in range(6):
+            with mock.patch.object(dilforec.Index, "begin_merge", side_effect=[Merge()] + [None] * 50) as begun:
                 store = Store(FIELDS, self.folder / str(number))
                 store.add({})
+                until = time.monotonic() + 20
+                # Every other time, its thread waits for the next merge by then.
+                while number % 2 and begun.call_count < 2 and time.monotonic() < until:
+                    time.sleep(0.001)
                 store.close()
                 stores.append(weakref.ref(store))
                 del store
@@ -297,7 +301,7 @@ class Ends(Stored):
         while self.threads() and time.monotonic() < until:
             time.sleep(0.01)
         gc.collect()
-        self.assertEqual((self.threads(), [store() for store in stores]), ([], [None] * 5))
+        self.assertEqual((self.threads(), [store() for store in stores]), ([], [None] * 6))
 
     def test_an_interpreter_that_ends(self):
         """A store that is closed when the interpreter has stopped its threads keeps nobody waiting."""
