@@ -420,7 +420,7 @@ def served(place: Place, script: str) -> subprocess.Popen[str] | None:
 
 
 # What the tutorial's lines need, by a word in them.
-NEEDED = {"grep-dctrl": "grep-dctrl", "own.json": "jq"}
+NEEDED = {"grep-dctrl": "grep-dctrl"}
 
 
 def tutorial(place: Place) -> None:
