@@ -1,15 +1,14 @@
 -- Words of bits, and the documents that they tell.
 use Rattle.std.proofs.Common.{◌≡◌, ◌||◌, ◌&&◌, ℕ, zero, suc, ◌+◌, ◌-◌, ◌^◌, ◌<◌, ◌≤◌, Bool, true, false, ◌==◌, List, [], ◌++◌, length, get_or, take, drop, min}
-use Rattle.std.proofs.Common.{max, bit_and, bit_or, refl, sym, ap, ap₂, subst, ◌∙◌, inl, inr, arith}
+use Rattle.std.proofs.Common.{refl, sym, ap, ap₂, subst, ◌∙◌, inl, inr, arith}
 use Rattle.std.specs.Borrow.{Bor}
 use Rattle.std.specs.Prelude.{not}
-use Rattle.std.specs.Int.{bit_at, bit_not, w64}
+use Rattle.std.specs.Int.{bit_at}
+use Rattle.std.proofs.Math.Bool.{and_assoc, or_assoc}
 use Rattle.std.proofs.lemmas.Bool.{cases_lt}
 use Rattle.std.proofs.lemmas.List.{append-nil, get_or_past}
 use Rattle.std.proofs.lemmas.List.Folds.{list_all_more, list_any_more, list_any_none}
-use Rattle.std.proofs.lemmas.Nat.Bits.{bit_at_above, bit_at_and, bit_at_or, bit_at-lt, bit_at_not, bit_at_ones}
-use Rattle.fts_pack.specs.bits.Bits.{number_of}
-use Rattle.fts_pack.proofs.BitsLemmas.{word_bit}
+use Rattle.std.proofs.lemmas.Nat.Bits.{bit_at_above}
 use Rattle.fts_cursor.specs.Hits.{is_live}
 use Rattle.std.specs.Prelude.{All}
 use Rattle.fts_cursor.specs.declared.dense.Dense.{Dense}
@@ -17,23 +16,28 @@ use Rattle.fts_cursor.specs.Dense.{AreWithin, Tells, in_each, in_one, is_dense}
 use Rattle.fts_postings.specs.Windows.{is_marked, marked, passing}
 use Rattle.fts_postings.proofs.PassingLemmas.{passing-append}
 use Rattle.fts_postings.proofs.WindowLemmas.{passing-same, nothing}
-use Rattle.fts_pack.proofs.ChangeLemmas.{bit_of_and, bit_of_not, bit_of_or}
 
-pub Tells-every : (list : List (Bor (List Bool))) (from : ℕ) → Tells (in_each (take 0 list)) from (2 ^ 64 - 1)
-Tells-every list from k inside = ap (λ n. n == 1) (bit_at_ones 64 k inside)
+not_or : (a b : Bool) → (not a && not b) ≡ not (a || b)
+not_or true b = refl
+not_or false b = refl
 
-module _ (list : List (Bor (List Bool))) (i : ℕ) (bits : Bor (List Bool)) (inside : i < length list) (is : bits ≡ get_or list i bits) (from old word : ℕ)
-    (word_is : word ≡ number_of (take 64 (drop from bits.now))) where
-  here : (k : ℕ) → k < 64 → (bit_at word k == 1) ≡ is_live (get_or list i bits).now (from + k)
-  here k low = word_bit bits.now from word k word_is low ∙ ap (λ (b : Bor (List Bool)). is_live b.now (from + k)) is
+-- a document is tested for one more of some bits
+module _ (list : List (Bor (List Bool))) (i : ℕ) (bits : Bor (List Bool)) (inside : i < length list) (is : bits ≡ get_or list i bits) (d : ℕ) (told : Bool) where
+  one_more : (in_one (take i list) d || is_live bits.now d) ≡ in_one (take (i + 1) list) d
+  one_more = ap (λ (b : Bor (List Bool)). in_one (take i list) d || is_live b.now d) is
+      ∙ sym (list_any_more (λ (b : Bor (List Bool)). is_live b.now d) list i bits inside)
 
-  pub Tells-or : Tells (in_one (take i list)) from old → Tells (in_one (take (i + 1) list)) from (bit_or old word)
-  Tells-or h k low = bit_of_or old word k ∙ ap₂ (λ a b. a || b) (h k low) (here k low)
-      ∙ sym (list_any_more (λ (b : Bor (List Bool)). is_live b.now (from + k)) list i bits inside)
+  pub or_more : ((told || in_one (take i list) d) || is_live bits.now d) ≡ (told || in_one (take (i + 1) list) d)
+  or_more = or_assoc told (in_one (take i list) d) (is_live bits.now d) ∙ ap (λ b. told || b) one_more
 
-  pub Tells-and : Tells (in_each (take i list)) from old → Tells (in_each (take (i + 1) list)) from (bit_and old word)
-  Tells-and h k low = bit_of_and old word k ∙ ap₂ (λ a b. a && b) (h k low) (here k low)
-      ∙ sym (list_all_more (λ (b : Bor (List Bool)). is_live b.now (from + k)) list i bits inside)
+  pub and_more : ((told && in_each (take i list) d) && is_live bits.now d) ≡ (told && in_each (take (i + 1) list) d)
+  and_more = and_assoc told (in_each (take i list) d) (is_live bits.now d)
+      ∙ ap (λ b. told && b) (ap (λ (b : Bor (List Bool)). in_each (take i list) d && is_live b.now d) is
+      ∙ sym (list_all_more (λ (b : Bor (List Bool)). is_live b.now d) list i bits inside))
+
+  pub and_not_more : ((told && not (in_one (take i list) d)) && not (is_live bits.now d)) ≡ (told && not (in_one (take (i + 1) list) d))
+  and_not_more = and_assoc told (not (in_one (take i list) d)) (not (is_live bits.now d))
+      ∙ ap (λ b. told && b) (not_or (in_one (take i list) d) (is_live bits.now d) ∙ ap not one_more)
 
 -- what a word tells of documents that pass; none behind the last does
 pub record AreTold (test : ℕ → Bool) (docs from word : ℕ) : Type 0 where
@@ -77,16 +81,6 @@ module _ (test : ℕ → Bool) (docs : ℕ) where
       (ap (λ s. passing test s b) start ∙ passing-same test (is_marked (from + 64) second) (from + 64) b (λ d up down. let e : from + 64 + (d - (from + 64))
       ≡ d = omega (arith, up) in
       subst (λ x. test x ≡ is_marked (from + 64) second x) e (at (from + 64) second there.tells (d - (from + 64)) (omega (arith, up, down)))))
-
--- the word of documents that some have, and all, and none
-pub Tells-dense : (some all none : List (Bor (List Bool))) (from a b x : ℕ) → Tells (in_one some) from a → Tells (in_each all) from b →
-    Tells (in_one none) from x → x < 2 ^ 64 →
-    Tells (λ doc. (in_one some doc && in_each all doc) && not (in_one none doc)) from (bit_and (bit_and a b) (bit_not w64 x))
-Tells-dense some all none from a b x a_is b_is x_is fits k low =
-    bit_of_and (bit_and a b) (bit_not w64 x) k
-    ∙ ap₂ (λ p q. p && q)
-    (bit_of_and a b k ∙ ap₂ (λ p q. p && q) (a_is k low) (b_is k low))
-    (bit_of_not x k fits low ∙ ap not (x_is k low))
 
 -- behind the last document none has a bit
 none_behind : (list : List (Bor (List Bool))) (docs d : ℕ) → All (λ b. length b.now ≤ docs) list → docs ≤ d → in_one list d ≡ false

@@ -9,12 +9,6 @@ use Rattle.fts_postings.proofs.PassingLemmas.{passing-append}
 use Rattle.fts_postings.proofs.TakingLemmas.{marked-ones}
 use Rattle.fts_postings.proofs.WindowLemmas.{nothing, passing-same}
 
--- the first words are made of what they were
-pub record MadeUpTo (f : ℕ → ℕ → ℕ) (old row : List ℕ) (place : ℕ) : Type 0 where
-  pub done : (k : ℕ) → k < place → get_or row k 0 ≡ f k (get_or old k 0)
-  pub left : (k : ℕ) → place ≤ k → get_or row k 0 ≡ get_or old k 0
-  pub long : length row ≡ length old
-
 -- a word has what 64 documents have
 pub length-word : (test : ℕ → Bool) (from word : ℕ) → Tells test from word → word < 2 ^ 64 → length (passing test from 64) ≡ count_ones word
 length-word test from word tells fits =

@@ -1,10 +1,9 @@
 -- Documents by bits of several kinds.
-use Rattle.std.specs.Prelude.{◌≡◌, ℕ, ◌+◌, ◌*◌, ◌<◌, ◌≤◌, ◌==◌, ◌&&◌, ◌%◌, Bool, true, List, All, drop, length, not}
-use Rattle.std.specs.Prelude.{slice_index_or, take}
+use Rattle.std.specs.Prelude.{◌≡◌, ℕ, ◌+◌, ◌*◌, ◌<◌, ◌≤◌, ◌==◌, ◌&&◌, ◌%◌, Bool, true, List, All, length, not}
+use Rattle.std.specs.Prelude.{slice_index_or}
 use Rattle.std.specs.Borrow.{Bor}
 use Rattle.std.specs.Int.{bit_at}
 use Rattle.std.specs.List.{list_all, list_any}
-use Rattle.fts_pack.specs.bits.Bits.{number_of}
 use Rattle.fts_cursor.specs.Hits.{is_live}
 use Rattle.fts_cursor.specs.declared.dense.Dense.{Dense}
 use Rattle.fts_cursor.specs.declared.dense.Row.{Row}
@@ -31,10 +30,6 @@ Tells test from word = (k : ℕ) → k < 64 → (bit_at word k == 1) ≡ test (f
 -- 16 words tell of 1,024 documents
 abbrev pub IsRow : (ℕ → Bool) → ℕ → List ℕ → Type 0
 IsRow test from row = (k : ℕ) → k < 16 → Tells test (from + 64 * k) (slice_index_or row k 0)
-
--- the word of 64 bits at a place
-abbrev pub word_of : List Bool → ℕ → ℕ
-word_of bits index = number_of (take 64 (drop (64 * index) bits))
 
 -- what was read, if something was, tells of documents
 pub record HoldsRow (test : ℕ → Bool) (row : Row) : Type 0 where

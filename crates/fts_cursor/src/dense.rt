@@ -1,8 +1,7 @@
 // Documents that are given by bits: 64 at once, by words.
-ghost use Rattle.std.specs.Prelude.{◌≡◌, ℕ, true, false, ◌+◌, ◌-◌, ◌%◌, ◌*◌, ◌^◌, ◌<◌, ◌≤◌, bit_and, bit_or, length};
-ghost use Rattle.std.specs.Prelude.{min};
-ghost use Rattle.std.specs.Prelude.{slice_index_or};
-ghost use Rattle.fts_cursor.specs.Dense.{AreWithin, HoldsRow, IsRow, Tells, in_each, in_one, is_dense, word_of};
+ghost use Rattle.std.specs.Prelude.{◌≡◌, true, false, ◌+◌, ◌-◌, ◌%◌, ◌^◌, ◌<◌, ◌≤◌, ◌&&◌, ◌||◌, length, min, not};
+ghost use Rattle.fts_cursor.specs.Dense.{AreWithin, HoldsRow, IsRow, Tells, in_each, in_one, is_dense};
+ghost use Rattle.fts_pack.specs.bits.Changes.{AreChanged};
 ghost use Rattle.fts_postings.specs.Windows.{passing};
 
 use fts_pack::bits::Bits;
@@ -23,12 +22,10 @@ impl Dense<'_> {
         ensures { IsRow (is_dense self.now) from result }
     {
         let index = from / 64;
-        let mut row = row_of_some(&self.some, index);
-        let all = row_of_all(&self.all, index);
-        let none = row_of_some(&self.none, index);
-        for place in 0..16 {
-            row[place] = row[place] & all[place] & !none[place];
-        }
+        let mut row = [0; 16];
+        or_each(&self.some, index, &mut row);
+        and_each(&self.all, index, &mut row);
+        and_not_each(&self.none, index, &mut row);
         row
     }
 
@@ -143,50 +140,35 @@ pub(crate) fn in_each(list: &[&Bits], doc: usize) -> bool
     found
 }
 
-/// 16 words of several bits, joined by "or".
-fn row_of_some(list: &[&Bits], index: usize) -> [u64; 16]
-    requires { index < 2 ^ 60 }
-    ensures { IsRow (in_one list.now) (64 * index) result }
-{
-    let mut row = [0; 16];
-    for bits in list {
-        add(&mut row, bits, index);
-    }
-    row
-}
-
-/// 16 words of several bits, joined by "and".
-fn row_of_all(list: &[&Bits], index: usize) -> [u64; 16]
-    requires { index < 2 ^ 60 }
-    ensures { IsRow (in_each list.now) (64 * index) result }
-{
-    let mut row = [u64::MAX; 16];
-    for bits in list {
-        keep(&mut row, bits, index);
-    }
-    row
-}
-
-/// Adds the words of bits.
+/// Adds the documents whose bit is set in one of these to those that words tell, from the word of an index on.
 #[inline]
-fn add(row: &mut [u64; 16], bits: &Bits, index: usize)
-    requires { index < 2 ^ 60 }
-    ensures { (k : ℕ) → k < 16 → slice_index_or row.new k 0
-        ≡ bit_or (slice_index_or row.old k 0) (word_of bits.now (index + k)) }
+fn or_each(list: &[&Bits], index: usize, words: &mut [u64])
+    requires { index < 2 ^ 58 }
+    ensures { AreChanged (λ doc told. told || in_one list.now doc) index words.old words.new }
 {
-    for place in 0..16 {
-        row[place] |= bits.word(index + place);
+    for bits in list {
+        bits.or_into(index, words);
     }
 }
 
-/// Keeps what the words of bits have too.
+/// Keeps the documents whose bit is set in each of these.
 #[inline]
-fn keep(row: &mut [u64; 16], bits: &Bits, index: usize)
-    requires { index < 2 ^ 60 }
-    ensures { (k : ℕ) → k < 16 → slice_index_or row.new k 0
-        ≡ bit_and (slice_index_or row.old k 0) (word_of bits.now (index + k)) }
+fn and_each(list: &[&Bits], index: usize, words: &mut [u64])
+    requires { index < 2 ^ 58 }
+    ensures { AreChanged (λ doc told. told && in_each list.now doc) index words.old words.new }
 {
-    for place in 0..16 {
-        row[place] &= bits.word(index + place);
+    for bits in list {
+        bits.and_into(index, words);
+    }
+}
+
+/// Keeps the documents whose bit is set in none of these.
+#[inline]
+fn and_not_each(list: &[&Bits], index: usize, words: &mut [u64])
+    requires { index < 2 ^ 58 }
+    ensures { AreChanged (λ doc told. told && not (in_one list.now doc)) index words.old words.new }
+{
+    for bits in list {
+        bits.and_not_into(index, words);
     }
 }

@@ -1,7 +1,0 @@
--- The words so far are joined.
-use Rattle.std.proofs.Common.{◌*◌, take}
-use Rattle.fts_cursor.specs.Dense.{IsRow, in_one}
-use Rattle.fts_cursor.proofs.dense.row_of_some.Given as goal
-
-abbrev pub invariant-loop-bits : goal.invariant-loop-bits
-invariant-loop-bits l = IsRow (in_one (take l.bits-index l.list)) (64 * l.index) l.row
