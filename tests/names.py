@@ -38,7 +38,7 @@ OF_A_SUBJECT = {
     "fts_postings": {"marks", "posting", "stretch"},
     "fts_query": {"depth", "error", "parser", "reader"},
     "fts_scan": {"answers", "matcher", "operations", "terms"},
-    "fts_script": {"session/commands", "session/cut_search", "session/group_search", "streams"},
+    "fts_script": {"session/commands", "session/group_search", "streams"},
     "fts_segment": {"binary_search", "dictionary_merge", "segment_join", "term_merge", "token_log"},
     "fts_snapshots": {"entries/ids"},
     "fts_text": {"case_fold", "characters", "tokenizer"},
@@ -52,7 +52,7 @@ AFTER_ITS_PARTS = {
     "fts_pool": {"slots"},
     "fts_query": {"clauses", "input", "meaning"},
     "fts_rounds": {"lane", "stamps"},
-    "fts_script": {"command/command", "session/blank", "session/print", "session/reply"},
+    "fts_script": {"command/command", "session/blank", "session/print", "session/reply", "session/search"},
     "fts_segment": {"segment", "term_groups", "term_log"},
     "fts_snapshots": {"commits/batch_jobs", "commits/commit_job"},
 }

@@ -1,8 +1,9 @@
 -- What a call leaves of an open session, and the code that it returns.
 use Rattle.std.specs.Prelude.{◌≡◌, ◌≢◌, ℕ, ℤ, false, nat_le, if◌then◌else◌, Option, MatchOption}
 use Rattle.std.specs.Prelude.{List, [], ◌++◌, length, drop, string_bytes}
-use Rattle.fts_script.specs.session.Finds.{reply_to_search}
+use Rattle.fts_script.specs.session.GroupSearches.{reply_to_group_search}
 use Rattle.fts_script.specs.session.Outputs.{SessionValue, after_line, reply_to}
+use Rattle.fts_script.specs.session.Searches.{reply_to_search}
 use Rattle.fts_script.specs.session.Text.{is_blank}
 use Rattle.fts_c.specs.declared.codes.TheConstants.{OK, MEMORY}
 use Rattle.fts_c.specs.declared.state.State.{State}
@@ -28,14 +29,22 @@ pub record Executes (old : State) (line : List ℕ) (new : State) (code : ℤ) :
 abbrev pub unless_blank : List ℕ → List ℕ → List ℕ
 unless_blank line reply = if is_blank line then [] else reply
 
--- A search was answered: the reply is the definition's, and at another code there is none. The session is as it was. A
--- blank line has an empty reply, and needs no memory.
-pub record Searches (old : State) (line : List ℕ) (new : State) (code : ℤ) : Type 0 where
+-- A search was answered with this reply, and at another code with none. The session is as it was. A blank line has an
+-- empty reply, whatever else was asked for, and needs no memory.
+pub record Finds (old : State) (line reply : List ℕ) (new : State) (code : ℤ) : Type 0 where
   pub code_is : IsCodeOf old.session.script line code
-  pub reply : code ≡ OK → string_bytes new.reply ≡ unless_blank line (reply_to_search old.session.script line)
+  pub reply : code ≡ OK → string_bytes new.reply ≡ unless_blank line reply
   pub same : new.session.script ≡ old.session.script
   pub none : code ≢ OK → string_bytes new.reply ≡ []
   pub not_blank : code ≡ MEMORY → is_blank line ≡ false
+
+-- A search was answered as the definition says, cut to the fields that another line lists, if there is one.
+abbrev pub Searches : State → List ℕ → Option (List ℕ) → State → ℤ → Type 0
+Searches old line names new code = Finds old line (reply_to_search old.session.script line names) new code
+
+-- A search was answered as the definition says, with its most frequent groups alone.
+abbrev pub SearchesGroups : State → List ℕ → ℕ → State → ℤ → Type 0
+SearchesGroups old line limit new code = Finds old line (reply_to_group_search old.session.script line limit) new code
 
 -- a buffer after a copy: the bytes are at its beginning if they fit, otherwise it is as it was
 abbrev pub copied : List ℕ → List ℕ → List ℕ

@@ -1,6 +1,6 @@
 -- What a call leaves of a place that may be closed.
 use Rattle.std.specs.Prelude.{◌≡◌, ℕ, ℤ, List, Option, Some, None, MatchOption}
-use Rattle.fts_script.specs.session.Finds.{at_commit}
+use Rattle.fts_script.specs.session.Searches.{at_commit}
 use Rattle.fts_c.specs.declared.codes.TheConstants.{OK, CLOSED, NO_REPLY}
 use Rattle.fts_c.specs.declared.state.State.{State}
 use Rattle.fts_c.specs.Calls.{Opens, TellsReply}

@@ -1,11 +1,12 @@
 -- What a call of several lines leaves that are done all or none, and its code.
-use Rattle.std.specs.Prelude.{◌≡◌, ◌≢◌, ◌<◌, ◌≤◌, ◌++◌, ℤ, ℕ, Bool, true, false, Result, Ok, Err, List, [], length, take}
-use Rattle.std.specs.Prelude.{slice_index_or, string_bytes}
+use Rattle.std.specs.Prelude.{◌≡◌, ◌≢◌, ◌<◌, ◌≤◌, ◌++◌, ℤ, ℕ, Bool, true, false, Result, Ok, Err, List, [], length}
+use Rattle.std.specs.Prelude.{slice_index_or, string_bytes, take}
 use Rattle.fts_engine.specs.Indexes.{indexes}
 use Rattle.fts_script.specs.session.Outputs.{after_line, after_lines, reply_to}
 use Rattle.fts_script.specs.session.Replies.{text_of}
 use Rattle.fts_script.specs.session.Text.{lines_of}
-use Rattle.fts_script.specs.session.Transactions.{after_transaction, is_taken, lines_taken, operate, reply_to_transaction}
+use Rattle.fts_script.specs.session.Transactions.{after_transaction, is_taken, lines_taken, operate}
+use Rattle.fts_script.specs.session.Transactions.{reply_to_transaction}
 use Rattle.fts_c.specs.declared.codes.TheConstants.{OK}
 use Rattle.fts_c.specs.declared.state.State.{State}
 use Rattle.fts_c.specs.Codes.{IsCodeOf}

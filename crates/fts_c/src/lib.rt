@@ -5,9 +5,9 @@
 //! a session of its own over the last commit of another, which another thread may have, and which takes only searches.
 //! So is a merge, which another thread runs while its index goes on.
 //! A caller owes a handle that was opened or is null, and true lengths. What each call leaves, and which code it
-//! returns, is a definition of `specs/Calls.antt`, `Blocks`, `Transactions`, `Pairs`, `CutSearches`, `GroupSearches` or
-//! `Merges`, for a place that is open, and of `specs/Open.antt` or `StatsOf` for one that may be closed. One call needs
-//! no handle: it returns the byte at which a query can't be read any further (`specs/Syntaxes.antt`).
+//! returns, is a definition of `specs/Calls.antt`, `Blocks`, `Transactions`, `Pairs` or `Merges`, for a place that is
+//! open, and of `specs/Open.antt` or `StatsOf` for one that may be closed. One call needs no handle: it returns the
+//! byte at which a query can't be read any further (`specs/Syntaxes.antt`).
 #![tactic(auto)]
 
 ghost use Rattle.std.specs.Prelude.{◌≡◌, Option, Some, None, IfOk, MatchOption, MatchResult};
@@ -17,10 +17,8 @@ ghost use Rattle.fts_c.specs.declared.state.State.{State};
 ghost use Rattle.fts_c.specs.contracts.state.State.{the_row};
 ghost use Rattle.fts_c.specs.Answers.{Answers};
 ghost use Rattle.fts_c.specs.Blocks.{ExecutesLines};
-ghost use Rattle.fts_c.specs.CutSearches.{SearchesFields};
 ghost use Rattle.fts_c.specs.Pairs.{Replaces};
-ghost use Rattle.fts_c.specs.Calls.{copied, Executes, Opens, Searches};
-ghost use Rattle.fts_c.specs.GroupSearches.{SearchesGroups};
+ghost use Rattle.fts_c.specs.Calls.{copied, Executes, Opens, Searches, SearchesGroups};
 ghost use Rattle.fts_c.specs.Held.{held};
 ghost use Rattle.fts_c.specs.Merges.{BeginsMerge, EndsMerge, LimitsMerges, RunsMerge, limit_of};
 ghost use Rattle.fts_c.specs.Open.{Closes, IfOpen, OpensSearcher, TellsIfOpen};
@@ -250,9 +248,9 @@ pub extern "C" fn dilforec_execute_lines(
     }
 }
 
-/// Executes the lines of a block, each an addition or a deletion, as one: all are done, or none. At 0 the reply is their
-/// replies, one after the other, or the refusal of the first line that is refused; at another code, which is that of
-/// the first line that has one, there is no reply. `done` is set to the number of lines before that one, and to the
+/// Executes the lines of a block, each an addition or a deletion, as one: all are done, or none. At 0 the reply is
+/// their replies, one after the other, or the refusal of the first line that is refused; at another code, which is that
+/// of the first line that has one, there is no reply. `done` is set to the number of lines before that one, and to the
 /// number of all lines if they were done.
 #[unsafe(no_mangle)]
 pub extern "C" fn dilforec_transaction(
@@ -301,9 +299,9 @@ pub extern "C" fn dilforec_execute_fields(
     names: &[u8],
 ) -> i32
     ensures { IfOpen slot.old.state slot.new.state result
-        (λ old new. SearchesFields old line.now names.now new result) }
+        (λ old new. Searches old line.now (Some names.now) new result) }
 {
-    answer(slot, alloc, Call::SearchFields(line, names))
+    answer(slot, alloc, Call::Search(line, Some(names)))
 }
 
 /// Answers a search of the last commit, with the most frequent groups alone, at most `limit`: those of the greatest
@@ -535,9 +533,9 @@ pub extern "C" fn dilforec_searcher_again(
 /// nothing changes. Another command is answered as `BadCommand`. The codes are those of `dilforec_execute`.
 #[unsafe(no_mangle)]
 pub extern "C" fn dilforec_search(searcher: &mut Slot, alloc: Global, line: &[u8]) -> i32
-    ensures { IfOpen searcher.old.state searcher.new.state result (λ old new. Searches old line.now new result) }
+    ensures { IfOpen searcher.old.state searcher.new.state result (λ old new. Searches old line.now None new result) }
 {
-    answer(searcher, alloc, Call::Search(line))
+    answer(searcher, alloc, Call::Search(line, None))
 }
 
 /// Answers a search cut to some fields, as `dilforec_execute_fields` does, over the searcher's commit.
@@ -549,9 +547,9 @@ pub extern "C" fn dilforec_search_fields(
     names: &[u8],
 ) -> i32
     ensures { IfOpen searcher.old.state searcher.new.state result
-        (λ old new. SearchesFields old line.now names.now new result) }
+        (λ old new. Searches old line.now (Some names.now) new result) }
 {
-    answer(searcher, alloc, Call::SearchFields(line, names))
+    answer(searcher, alloc, Call::Search(line, Some(names)))
 }
 
 /// Answers a search with the most frequent groups alone, as `dilforec_execute_groups` does, over the searcher's commit.

@@ -1,12 +1,11 @@
 // A session and its last reply, or a merge.
 ghost use Rattle.std.specs.Prelude.{◌≡◌, ◌≢◌, ◌+◌, ◌≤◌, [], None, MatchResult, string_bytes};
+ghost use Rattle.std.specs.Option.{option_copied};
 ghost use Rattle.fts_base.specs.Results.{value_if_ok};
 ghost use Rattle.fts_script.specs.session.Sessions.{Maintains};
 ghost use Rattle.fts_c.specs.Blocks.{ExecutesLines, ExecutesNext};
 ghost use Rattle.fts_c.specs.Answers.{Answers};
-ghost use Rattle.fts_c.specs.Calls.{Executes, Searches};
-ghost use Rattle.fts_c.specs.CutSearches.{SearchesFields};
-ghost use Rattle.fts_c.specs.GroupSearches.{SearchesGroups};
+ghost use Rattle.fts_c.specs.Calls.{Executes, Searches, SearchesGroups};
 ghost use Rattle.fts_c.specs.Codes.{IsFault, IsTried};
 ghost use Rattle.fts_c.specs.Merges.{ChangesEngine, EndsMerge, HasBegun, IsCodeOfEnd, IsNotBegun, LimitsMerges};
 ghost use Rattle.fts_c.specs.Merges.{RunsMerge};
@@ -44,10 +43,8 @@ pub(crate) enum Call<'a> {
     Execute(&'a [u8]),
     /// Executes a deletion and an addition as one.
     Replace(&'a [u8], &'a [u8]),
-    /// Answers a search.
-    Search(&'a [u8]),
-    /// Answers a search, cut to the fields that another line lists.
-    SearchFields(&'a [u8], &'a [u8]),
+    /// Answers a search, cut to the fields that another line lists, if there is one.
+    Search(&'a [u8], Option<&'a [u8]>),
     /// Answers a search with so many groups at most, the most frequent ones.
     SearchGroups(&'a [u8], usize),
     /// Limits what commits merge.
@@ -218,24 +215,9 @@ impl State {
         code_of(replaced)
     }
 
-    /// Answers a search.
-    pub(crate) fn search(&mut self, alloc: Global, line: &[u8]) -> i32
-        ensures { Searches self.old line.now self.new result }
-    {
-        self.forget();
-        if let Err(code) = self.check(line) {
-            return code;
-        }
-        if is_blank(line) {
-            return OK;
-        }
-        let found = self.session.find(&((), alloc), line, &mut self.reply);
-        code_of(found)
-    }
-
-    /// Answers a search, cut to the fields that another line lists.
-    pub(crate) fn search_fields(&mut self, alloc: Global, line: &[u8], names: &[u8]) -> i32
-        ensures { SearchesFields self.old line.now names.now self.new result }
+    /// Answers a search, cut to the fields that another line lists, if there is one.
+    pub(crate) fn search(&mut self, alloc: Global, line: &[u8], names: Option<&[u8]>) -> i32
+        ensures { Searches self.old line.now (option_copied names.entry) self.new result }
     {
         self.forget();
         if let Err(code) = self.check(line) {
@@ -246,7 +228,7 @@ impl State {
         }
         let found = self
             .session
-            .find_fields(&((), alloc), line, names, &mut self.reply);
+            .search(&((), alloc), line, names, &mut self.reply);
         code_of(found)
     }
 
@@ -363,8 +345,7 @@ impl State {
         match call {
             Call::Execute(line) => self.execute(alloc, line),
             Call::Replace(delete, add) => self.replace(alloc, delete, add),
-            Call::Search(line) => self.search(alloc, line),
-            Call::SearchFields(line, names) => self.search_fields(alloc, line, names),
+            Call::Search(line, names) => self.search(alloc, line, names),
             Call::SearchGroups(line, limit) => self.search_groups(alloc, line, limit),
             Call::LimitMerges(limit) => self.limit_merges(limit),
             Call::RunMerge => self.run_merge(alloc),

@@ -1,10 +1,9 @@
-pub mod CutSearches
-pub mod Finds
 pub mod GroupSearches
 pub mod KeptLines
 pub mod Outputs
 pub mod Replaces
 pub mod Replies
+pub mod Searches
 pub mod Sessions
 pub mod Text
 pub mod Transactions

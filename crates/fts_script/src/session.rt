@@ -5,7 +5,6 @@
 
 mod blank;
 mod commands;
-mod cut_search;
 mod group_search;
 pub mod laws;
 mod maintenance;
@@ -13,6 +12,7 @@ mod print;
 mod replace;
 mod reply;
 mod savepoint;
+mod search;
 mod session;
 
 pub use blank::{first_line, is_blank, is_white};

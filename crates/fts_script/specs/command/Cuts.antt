@@ -33,4 +33,5 @@ texts_in (item d ds) = option_and_then (λ text. option_map (λ texts. text ∷ 
 -- the names that a line lists: an array of strings
 abbrev pub names_in : List ℕ → Result (List (List ℕ)) Refusal
 names_in line =
-    result_and_then (λ value. ok_or (option_and_then texts_in (as_array value)) BadCommand) (ok_or (json_in line) BadJson)
+    result_and_then (λ value. ok_or (option_and_then texts_in (as_array value)) BadCommand)
+    (ok_or (json_in line) BadJson)

@@ -33,7 +33,7 @@ after_lines s (line ∷ lines) = after_lines (after_line s line) lines
 abbrev pub output : List ℕ → List ℕ
 output = output_on indexes
 
--- the output by the history of accepted commands. A stamp is a command's place among those that no rollback took back. A
--- search sees the documents alive after the operations before the last commit.
+-- the output by the history of accepted commands. A stamp is a command's place among those that no rollback took back.
+-- A search sees the documents alive after the operations before the last commit.
 abbrev pub output_by_commands : List ℕ → List ℕ
 output_by_commands = output_on histories

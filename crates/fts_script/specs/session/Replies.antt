@@ -39,8 +39,8 @@ pub record Outcome (S : Type 0) : Type 0 where
 abbrev pub replied : {S X : Type 0} → (X → Data) → Result (S × X) Refusal → Result (Outcome S) Refusal
 replied print step = result_map (λ done. record { index = Some done.0; reply = print done.1 }) step
 
--- The last commit is searched: the query is looked at first, then the groups and the top list. `query_of` is how the text reads from the left; by
--- `fts_query`'s law `each_text_has_an_outcome` it is the one outcome that the grammar gives the text.
+-- The last commit is searched: the query is looked at first, then the groups and the top list. `query_of` reads the
+-- text from the left; by `fts_query`'s law `each_text_has_an_outcome` it is the one outcome that the grammar gives it.
 abbrev pub answer_search : {S : Type 0} → Carrier S → Search → S → Result (Outcome S) Refusal
 answer_search on asked s =
     result_and_then (λ query. result_and_then (λ request. replied answer_data (search_commit on query request s))

@@ -1,6 +1,6 @@
 -- Lines that are done together, all or none: operations, one after the other.
-use Rattle.std.specs.Prelude.{ℕ, ◌+◌, Bool, true, false, List, [], ◌∷◌, Result, Ok, Err, Option, Some, None, is_ok, length}
-use Rattle.std.specs.Prelude.{if◌then◌else◌, option_map}
+use Rattle.std.specs.Prelude.{ℕ, ◌+◌, Bool, true, false, List, [], ◌∷◌, Result, Ok, Err, Option, Some, None, length}
+use Rattle.std.specs.Prelude.{is_ok, if◌then◌else◌, option_map}
 use Rattle.fts_base.specs.declared.refusal.Refusal.{Refusal}
 use Rattle.fts_base.specs.declared.refusal.Refusal.TheVariants.{BadCommand}
 use Rattle.fts_base.specs.Results.{result_and_then}

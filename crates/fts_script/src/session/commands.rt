@@ -1,34 +1,25 @@
 // Executes commands over an engine, and then prints their replies.
-ghost use Rattle.std.specs.Prelude.{◌≡◌, ◌+◌, ◌^◌, ◌<◌, ◌≤◌, ◌++◌, ℕ, Option, Some, None, Ok, Err, true};
-ghost use Rattle.std.specs.Prelude.{IfOk, OnOk, OnErr, length, string_bytes, option_map};
-ghost use Rattle.std.specs.Prelude.{codes, Result};
+ghost use Rattle.std.specs.Prelude.{◌≡◌, ◌+◌, ◌^◌, ◌<◌, ◌≤◌, ◌++◌, Option, Some, None, Ok, Err, true};
+ghost use Rattle.std.specs.Prelude.{IfOk, OnOk, OnErr, Result, codes, length, string_bytes, option_map};
 ghost use Rattle.serde_json.specs.View.{view};
 ghost use Rattle.std.specs.Option.{ok_or};
 ghost use Rattle.fts_base.specs.Results.{Gives};
-ghost use Rattle.std.specs.Option.{option_copied};
 ghost use Rattle.fts_model.specs.Documents.{document_of, fits};
 ghost use Rattle.fts_model.specs.Operations.{op_fits, term_fits, term_of};
-ghost use Rattle.fts_model.specs.Queries.{query_fits, request_fits, request_of};
-ghost use Rattle.fts_model.specs.QueryValues.{query_value};
-ghost use Rattle.fts_query.specs.Outcomes.{refusal_without_byte};
-ghost use Rattle.fts_query.specs.Answers.{answer};
-ghost use Rattle.fts_script.specs.command.AnswerData.{answer_data};
 ghost use Rattle.fts_script.specs.command.Commands.{longest, Add, Delete, Commit, Rollback, Merge, json_in};
-ghost use Rattle.fts_script.specs.command.CommandViews.{command_value, search_value};
-ghost use Rattle.fts_script.specs.command.Cuts.{cut_answer};
+ghost use Rattle.fts_script.specs.command.CommandViews.{command_value};
 ghost use Rattle.fts_engine.specs.Indexes.{indexes};
-ghost use Rattle.fts_engine.specs.Steps.{search_commit, submit};
-ghost use Rattle.fts_script.specs.session.Replies.{replied, answer_search, execute, execute_line, number_reply};
+ghost use Rattle.fts_engine.specs.Steps.{submit};
+ghost use Rattle.fts_script.specs.session.Replies.{replied, execute, execute_line, number_reply};
 ghost use Rattle.fts_script.specs.session.Replies.{text_of, index_after};
-ghost use Rattle.fts_script.specs.session.Finds.{find, find_line};
 ghost use Rattle.fts_script.specs.session.Sessions.{Does, ChangesAtMost, ChangesOnce};
 
-use crate::command::{Command, Search, command_of};
+use crate::command::{Command, command_of};
 use crate::session::print::{LONGEST_NUMBER_LINE, print};
 use crate::session::reply::{NumberName, Reply};
+use crate::session::search::search;
 use fts_engine::{Engine, EngineOver, Options};
-use fts_model::{Document, Field, Op, Order, Query, Refusal, Request, Schema, Term, Text};
-use fts_query::parse;
+use fts_model::{Document, Field, Op, Refusal, Schema, Term};
 use serde_json::Value;
 use std::alloc::{AllocError, Global};
 
@@ -114,77 +105,6 @@ pub(crate) fn delete<E: Engine>(
     submit(engine, Op::Delete(term))
 }
 
-/// The refusal without its byte, if it is one of syntax: no reply shows the byte.
-fn without_byte(refusal: Refusal) -> Refusal
-    ensures { result ≡ refusal_without_byte refusal }
-{
-    match refusal {
-        Refusal::Syntax(_) => Refusal::Syntax(0),
-        refusal => refusal,
-    }
-}
-
-/// The query that a text is.
-pub(crate) fn query_of(alloc: Global, schema: &Schema, text: &str) -> Result<Query, Refusal>
-    ensures query { Gives query_value result (answer schema.now text.now) }
-    ensures fits { IfOk result (λ query. query_fits schema.now (query_value query) ≡ true) }
-{
-    match parse(alloc, schema, text) {
-        Ok(query) => Ok(query),
-        Err(refusal) => Err(without_byte(refusal)),
-    }
-}
-
-/// The request for these groups and this top list.
-pub(crate) fn request_of(
-    schema: &Schema,
-    groups: Option<&str>,
-    top: Option<(&str, u64, Order)>,
-) -> Result<Request, Refusal>
-    ensures request { result ≡ request_of schema.now (option_copied groups.entry)
-        (option_map (λ t. (t.0.now, t.1, t.2)) top.entry) }
-    ensures fits { IfOk result (λ request. request_fits schema.now request ≡ true) }
-{
-    Request::new(schema, groups, top)
-}
-
-/// Answers a search for a query. If there are names, the documents of its hits show only the fields of these names.
-pub(crate) fn search_for<R: AllocGlobal + Sync, E: EngineOver<R>>(
-    rt: &R,
-    engine: &mut E,
-    query: Query,
-    request: Request,
-    names: Option<Vec<Text>>,
-) -> Result<Reply, Refusal>
-    requires query { query_fits (E.index engine.old).schema (query_value query) ≡ true }
-    requires request { request_fits (E.index engine.old).schema request ≡ true }
-    ensures does { Does
-        (replied (λ answer. answer_data (cut_answer (option_map (λ listed. listed.items) names) answer))
-        (search_commit indexes (query_value query) request (E.index engine.old)))
-        (Some (E.index engine.old)) (Some (E.index engine.new)) result }
-    ensures same { E.index engine.new ≡ E.index engine.old }
-    ensures changes { E.changes engine.new ≤ E.changes engine.old }
-{
-    Ok(Reply::Answer(engine.search(rt, &query, &request)?, names))
-}
-
-/// Answers a search.
-fn search<R: AllocGlobal + Sync, E: EngineOver<R>>(
-    rt: &R,
-    engine: &mut E,
-    asked: Search<'_>,
-) -> Result<Reply, Refusal>
-    ensures does { Does
-        (answer_search indexes (search_value asked.entry) (E.index engine.old))
-        (Some (E.index engine.old)) (Some (E.index engine.new)) result }
-    ensures same { E.index engine.new ≡ E.index engine.old }
-    ensures changes { E.changes engine.new ≤ E.changes engine.old }
-{
-    let query = query_of(rt.alloc(), engine.schema(), asked.query)?;
-    let request = request_of(engine.schema(), asked.groups, asked.top)?;
-    search_for(rt, engine, query, request, None)
-}
-
 /// Executes any command but the schema, once there is an index.
 fn execute_open<R: AllocGlobal + Sync, E: EngineOver<R>>(
     rt: &R,
@@ -206,7 +126,7 @@ fn execute_open<R: AllocGlobal + Sync, E: EngineOver<R>>(
         Command::Commit => Ok(Reply::Number(NumberName::Commit, engine.commit(rt)?)),
         Command::Rollback => Ok(Reply::Number(NumberName::Rollback, engine.rollback(rt)?)),
         Command::Merge => Ok(Reply::Number(NumberName::Merged, engine.merge(rt)?)),
-        Command::Search(asked) => search(rt, engine, asked),
+        Command::Search(asked) => search(rt, engine, asked, None),
     }
 }
 
@@ -290,66 +210,5 @@ pub(crate) fn answer_whole<R: AllocGlobal + Sync, E: EngineOver<R>>(
     out.reserve(LONGEST_NUMBER_LINE)?;
     let done = execute_whole(rt, options, index, line);
     print(rt.alloc(), number, done, out)?;
-    Ok(())
-}
-
-/// Executes a search. Another command is refused as `BadCommand`.
-fn find<R: AllocGlobal + Sync, E: EngineOver<R>>(
-    rt: &R,
-    index: &mut Option<E>,
-    command: Command<'_>,
-) -> Result<Reply, Refusal>
-    ensures does { Does
-        (find indexes (option_map E.index index.old) (command_value command.entry))
-        (option_map E.index index.old) (option_map E.index index.new) result }
-    ensures same { option_map E.index index.new ≡ option_map E.index index.old }
-    ensures changes { (n : ℕ) → ChangesAtMost E.changes n index.old → ChangesAtMost E.changes n index.new }
-{
-    match command {
-        Command::Search(asked) => match index {
-            Some(engine) => search(rt, engine, asked),
-            None => Err(Refusal::NoSchema),
-        },
-        _ => Err(Refusal::BadCommand),
-    }
-}
-
-/// The outcome of a search in a line that isn't too long.
-fn find_whole<R: AllocGlobal + Sync, E: EngineOver<R>>(
-    rt: &R,
-    index: &mut Option<E>,
-    line: &[u8],
-) -> Result<Reply, Refusal>
-    requires fits_line { length line.now ≤ longest }
-    ensures does { Does (find_line indexes (option_map E.index index.old) line.now)
-        (option_map E.index index.old) (option_map E.index index.new) result }
-    ensures same { option_map E.index index.new ≡ option_map E.index index.old }
-    ensures changes { (n : ℕ) → ChangesAtMost E.changes n index.old → ChangesAtMost E.changes n index.new }
-{
-    let json = json_of(rt.alloc(), line)?;
-    match command_of(rt.alloc(), &json)? {
-        Some(command) => find(rt, index, command),
-        None => Err(Refusal::BadCommand),
-    }
-}
-
-/// Replies to a search in the line of this number, which isn't too long.
-pub(crate) fn answer_find<R: AllocGlobal + Sync, E: EngineOver<R>>(
-    rt: &R,
-    index: &mut Option<E>,
-    number: u64,
-    line: &[u8],
-    out: &mut String,
-) -> Result<(), AllocError>
-    requires fits_line { length line.now ≤ longest }
-    ensures reply { OnOk result (string_bytes out.new
-        ≡ string_bytes out.old ++ text_of number (find_line indexes (option_map E.index index.old) line.now)) }
-    ensures same { option_map E.index index.new ≡ option_map E.index index.old }
-    ensures err { OnErr result (string_bytes out.new ≡ string_bytes out.old) }
-    ensures changes { (n : ℕ) → ChangesAtMost E.changes n index.old → ChangesAtMost E.changes n index.new }
-{
-    out.reserve(LONGEST_NUMBER_LINE)?;
-    let found = find_whole(rt, index, line);
-    print(rt.alloc(), number, found, out)?;
     Ok(())
 }

@@ -10,9 +10,10 @@ ghost use Rattle.fts_script.specs.session.Replies.{text_of};
 ghost use Rattle.fts_script.specs.session.Sessions.{Does, ChangesAtMost};
 
 use crate::command::{Command, Search, command_of};
-use crate::session::commands::{json_of, query_of, request_of};
+use crate::session::commands::json_of;
 use crate::session::print::{LONGEST_NUMBER_LINE, print};
 use crate::session::reply::Reply;
+use crate::session::search::{query_of, request_of};
 use fts_engine::EngineOver;
 use fts_model::{Answer, GroupValue, Refusal};
 use std::alloc::AllocError;

@@ -19,8 +19,8 @@ use itoa::Buffer;
 use serde_json::{Value, json};
 use std::alloc::{AllocError, Global};
 
-/// The most bytes of the line of a reply that is one number. They are reserved before a step, so that its reply can't be
-/// refused after it.
+/// The most bytes of the line of a reply that is one number. They are reserved before a step, so that its reply can't
+/// be refused after it.
 pub const LONGEST_NUMBER_LINE: usize = 34;
 
 /// Appends a text for which there is room.

@@ -1,4 +1,5 @@
-// What a script goes back to, and lines of a transaction: each is executed, and all are taken back at the first refusal.
+// What a script goes back to, and lines of a transaction: each is executed, and all are taken back at the first
+// refusal.
 ghost use Rattle.std.specs.Prelude.{◌≡◌, ◌+◌, ◌^◌, ◌≤◌, ◌++◌, [], IfOk, OnOk, OnErr, length, string_bytes};
 ghost use Rattle.std.specs.Prelude.{is_ok, option_map, if◌then◌else◌};
 ghost use Rattle.fts_script.specs.command.Commands.{longest};
@@ -14,7 +15,7 @@ use crate::session::print::{LONGEST_NUMBER_LINE, push_reply, refusal_line};
 use crate::session::reply::Reply;
 use fts_engine::{EngineOver, Options, TakeBack};
 use fts_model::Refusal;
-use std::alloc::{AllocError, Global};
+use std::alloc::AllocError;
 
 /// What a script goes back to if a transaction isn't done.
 #[derive(Clone, Copy)]

@@ -1,11 +1,11 @@
 // A script, line by line: its state, and its replies.
 ghost use Rattle.std.specs.Prelude.{◌≡◌, ◌+◌, ◌^◌, ◌<◌, ◌≤◌, false, ◌++◌, None, length, IfOk, OnOk, OnErr, is_none};
 ghost use Rattle.std.specs.Prelude.{option_map, string_bytes, if◌then◌else◌};
+ghost use Rattle.std.specs.Option.{option_copied};
 ghost use Rattle.fts_script.specs.session.Text.{is_blank};
-ghost use Rattle.fts_script.specs.session.Finds.{at_commit, reply_to_search};
+ghost use Rattle.fts_script.specs.session.Searches.{at_commit, reply_to_search};
 ghost use Rattle.fts_script.specs.session.Outputs.{start, after_line, reply_to};
 ghost use Rattle.fts_script.specs.command.Commands.{longest};
-ghost use Rattle.fts_script.specs.session.CutSearches.{reply_to_cut_search};
 ghost use Rattle.fts_script.specs.session.Replaces.{after_replace, reply_to_replace};
 ghost use Rattle.fts_script.specs.session.GroupSearches.{reply_to_group_search};
 ghost use Rattle.fts_script.specs.session.KeptLines.{TooLong, after_kept, reply_to_kept};
@@ -15,13 +15,13 @@ ghost use Rattle.fts_engine.specs.Indexes.{indexes};
 ghost use Rattle.fts_script.specs.session.Sessions.{Appends, ChangesAtMost, IsAnswerable, Maintains};
 
 use crate::session::blank::is_blank;
-use crate::session::commands::{answer_find, answer_whole};
-use crate::session::cut_search::answer_find_cut;
+use crate::session::commands::answer_whole;
 use crate::session::group_search::answer_find_frequent;
 use crate::session::maintenance::Maintenance;
 use crate::session::print::refusal_line;
 use crate::session::replace::answer_replace;
 use crate::session::savepoint::{Savepoint, answer_operation, uncommitted_in};
+use crate::session::search::answer_search;
 use fts_engine::{Engine, EngineOver, Fork, Options, TakeBack};
 use fts_model::Refusal;
 use std::alloc::{AllocError, Global};
@@ -124,11 +124,14 @@ impl<E: Engine> Session<E> {
         Ok(())
     }
 
-    /// Replies to a search, and goes on as if it hadn't come. Another command is refused as `BadCommand`.
-    pub fn find<R: AllocGlobal + Sync>(
+    /// Replies to a search, and goes on as if it hadn't come. If there is another line, the documents of its hits are
+    /// cut to the fields that it lists; an unknown name is refused as `UnknownField`. Another command is refused as
+    /// `BadCommand`.
+    pub fn search<R: AllocGlobal + Sync>(
         &mut self,
         rt: &R,
         line: &[u8],
+        names: Option<&[u8]>,
         out: &mut String,
     ) -> Result<(), AllocError>
     where
@@ -136,9 +139,9 @@ impl<E: Engine> Session<E> {
         requires { IsAnswerable self.old.script line.now }
         ensures same { self.new.script ≡ self.old.script }
         ensures reply { Appends result (string_bytes out.old) (string_bytes out.new)
-            (reply_to_search self.old.script line.now) }
+            (reply_to_search self.old.script line.now (option_copied names.entry)) }
     {
-        answer_find(rt, &mut self.index, self.number + 1, line, out)
+        answer_search(rt, &mut self.index, self.number + 1, line, names, out)
     }
 
     /// Replies to a line that deletes and a line that adds, as one: both are done, or neither. At a refusal, and at an
@@ -232,27 +235,8 @@ impl<E: Engine> Session<E> {
         }
     }
 
-    /// Replies to a search as `find` does, with the documents of its hits cut to the fields that another line lists. An
-    /// unknown name is refused as `UnknownField`.
-    pub fn find_fields<R: AllocGlobal + Sync>(
-        &mut self,
-        rt: &R,
-        line: &[u8],
-        names: &[u8],
-        out: &mut String,
-    ) -> Result<(), AllocError>
-    where
-        E: EngineOver<R>,
-        requires { IsAnswerable self.old.script line.now }
-        ensures same { self.new.script ≡ self.old.script }
-        ensures reply { Appends result (string_bytes out.old) (string_bytes out.new)
-            (reply_to_cut_search self.old.script line.now names.now) }
-    {
-        answer_find_cut(rt, &mut self.index, self.number + 1, line, names, out)
-    }
-
-    /// Replies to a search as `find` does, with the most frequent groups alone, at most so many: those of the greatest
-    /// counts first, those of equal counts by their values.
+    /// Replies to a search as `search` does, with the most frequent groups alone, at most so many: those of the
+    /// greatest counts first, those of equal counts by their values.
     pub fn find_frequent<R: AllocGlobal + Sync>(
         &mut self,
         rt: &R,

@@ -6,7 +6,7 @@ use Rattle.fts_model.specs.QueryValues.{query_value}
 use Rattle.fts_query.specs.Outcomes.{Reads, refusal_without_byte}
 use Rattle.fts_query.specs.Answers.{answer}
 use Rattle.fts_query.proofs.AnswersLemmas.{reads_answer}
-use Rattle.fts_script.proofs.session.commands.query_of.Goals as goal
+use Rattle.fts_script.proofs.session.search.query_of.Goals as goal
 
 pub returns-in-Ok-clause-query : goal.returns-in-Ok-clause-query
 returns-in-Ok-clause-query c = sym (reads_answer c.args.schema.now c.args.text.now (Ok (query_value c.in-Ok.query)) c.in-Ok.ensures.reads)
