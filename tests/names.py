@@ -22,7 +22,7 @@ CRATES = pathlib.Path(__file__).resolve().parents[1] / "crates"
 # on can't have the name of a module, so that a file of such a function has another word in its name.
 OF_A_SUBJECT = {
     "fts_base": {"buffers", "ghosts", "pieces"},
-    "fts_c": {"codes", "maintenance"},
+    "fts_c": {"codes", "maintenance", "searchers"},
     "fts_cli": {"parser"},
     "fts_collect": {"collector", "searches", "walk"},
     "fts_cursor": {

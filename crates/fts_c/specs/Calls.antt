@@ -31,9 +31,9 @@ unless_blank line reply = if is_blank line then [] else reply
 
 -- A search was answered with this reply, and at another code with none. The session is as it was. A blank line has an
 -- empty reply, whatever else was asked for, and needs no memory.
-pub record Finds (old : State) (line reply : List ℕ) (new : State) (code : ℤ) : Type 0 where
+pub record Finds (old : State) (line wanted : List ℕ) (new : State) (code : ℤ) : Type 0 where
   pub code_is : IsCodeOf old.session.script line code
-  pub reply : code ≡ OK → string_bytes new.reply ≡ unless_blank line reply
+  pub reply : code ≡ OK → string_bytes new.reply ≡ unless_blank line wanted
   pub same : new.session.script ≡ old.session.script
   pub none : code ≢ OK → string_bytes new.reply ≡ []
   pub not_blank : code ≡ MEMORY → is_blank line ≡ false
