@@ -1,5 +1,5 @@
 -- Words of bits, and the documents that they tell.
-use Rattle.std.proofs.Common.{◌≡◌, ◌||◌, ◌&&◌, ℕ, zero, suc, ◌+◌, ◌-◌, ◌^◌, ◌<◌, ◌≤◌, Bool, true, false, ◌==◌, List, [], ◌++◌, length, get_or, take, drop, min}
+use Rattle.std.proofs.Common.{◌≡◌, ◌||◌, ◌&&◌, ℕ, suc, ◌+◌, ◌-◌, ◌^◌, ◌<◌, ◌≤◌, Bool, true, false, ◌==◌, List, [], ◌++◌, length, get_or, take, min}
 use Rattle.std.proofs.Common.{refl, sym, ap, ap₂, subst, ◌∙◌, inl, inr, arith}
 use Rattle.std.specs.Borrow.{Bor}
 use Rattle.std.specs.Prelude.{not}
@@ -12,7 +12,7 @@ use Rattle.std.proofs.lemmas.Nat.Bits.{bit_at_above}
 use Rattle.fts_cursor.specs.Hits.{is_live}
 use Rattle.std.specs.Prelude.{All}
 use Rattle.fts_cursor.specs.declared.dense.Dense.{Dense}
-use Rattle.fts_cursor.specs.Dense.{AreWithin, Tells, in_each, in_one, is_dense}
+use Rattle.fts_cursor.specs.Dense.{AreTold, AreWithin, Tells, in_each, in_one, is_dense}
 use Rattle.fts_postings.specs.Windows.{is_marked, marked, passing}
 use Rattle.fts_postings.proofs.PassingLemmas.{passing-append}
 use Rattle.fts_postings.proofs.WindowLemmas.{passing-same, nothing}
@@ -38,12 +38,6 @@ module _ (list : List (Bor (List Bool))) (i : ℕ) (bits : Bor (List Bool)) (ins
   pub and_not_more : ((told && not (in_one (take i list) d)) && not (is_live bits.now d)) ≡ (told && not (in_one (take (i + 1) list) d))
   and_not_more = and_assoc told (not (in_one (take i list) d)) (not (is_live bits.now d))
       ∙ ap (λ b. told && b) (not_or (in_one (take i list) d) (is_live bits.now d) ∙ ap not one_more)
-
--- what a word tells of documents that pass; none behind the last does
-pub record AreTold (test : ℕ → Bool) (docs from word : ℕ) : Type 0 where
-  pub tells : Tells test from word
-  pub fits : word < 2 ^ 64
-  pub past : (d : ℕ) → docs ≤ d → test d ≡ false
 
 module _ (test : ℕ → Bool) (docs : ℕ) where
   at : (from word : ℕ) → Tells test from word → (k : ℕ) → k < 64 → test (from + k) ≡ is_marked from word (from + k)

@@ -2,7 +2,6 @@ pub mod TermsLemmas
 pub mod TermLemmas
 pub mod AloneLemmas
 pub mod ScanLemmas
-pub mod WithinLemmas
 pub mod CountLemmas
 pub mod PartsLemmas
 pub mod TreeLemmas

@@ -1,6 +1,6 @@
 -- Documents by bits of several kinds.
-use Rattle.std.specs.Prelude.{◌≡◌, ℕ, ◌+◌, ◌*◌, ◌<◌, ◌≤◌, ◌==◌, ◌&&◌, ◌%◌, Bool, true, List, All, length, not}
-use Rattle.std.specs.Prelude.{slice_index_or}
+use Rattle.std.specs.Prelude.{◌≡◌, ℕ, ◌+◌, ◌*◌, ◌<◌, ◌≤◌, ◌==◌, ◌&&◌, ◌%◌, ◌^◌, Bool, true, false, List}
+use Rattle.std.specs.Prelude.{All, length, not, slice_index_or}
 use Rattle.std.specs.Borrow.{Bor}
 use Rattle.std.specs.Int.{bit_at}
 use Rattle.std.specs.List.{list_all, list_any}
@@ -26,6 +26,12 @@ AreWithin dense docs = All (λ b. length b.now ≤ docs) dense.some.items
 -- the bits of a word tell of 64 documents from one on whether they pass
 abbrev pub Tells : (ℕ → Bool) → ℕ → ℕ → Type 0
 Tells test from word = (k : ℕ) → k < 64 → (bit_at word k == 1) ≡ test (from + k)
+
+-- and none of this many documents and more does
+pub record AreTold (test : ℕ → Bool) (docs from word : ℕ) : Type 0 where
+  pub tells : Tells test from word
+  pub fits : word < 2 ^ 64
+  pub past : (d : ℕ) → docs ≤ d → test d ≡ false
 
 -- 16 words tell of 1,024 documents
 abbrev pub IsRow : (ℕ → Bool) → ℕ → List ℕ → Type 0

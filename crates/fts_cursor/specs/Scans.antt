@@ -1,10 +1,11 @@
 -- The documents that are kept by their numbers alone, a stretch at a time.
-use Rattle.std.specs.Prelude.{◌≡◌, ℕ, ◌-◌, ◌%◌, ◌^◌, ◌<◌, ◌≤◌, ◌&&◌, Bool, true, Option, None}
+use Rattle.std.specs.Prelude.{◌≡◌, ℕ, ◌-◌, ◌%◌, ◌^◌, ◌<◌, ◌≤◌, ◌&&◌, Bool, true, Option, None, Some}
 use Rattle.std.specs.Prelude.{IfSome, List, drop, length, min, take, slice_index_or}
+use Rattle.std.specs.Borrow.{Bor}
 use Rattle.fts_pack.specs.column.Column.{is_within}
 use Rattle.fts_postings.specs.Windows.{passing}
 use Rattle.fts_cursor.specs.declared.rows.Kept.{Kept}
-use Rattle.fts_cursor.specs.declared.rows.Kept.TheVariants.{Every, Within, WithinLive, Told}
+use Rattle.fts_cursor.specs.declared.rows.Kept.TheVariants.{Every, Within, Told}
 use Rattle.fts_cursor.specs.Dense.{AreWithin, HoldsRow, is_dense}
 use Rattle.fts_cursor.specs.declared.dense.Row.{Row}
 use Rattle.fts_cursor.specs.Hits.{is_live}
@@ -13,22 +14,21 @@ use Rattle.fts_cursor.specs.Hits.{is_live}
 abbrev pub has_within : ℕ → ℕ → List (Option ℕ) → ℕ → Bool
 has_within low high column doc = is_within low high (slice_index_or column doc None)
 
--- and whether its bit is set
-abbrev pub has_within_live : ℕ → ℕ → List (Option ℕ) → List Bool → ℕ → Bool
-has_within_live low high column live doc = has_within low high column doc && is_live live doc
+-- whether its bit is set, if there are bits
+abbrev pub is_live_in : Option (Bor (List Bool)) → ℕ → Bool
+is_live_in None doc = true
+is_live_in (Some live) doc = is_live live.now doc
 
 -- whether a document is kept
 abbrev pub keeps : Kept → ℕ → Bool
 keeps Every doc = true
-keeps (Within column low high) doc = has_within low high column.now doc
-keeps (WithinLive column low high live) doc = has_within_live low high column.now live.now doc
+keeps (Within column low high live) doc = is_live_in live doc && has_within low high column.now doc
 keeps (Told dense) doc = is_dense dense doc
 
 -- there is a number, or a document, for each of this many
 abbrev pub AreFor : Kept → ℕ → Type 0
 AreFor Every docs = Unit {0}
-AreFor (Within column low high) docs = length column.now ≡ docs
-AreFor (WithinLive column low high live) docs = length column.now ≡ docs
+AreFor (Within column low high live) docs = length column.now ≡ docs
 AreFor (Told dense) docs = AreWithin dense docs
 
 -- those kept of this many documents, from one on

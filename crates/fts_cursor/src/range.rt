@@ -154,7 +154,12 @@ fn between<'a>(
         // No document is in two lists, so the blocks are no more than the documents.
         return Tree::listed(alloc, listed, opened.min(documents as u64));
     }
-    let kept = Kept::Within { column, low, high };
+    let kept = Kept::Within {
+        column,
+        low,
+        high,
+        live: None,
+    };
     Tree::scan(alloc, ScanCursor::new(kept, docs, Some(documents)))
 }
 

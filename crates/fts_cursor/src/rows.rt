@@ -1,10 +1,9 @@
-// Which documents pass a test of their number alone. They are tested in stretches of 128.
-ghost use Rattle.std.specs.Prelude.{◌≡◌, ℕ, ◌+◌, ◌%◌, ◌-◌, ◌^◌, ◌<◌, ◌≤◌, ◌&&◌, IfErr, IfOk, true, false, length, min};
-ghost use Rattle.std.specs.Prelude.{take};
-ghost use Rattle.fts_cursor.specs.Dense.{AreWithin, HoldsRow, Tells, is_dense};
+// Which documents pass a test of their number alone. They are tested in stretches of 128, which are two words.
+ghost use Rattle.std.specs.Prelude.{◌≡◌, ℕ, ◌+◌, ◌%◌, ◌^◌, ◌<◌, ◌≤◌, ◌&&◌, IfErr, IfOk, IfSome, None, true, false};
+ghost use Rattle.std.specs.Prelude.{length, take};
+ghost use Rattle.fts_cursor.specs.Dense.{AreTold, HoldsRow, Tells};
 ghost use Rattle.fts_cursor.specs.Hits.{is_live};
-ghost use Rattle.fts_cursor.specs.Scans.{AreFor, has_within, has_within_live, keeps, kept_in};
-ghost use Rattle.fts_postings.specs.Windows.{passing};
+ghost use Rattle.fts_cursor.specs.Scans.{AreFor, has_within, is_live_in, keeps, kept_in};
 
 use crate::dense::{Dense, Row};
 use fts_pack::bits::Bits;
@@ -17,18 +16,12 @@ use std::alloc::{AllocError, Global};
 pub(crate) enum Kept<'a> {
     /// Every document passes.
     Every,
-    /// Those whose number in the column is in `low..=high`.
+    /// Those whose number in the column is in `low..=high`, and whose bit is set, if there are bits.
     Within {
         column: &'a Column,
         low: u64,
         high: u64,
-    },
-    /// Those of them whose bit is set.
-    WithinLive {
-        column: &'a Column,
-        low: u64,
-        high: u64,
-        live: &'a Bits,
+        live: Option<&'a Bits>,
     },
     /// Those whose bits are set.
     Told(Dense<'a>),
@@ -59,16 +52,13 @@ pub(crate) fn cut<'a>(
             *kept = Kept::Told(Dense { some, all, none });
             Ok(true)
         }
-        Kept::Within { column, low, high } => {
-            *kept = Kept::WithinLive {
-                column,
-                low: *low,
-                high: *high,
-                live,
-            };
-            Ok(true)
-        }
-        Kept::WithinLive { .. } => Ok(false),
+        Kept::Within { live: bits, .. } => match bits {
+            Some(_) => Ok(false),
+            None => {
+                *bits = Some(live);
+                Ok(true)
+            }
+        },
         Kept::Told(dense) => {
             dense.all.push(live)?;
             Ok(true)
@@ -93,40 +83,71 @@ pub(crate) fn write(
     ensures count { result ≡ length (kept_in kept.now from docs) }
     ensures written { take result out.new ≡ kept_in kept.now from docs }
 {
-    match kept {
-        Kept::Every => write_every(docs, from, out),
-        Kept::Within { column, low, high } => write_within(column, *low, *high, from, out),
-        Kept::WithinLive {
-            column,
-            low,
-            high,
-            live,
-        } => write_within_live(column, *low, *high, live, from, out),
-        Kept::Told(dense) => write_told(dense, docs, from, out, row),
-    }
+    let Some((first, second)) = words(kept, docs, from, row) else {
+        return write_every(docs, from, out);
+    };
+    let count = marks::write(first, from, out, 0);
+    marks::write(second, from + 64, out, count)
 }
 
 /// How many of the 128 documents from `from` on pass.
-pub(crate) fn count(kept: &Kept, docs: usize, from: usize) -> usize
+pub(crate) fn count(kept: &Kept, docs: usize, from: usize, row: &mut Row) -> usize
     requires few { docs ≤ 2 ^ 32 }
     requires are_for { AreFor kept.now docs }
     requires inside { from < docs }
     requires aligned { from % 64 ≡ 0 }
-    ensures { result ≡ length (kept_in kept.now from docs) }
+    requires held { HoldsRow (keeps kept.now) row.old }
+    ensures held { HoldsRow (keeps kept.now) row.new }
+    ensures count { result ≡ length (kept_in kept.now from docs) }
+{
+    match words(kept, docs, from, row) {
+        None => (docs - from).min(128),
+        Some((first, second)) => (first.count_ones() + second.count_ones()) as usize,
+    }
+}
+
+/// Which of the 64 documents from `from` on pass, and which of the next 64. `None` if every document passes.
+#[inline]
+fn words(kept: &Kept, docs: usize, from: usize, row: &mut Row) -> Option<(u64, u64)>
+    requires are_for { AreFor kept.now docs }
+    requires aligned { from % 64 ≡ 0 }
+    requires near { from < 2 ^ 63 }
+    requires held { HoldsRow (keeps kept.now) row.old }
+    ensures held { HoldsRow (keeps kept.now) row.new }
+    ensures every { result ≡ None → kept.now ≡ Kept.Every }
+    ensures told { IfSome result (λ words. AreTold (keeps kept.now) docs from words.0
+        × AreTold (keeps kept.now) docs (from + 64) words.1) }
 {
     match kept {
-        Kept::Every => (docs - from).min(128),
-        Kept::Within { column, low, high } => count_within(column, *low, *high, from),
-        Kept::WithinLive {
+        Kept::Every => None,
+        Kept::Within {
             column,
             low,
             high,
             live,
-        } => count_within_live(column, *low, *high, live, from),
-        Kept::Told(dense) => write_told(dense, docs, from, &mut [0; 128], &mut Row::new()),
+        } => {
+            let first = word_within(column, *low, *high, *live, from);
+            let second = word_within(column, *low, *high, *live, from + 64);
+            Some((first, second))
+        }
+        Kept::Told(dense) => Some(row.words(dense, from)),
     }
 }
 
+/// Which of the 64 documents from one on have such a number, and a bit that is set, if there are bits.
+#[inline]
+fn word_within(column: &Column, low: u64, high: u64, live: Option<&Bits>, from: usize) -> u64
+    requires { from % 64 ≡ 0 }
+    ensures { Tells (λ doc. is_live_in live.entry doc && has_within low high column.now doc) from result }
+{
+    let marks = column.marks_within(from, low, high);
+    match live {
+        None => marks,
+        Some(live) => live.word(from / 64) & marks,
+    }
+}
+
+/// Writes each of the 128 documents from `from` on.
 fn write_every(docs: usize, from: usize, out: &mut [u32; 128]) -> usize
     requires few { docs ≤ 2 ^ 32 }
     requires inside { from < docs }
@@ -138,94 +159,4 @@ fn write_every(docs: usize, from: usize, out: &mut [u32; 128]) -> usize
         out[place] = (from + place) as u32;
     }
     count
-}
-
-fn write_within(column: &Column, low: u64, high: u64, from: usize, out: &mut [u32; 128]) -> usize
-    requires few { length column.now ≤ 2 ^ 32 }
-    requires inside { from < length column.now }
-    requires aligned { from % 64 ≡ 0 }
-    ensures count { result ≡ length (passing (has_within low high column.now) from
-        (min 128 (length column.now - from))) }
-    ensures written { take result out.new
-        ≡ passing (has_within low high column.now) from (min 128 (length column.now - from)) }
-{
-    let first = column.marks_within(from, low, high);
-    let second = column.marks_within(from + 64, low, high);
-    let count = marks::write(first, from, out, 0);
-    marks::write(second, from + 64, out, count)
-}
-
-fn count_within(column: &Column, low: u64, high: u64, from: usize) -> usize
-    requires few { length column.now ≤ 2 ^ 32 }
-    requires inside { from < length column.now }
-    requires aligned { from % 64 ≡ 0 }
-    ensures { result ≡ length (passing (has_within low high column.now) from
-        (min 128 (length column.now - from))) }
-{
-    let first = column.marks_within(from, low, high);
-    let second = column.marks_within(from + 64, low, high);
-    (first.count_ones() + second.count_ones()) as usize
-}
-
-/// Which of the 64 documents from one on have such a number and a bit that is set, and which of the next 64.
-#[inline]
-fn words_within_live(column: &Column, low: u64, high: u64, live: &Bits, from: usize) -> (u64, u64)
-    requires aligned { from % 64 ≡ 0 }
-    requires near { from < 2 ^ 63 }
-    ensures first { Tells (has_within_live low high column.now live.now) from result.0 }
-    ensures second { Tells (has_within_live low high column.now live.now) (from + 64) result.1 }
-    ensures fits { (result.0 < 2 ^ 64) × (result.1 < 2 ^ 64) }
-{
-    let first = column.marks_within(from, low, high);
-    let second = column.marks_within(from + 64, low, high);
-    let index = from / 64;
-    (first & live.word(index), second & live.word(index + 1))
-}
-
-fn write_within_live(
-    column: &Column,
-    low: u64,
-    high: u64,
-    live: &Bits,
-    from: usize,
-    out: &mut [u32; 128],
-) -> usize
-    requires few { length column.now ≤ 2 ^ 32 }
-    requires inside { from < length column.now }
-    requires aligned { from % 64 ≡ 0 }
-    ensures count { result ≡ length (passing (has_within_live low high column.now live.now) from
-        (min 128 (length column.now - from))) }
-    ensures written { take result out.new
-        ≡ passing (has_within_live low high column.now live.now) from (min 128 (length column.now - from)) }
-{
-    let (first, second) = words_within_live(column, low, high, live, from);
-    let count = marks::write(first, from, out, 0);
-    marks::write(second, from + 64, out, count)
-}
-
-fn count_within_live(column: &Column, low: u64, high: u64, live: &Bits, from: usize) -> usize
-    requires few { length column.now ≤ 2 ^ 32 }
-    requires inside { from < length column.now }
-    requires aligned { from % 64 ≡ 0 }
-    ensures { result ≡ length (passing (has_within_live low high column.now live.now) from
-        (min 128 (length column.now - from))) }
-{
-    let (first, second) = words_within_live(column, low, high, live, from);
-    (first.count_ones() + second.count_ones()) as usize
-}
-
-fn write_told(dense: &Dense, docs: usize, from: usize, out: &mut [u32; 128], row: &mut Row) -> usize
-    requires few { docs ≤ 2 ^ 32 }
-    requires within { AreWithin dense.now docs }
-    requires inside { from < docs }
-    requires aligned { from % 64 ≡ 0 }
-    requires held { HoldsRow (is_dense dense.now) row.old }
-    ensures held { HoldsRow (is_dense dense.now) row.new }
-    ensures count { result ≡ length (passing (is_dense dense.now) from (min 128 (docs - from))) }
-    ensures written { take result out.new
-        ≡ passing (is_dense dense.now) from (min 128 (docs - from)) }
-{
-    let (first, second) = row.words(dense, from);
-    let count = marks::write(first, from, out, 0);
-    marks::write(second, from + 64, out, count)
 }

@@ -335,10 +335,11 @@ fn count_from(kept: &Kept, docs: usize, from: usize) -> usize
     if let Kept::Told(dense) = kept {
         return dense.count_from(docs, from);
     }
+    let mut row = Row::new();
     let mut count = 0;
     let mut from = from;
     while from < docs {
-        count += rows::count(kept, docs, from);
+        count += rows::count(kept, docs, from, &mut row);
         from += 128;
     }
     count

@@ -13,7 +13,7 @@ overflow_add-count c =
       c.requires.few,
       c.loop-from.invariant.sum,
       length-stretch p c.loop-from.from c.args.docs,
-      c.count-count.ensures,
+      c.count-count.ensures.count,
       scan_cost p c.args.from
           (c.args.docs - c.args.from) 0,
     )
@@ -21,7 +21,8 @@ overflow_add-count c =
 pub loop-from-preserved : goal.loop-from-preserved
 loop-from-preserved c = record {
   aligned = omega (arith, c.loop-from.invariant.aligned);
-  sum = omega (arith, c.loop-from.invariant.sum, length-stretch (keeps c.args.kept.now) c.loop-from.from c.args.docs, c.count-count.ensures);
+  held = c.count-count.ensures.held;
+  sum = omega (arith, c.loop-from.invariant.sum, length-stretch (keeps c.args.kept.now) c.loop-from.from c.args.docs, c.count-count.ensures.count);
 }
 
 pub returns : goal.returns

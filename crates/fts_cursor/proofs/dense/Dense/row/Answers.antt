@@ -1,5 +1,5 @@
 -- Each word is that of documents that some have, and all, and none.
-use Rattle.std.proofs.Common.{◌≡◌, ◌<◌, ◌&&◌, ◌||◌, ◌==◌, ◌∙◌, ℕ, ◌+◌, ◌*◌, ◌/◌, Bool, ap, get_or, length, not, refl, replicate, subst, arith}
+use Rattle.std.proofs.Common.{◌≡◌, ◌<◌, ◌&&◌, ◌||◌, ◌==◌, ◌∙◌, ℕ, ◌+◌, ◌*◌, ◌/◌, Bool, ap, length, not, refl, replicate, subst, arith}
 use Rattle.std.specs.Int.{bit_at}
 use Rattle.std.proofs.lemmas.List.{get_or-replicate, length-replicate}
 use Rattle.std.proofs.lemmas.Nat.Bits.{bit_at-zero}
