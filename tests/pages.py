@@ -31,6 +31,7 @@ import json
 import os
 import pathlib
 import re
+import shlex
 import shutil
 import stat
 import subprocess
@@ -92,8 +93,9 @@ ELSEWHERE = {
     r"^apt-cache\b": "its list is another one on each machine",
 }
 
-# Programs in front of the PATH, in place of another machine or a build.
+# Programs in front of the PATH, in place of another machine, a build or another Python.
 STAND_INS = {
+    "python3": f'exec {shlex.quote(sys.executable)} "$@"',
     "rt": '[ "$1" = try ] && [ "$2" = -- ] && shift 2 && exec fts "$@"',
     "pv": 'exec cat "$@"',
     "ssh": 'shift; exec "$@"',
@@ -406,17 +408,17 @@ def prints(block: Block) -> str | None:
     return told(block) if between.startswith("prints") else None
 
 
-def served(place: Place, script: str) -> subprocess.Popen[str] | None:
-    """A service that a block starts, once it answers; nothing if it ends."""
+def served(place: Place, script: str) -> subprocess.Popen[str]:
+    """A service that a block starts, once it answers or has ended."""
     words = ["bash", "-c", f"exec {script}"]
     started = subprocess.Popen(words, cwd=place.folder, env=place.environment, stdout=subprocess.DEVNULL, stderr=subprocess.PIPE, text=True)
     while started.poll() is None:
         try:
             urllib.request.urlopen("http://127.0.0.1:8090/readyz", timeout=10)
-            return started
+            break
         except (urllib.error.URLError, ConnectionError):
             time.sleep(0.1)
-    return None
+    return started
 
 
 # What the tutorial's lines need, by a word in them.
@@ -451,7 +453,8 @@ def tutorial(place: Place) -> None:
             skip(block.name, f"there is no {lacking}")
         elif "-m dilforec serve" in script:
             running = served(place, script)
-            check(block.name, running, "it ended")
+            ended = running.poll() is not None
+            check(block.name, not ended, running.communicate()[1] if ended else "")
         else:
             words = [sys.executable, "-c", script] if is_python(block) else ["bash", "-e", "-o", "pipefail", "-c", script]
             done = place.completed(*words)
