@@ -3,8 +3,8 @@
 
     python3 fields.py yours.jsonl schema.json [KEYWORD ..] > fitting.jsonl
 
-Whole numbers are a u64, or an i64 if one is below 0. Texts, and lists of texts, are a default text, or a keyword, if the
-field is named. All else is left out, and the first of each field that is at fault is printed on standard error.
+Whole numbers are a u64, or an i64 if one is below 0. Texts, and lists of texts, are a default text. If the field is
+named, it is a keyword, which takes no lists. All else is left out, and standard error says why, once for each field.
 """
 from __future__ import annotations
 
@@ -23,7 +23,10 @@ def documents(path: str) -> Iterator[tuple[int, dict[str, Any]]]:
     with open(path, encoding="utf-8") as lines:
         for number, line in enumerate(lines, 1):
             if line.strip():
-                found = json.loads(line)
+                try:
+                    found = json.loads(line)
+                except ValueError as error:
+                    sys.exit(f"{path}, line {number}: this isn't JSON: {error}")
                 if not isinstance(found, dict):
                     sys.exit(f"{path}, line {number}: this isn't an object")
                 yield number, found
@@ -39,6 +42,15 @@ def kind_of(value: Any, is_keyword: bool) -> Optional[str]:
     return "text" if is_texts and not is_keyword else None
 
 
+def fault(name: str, kind: Optional[str], before: str, is_keyword: bool) -> str:
+    """Why a field can't be of the kind that takes its value, after another kind or none before; empty if it can."""
+    if not NAME.fullmatch(name) or name in TAKEN:
+        return "no field can have this name"
+    if kind is None:
+        return "a keyword takes one text, of 256 bytes at most" if is_keyword else "no kind of field takes this"
+    return f"this is no {before}, which it was before" if before not in ("", kind) else ""
+
+
 def kinds_of(path: str, keywords: list[str]) -> dict[str, Optional[str]]:
     """The kind of each field of a file; None for one that is left out."""
     kinds: dict[str, Optional[str]] = {}
@@ -49,12 +61,14 @@ def kinds_of(path: str, keywords: list[str]) -> dict[str, Optional[str]]:
                 continue
             kind = kind_of(value, name in keywords)
             if {before, kind} == {"u64", "i64"}:
-                kind = "i64"
-            elif before and before != kind or not NAME.fullmatch(name) or name in TAKEN:
-                kind = None
-            kinds[name] = kind
-            if kind is None:
-                print(f"line {number}: {json.dumps(name)} is left out: {json.dumps(value)[:60]}", file=sys.stderr)
+                before = kind = "i64"
+            why = fault(name, kind, before, name in keywords)
+            kinds[name] = None if why else kind
+            if why:
+                shown = json.dumps(value, ensure_ascii=False)[:60]
+                print(f"line {number}: {name} is left out, since {why}: {shown}", file=sys.stderr)
+    for name in set(keywords) - set(kinds):
+        print(f"{name}: no document has it", file=sys.stderr)
     return kinds
 
 
