@@ -120,7 +120,8 @@ def _server(given: argparse.Namespace, application: Application, bound: socket.s
     except ImportError as error:
         raise Refusal(
             f"{error.name or 'uvicorn'} isn't there, which it needs to serve: install Debian's packages "
-            "python3-uvicorn, python3-httptools and python3-uvloop, or pip install 'dilforec[service]'"
+            "python3-uvicorn, python3-httptools and python3-uvloop, which a virtual environment has if it was made with "
+            "--system-site-packages, or pip install 'dilforec[service]'"
         ) from None
     patience = Patience(given.connections, given.idle, given.head_seconds, given.body_seconds, given.grace)
     return Served(application, bound, given.threads, patience)
