@@ -143,8 +143,10 @@ class CtrlC(Stored):
     def test_programs(self):
         """A program that adds in a loop ends soon after Ctrl-C."""
         code = """if True:
-            import sys, service_tools
+            import signal, sys, service_tools
             from dilforec.service import Store
+            # A shell has what it starts in the background ignore it.
+            signal.signal(signal.SIGINT, signal.default_int_handler)
             try:
                 with Store(service_tools.FIELDS, sys.argv[1]) as store:
                     print("begun", flush=True)
