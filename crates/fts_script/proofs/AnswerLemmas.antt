@@ -1,22 +1,25 @@
 -- Answers as JSON.
-use Rattle.std.proofs.Common.{◌≡◌, Bool, false, ◌||◌, List, [], ◌∷◌, map, ℕ, pos, negsuc, Option, Some, None, Ordering, Less, Equal, Greater, refl, option_map}
-use Rattle.std.proofs.Common.{nat_cmp}
+use Rattle.std.proofs.Common.{◌≡◌, Bool, true, false, ◌||◌, List, [], ◌∷◌, ◌++◌, map, ℕ, pos, negsuc, Option, Some, None, Ordering, Less, Equal, Greater}
+use Rattle.std.proofs.Common.{refl, ap, ◌∙◌, option_map, nat_cmp, codes, decimal}
+use Rattle.std.proofs.lemmas.List.{append_assoc}
 use Rattle.std.specs.Cmp.Lexicographic.{slice_cmp}
 use Rattle.std.specs.Ordering.{match_ordering}
 use Rattle.std.proofs.lemmas.Bool.{or_parts}
-use Rattle.serde_json.specs.Data.{Data, string, Items, Members, no_members, member, put}
+use Rattle.json.specs.Print.{escape_byte}
+use Rattle.serde_json.specs.Data.{Data, string, number, unsigned, object, Items, Members, no_members, member, put}
 use Rattle.serde_json.specs.View.{items_of}
-use Rattle.serde_json.specs.Written.{has_float, items_have_float, members_have_float}
+use Rattle.serde_json.specs.Written.{compact_text, members_text, has_float, items_have_float, members_have_float}
 use Rattle.fts_model.specs.declared.schema.Field.{Field}
 use Rattle.fts_model.specs.declared.value.GroupValue.{GroupValue}
-use Rattle.fts_model.specs.declared.value.GroupValue.TheVariants as group_values
 use Rattle.fts_model.specs.declared.value.Number.TheVariants as numbers
 use Rattle.fts_model.specs.declared.value.FieldValue.{FieldValue}
 use Rattle.fts_model.specs.declared.value.FieldValue.TheVariants as values
 use Rattle.fts_model.specs.declared.answer.Hit.{Hit}
 use Rattle.fts_model.specs.Documents.{data_of, with_value, with_values}
 use Rattle.fts_model.specs.Answers.{AnswerValue}
-use Rattle.fts_script.specs.command.AnswerData.{value_data, groups_data, hits_data, list_member, answer_data}
+use Rattle.fts_script.specs.command.AnswerData.{groups_data, hits_data, list_member, answer_data}
+use Rattle.fts_script.specs.command.AnswerTexts.{groups_label, list_text, top_label}
+use Rattle.fts_script.specs.command.Cuts.{cut_answer, cut_hits}
 
 neither : {a b : Bool} → a ≡ false → b ≡ false → (a || b) ≡ false
 neither p q = cc
@@ -56,34 +59,62 @@ all_plain ms [] vs h = h
 all_plain ms (field ∷ fields) [] h = h
 all_plain ms (field ∷ fields) (v ∷ vs) h = all_plain (with_value ms field v) fields vs (one_plain ms field v h)
 
-group_plain : (v : GroupValue) → has_float (value_data v) ≡ false
-group_plain (group_values.U64 n) = value_plain (values.Number (numbers.U64 n))
-group_plain (group_values.I64 n) = value_plain (values.Number (numbers.I64 n))
-group_plain (group_values.Keyword text) = refl
-
-groups_plain : (groups : List (GroupValue × ℕ)) → items_have_float (groups_data groups) ≡ false
-groups_plain [] = refl
-groups_plain (group ∷ groups) = neither (neither (group_plain group.0) refl) (groups_plain groups)
-
-hits_plain : (hits : List Hit) → items_have_float (hits_data hits) ≡ false
+pub hits_plain : (hits : List Hit) → items_have_float (hits_data hits) ≡ false
 hits_plain [] = refl
 hits_plain (hit ∷ hits) =
     neither (neither (all_plain no_members hit.document.schema hit.document.values refl) (neither (value_plain (values.Number hit.value)) refl))
     (hits_plain hits)
 
-list_plain : (name : List ℕ) (items : Option Items) (ms : Members) → ((is : Items) → items ≡ Some is → items_have_float is ≡ false) →
-    members_have_float ms ≡ false →
-    members_have_float (list_member name items ms) ≡ false
-list_plain name None ms h p = p
-list_plain name (Some is) ms h p = neither (h is refl) p
+-- the members of an answer, each list by itself
+groups_texts : (items : Option Items) (ms : Members) → members_text true (list_member (codes "groups") items ms) ≡ list_text groups_label items ++ members_text true ms
+unfolding escape_byte
+groups_texts None ms = refl
+groups_texts (Some is) ms = refl
 
-some_groups : (groups : Option (List (GroupValue × ℕ))) (is : Items) → option_map groups_data groups ≡ Some is → items_have_float is ≡ false
-some_groups None is e = cc
-some_groups (Some groups) is e = let p = groups_plain groups in cc
+top_texts : (items : Option Items) (ms : Members) → members_text true (list_member (codes "top") items ms) ≡ list_text top_label items ++ members_text true ms
+unfolding escape_byte
+top_texts None ms = refl
+top_texts (Some is) ms = refl
 
-some_hits : (hits : Option (List Hit)) (is : Items) → option_map hits_data hits ≡ Some is → items_have_float is ≡ false
-some_hits None is e = cc
-some_hits (Some hits) is e = let p = hits_plain hits in cc
+count_text : (n : ℕ) (ms : Members) → compact_text (object (member (codes "count") (number (unsigned n)) ms)) ≡ codes "{\"count\":" ++ (decimal n ++ members_text true ms)
+unfolding escape_byte
+count_text n ms = refl
 
-pub answer_plain : (a : AnswerValue) → has_float (answer_data a) ≡ false
-answer_plain a = list_plain _ (option_map groups_data a.groups) _ (some_groups a.groups) (list_plain _ (option_map hits_data a.top) _ (some_hits a.top) refl)
+-- the text of an object of a count and two lists, part by part
+parts_text : (n : ℕ) (groups hits : Option Items) →
+    compact_text (object (member (codes "count") (number (unsigned n)) (list_member (codes "groups") groups (list_member (codes "top") hits no_members))))
+    ≡ codes "{\"count\":" ++ (decimal n ++ (list_text groups_label groups ++ (list_text top_label hits ++ 125 ∷ [])))
+parts_text n groups hits =
+    count_text n (list_member (codes "groups") groups (list_member (codes "top") hits no_members))
+    ∙ ap (λ (xs : List ℕ). codes "{\"count\":" ++ (decimal n ++ xs))
+    (groups_texts groups (list_member (codes "top") hits no_members) ∙ ap (λ (xs : List ℕ). list_text groups_label groups ++ xs) (top_texts hits no_members))
+
+uncut : (hits : Option (List Hit)) → option_map hits_data hits ≡ option_map hits_data (option_map (cut_hits None) hits)
+uncut None = refl
+uncut (Some hits) = refl
+
+-- an answer's text, part by part
+pub answer_texts : (names : Option (List (List ℕ))) (a : AnswerValue) → compact_text (answer_data (cut_answer names a))
+    ≡ codes "{\"count\":" ++ (decimal a.count ++ (list_text groups_label (option_map groups_data a.groups)
+    ++ (list_text top_label (option_map hits_data (option_map (cut_hits names) a.top)) ++ 125 ∷ [])))
+answer_texts None a =
+    parts_text a.count (option_map groups_data a.groups) (option_map hits_data a.top)
+    ∙ ap (λ (hits : Option Items). codes "{\"count\":" ++ (decimal a.count ++ (list_text groups_label (option_map groups_data a.groups) ++ (list_text top_label hits ++ 125 ∷ []))))
+    (uncut a.top)
+answer_texts (Some names) a = parts_text a.count (option_map groups_data a.groups) (option_map hits_data (option_map (cut_hits (Some names)) a.top))
+
+regrouped : (a b c d e : List ℕ) → a ++ b ++ c ++ d ++ e ≡ a ++ (b ++ (c ++ (d ++ e)))
+regrouped a b c d e = append_assoc (a ++ b ++ c) d e ∙ append_assoc (a ++ b) c (d ++ e) ∙ append_assoc a b (c ++ (d ++ e))
+
+-- an answer's text is made part by part
+pub text_made : (names : Option (List (List ℕ))) (a : AnswerValue) (groups : Option (List (GroupValue × ℕ))) (hits : Option (List Hit))
+    (start digits counted grouped listed text : List ℕ) → groups ≡ a.groups → hits ≡ a.top →
+    start ≡ codes "{\"count\":" → digits ≡ decimal a.count → counted ≡ start ++ digits →
+    grouped ≡ counted ++ list_text groups_label (option_map groups_data groups) →
+    listed ≡ grouped ++ list_text top_label (option_map hits_data (option_map (cut_hits names) hits)) →
+    text ≡ listed ++ 125 ∷ [] → text ≡ compact_text (answer_data (cut_answer names a))
+text_made names a groups hits start digits counted grouped listed text p q r s t u v w =
+    let lists = regrouped (codes "{\"count\":") (decimal a.count) (list_text groups_label (option_map groups_data a.groups))
+    (list_text top_label (option_map hits_data (option_map (cut_hits names) a.top))) (125 ∷ []) in
+    let all = answer_texts names a in
+    cc

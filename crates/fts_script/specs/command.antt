@@ -1,4 +1,5 @@
 pub mod AnswerData
+pub mod AnswerTexts
 pub mod CommandViews
 pub mod Commands
 pub mod Cuts

@@ -1,18 +1,59 @@
-// The answer to a search, as JSON.
-ghost use Rattle.std.specs.Prelude.{◌≡◌, IfOk, OnOk, codes, false};
-ghost use Rattle.serde_json.specs.Data.{array, put};
-ghost use Rattle.serde_json.specs.View.{view, members_view};
-ghost use Rattle.serde_json.specs.Written.{has_float};
+// The answer to a search, as the text of a JSON object.
+ghost use Rattle.std.specs.Prelude.{◌≡◌, ◌++◌, IfOk, OnOk, option_map, string_bytes};
+ghost use Rattle.serde_json.specs.Data.{array};
+ghost use Rattle.serde_json.specs.View.{view};
+ghost use Rattle.serde_json.specs.Written.{compact_text};
 ghost use Rattle.fts_model.specs.Documents.{json_of};
-ghost use Rattle.fts_script.specs.command.AnswerData.{number_data, value_data, group_data, groups_data, hit_data};
-ghost use Rattle.fts_script.specs.command.AnswerData.{hits_data};
-ghost use Rattle.fts_script.specs.command.AnswerData.{answer_data};
+ghost use Rattle.fts_script.specs.command.AnswerData.{answer_data, groups_data, hit_data, hits_data, number_data};
+ghost use Rattle.fts_script.specs.command.AnswerTexts.{IsWritten, groups_label, list_text, top_label};
+ghost use Rattle.fts_script.specs.command.AnswerData.{group_data, value_data};
 ghost use Rattle.fts_script.specs.command.Cuts.{cut_answer, cut_hit, cut_hits};
 ghost use Rattle.std.specs.Option.{option_copied};
 
 use fts_model::{Answer, GroupValue, Hit, Number, Text};
+use itoa::Buffer;
+use json::Writer;
 use serde_json::{Map, Value, put};
 use std::alloc::{AllocError, Global};
+
+// A group of a number takes about as many bytes.
+const GROUP_ROOM: usize = 16;
+
+/// Writes the value of a group.
+fn write_value(value: &GroupValue, out: &mut Writer) -> Result<(), AllocError>
+    ensures ok { OnOk result (IsWritten (value_data value.now) out.old out.new) }
+{
+    match value {
+        GroupValue::U64(n) => out.u64(*n),
+        GroupValue::I64(n) => out.i64(*n),
+        GroupValue::Keyword(text) => out.string(text.as_str()),
+    }
+}
+
+/// Writes a value and how many hits have it.
+fn write_group(group: &(GroupValue, u64), out: &mut Writer) -> Result<(), AllocError>
+    ensures ok { OnOk result (IsWritten (group_data group.now) out.old out.new) }
+{
+    out.begin_array()?;
+    write_value(&group.0, out)?;
+    out.u64(group.1)?;
+    out.end_array()
+}
+
+/// Returns groups as the text of a JSON array, in their order.
+fn groups_text(alloc: Global, groups: &[(GroupValue, u64)]) -> Result<String, AllocError>
+    ensures { IfOk result (λ text. string_bytes text ≡ compact_text (array (groups_data groups.now))) }
+{
+    let room = groups.len().saturating_mul(GROUP_ROOM);
+    let mut out = Writer::new(Vec::with_capacity(alloc, room)?);
+    out.begin_array()?;
+    for group in groups {
+        write_group(group, &mut out)?;
+    }
+    out.end_array()?;
+    // The writer's clause says that its bytes are UTF-8.
+    Ok(unsafe { String::from_utf8_unchecked(out.into_inner()) })
+}
 
 /// Returns a number as JSON.
 fn number_value(number: Number) -> Value
@@ -22,36 +63,6 @@ fn number_value(number: Number) -> Value
         Number::U64(n) => Value::from(n),
         Number::I64(n) => Value::from(n),
     }
-}
-
-/// The value of a group as JSON.
-fn value_of(alloc: Global, value: &GroupValue) -> Result<Value, AllocError>
-    ensures { IfOk result (λ json. view json ≡ value_data value.now) }
-{
-    Ok(match value {
-        GroupValue::U64(n) => number_value(Number::U64(*n)),
-        GroupValue::I64(n) => number_value(Number::I64(*n)),
-        GroupValue::Keyword(text) => Value::String(String::from_str(alloc, text.as_str())?),
-    })
-}
-
-/// A value and how many hits have it, as JSON.
-fn group_value(alloc: Global, group: &(GroupValue, u64)) -> Result<Value, AllocError>
-    ensures { IfOk result (λ value. view value ≡ group_data group.now) }
-{
-    let pair = vec![in alloc; value_of(alloc, &group.0)?, Value::from(group.1)]?;
-    Ok(Value::Array(pair))
-}
-
-/// Returns groups as JSON, in their order.
-fn groups_value(alloc: Global, groups: &[(GroupValue, u64)]) -> Result<Value, AllocError>
-    ensures { IfOk result (λ value. view value ≡ array (groups_data groups.now)) }
-{
-    let mut list = Vec::with_capacity(alloc, groups.len())?;
-    for group in groups {
-        list.push(group_value(alloc, group)?)?;
-    }
-    Ok(Value::Array(list))
 }
 
 /// The document of a hit as JSON, cut to the fields of these names if there are names.
@@ -84,7 +95,7 @@ fn hit_value(alloc: Global, hit: &Hit, names: Option<&[Text]>) -> Result<Value, 
     Ok(Value::Object(members))
 }
 
-/// Returns hits as JSON, in their order.
+/// Returns hits as JSON, in their order. There is no float in them.
 fn hits_value(alloc: Global, hits: &[Hit], names: Option<&[Text]>) -> Result<Value, AllocError>
     ensures { IfOk result (λ value. view value ≡ array (hits_data (cut_hits (option_copied names.entry) hits.now))) }
 {
@@ -95,59 +106,66 @@ fn hits_value(alloc: Global, hits: &[Hit], names: Option<&[Text]>) -> Result<Val
     Ok(Value::Array(list))
 }
 
-/// Puts the groups among the members of an answer.
-fn put_groups(
-    alloc: Global,
-    members: &mut Map<String, Value>,
-    groups: &[(GroupValue, u64)],
-) -> Result<(), AllocError>
-    ensures { OnOk result (members_view members.new.entries
-        ≡ put (codes "groups") (array (groups_data groups.now)) (members_view members.old.entries)) }
+/// Returns hits as the text of a JSON array, in their order.
+fn hits_text(alloc: Global, hits: &[Hit], names: Option<&[Text]>) -> Result<String, AllocError>
+    ensures { IfOk result (λ text. string_bytes text
+        ≡ compact_text (array (hits_data (cut_hits (option_copied names.entry) hits.now)))) }
 {
-    let list = groups_value(alloc, groups)?;
-    put(members, alloc, "groups", list)
+    let value = hits_value(alloc, hits, names)?;
+    value.to_string(alloc)
 }
 
-/// Puts the hits of a top list among the members of an answer.
-fn put_top(
+/// Appends the groups to the members of an answer, if they were asked for.
+fn push_groups(
     alloc: Global,
-    members: &mut Map<String, Value>,
-    hits: &[Hit],
+    groups: Option<&[(GroupValue, u64)]>,
+    text: &mut String,
+) -> Result<(), AllocError>
+    ensures { OnOk result (string_bytes text.new ≡ string_bytes text.old
+        ++ list_text groups_label (option_map groups_data (option_copied groups.entry))) }
+{
+    let Some(groups) = groups else {
+        return Ok(());
+    };
+    text.push_str(",\"groups\":")?;
+    let groups = groups_text(alloc, groups)?;
+    text.push_str(groups.as_str())?;
+    Ok(())
+}
+
+/// Appends the hits of a top list to the members of an answer, if they were asked for.
+fn push_top(
+    alloc: Global,
+    hits: Option<&[Hit]>,
     names: Option<&[Text]>,
+    text: &mut String,
 ) -> Result<(), AllocError>
-    ensures { OnOk result (members_view members.new.entries
-        ≡ put (codes "top") (array (hits_data (cut_hits (option_copied names.entry) hits.now)))
-        (members_view members.old.entries)) }
+    ensures { OnOk result (string_bytes text.new ≡ string_bytes text.old ++ list_text top_label
+        (option_map hits_data (option_map (cut_hits (option_copied names.entry)) (option_copied hits.entry)))) }
 {
-    let list = hits_value(alloc, hits, names)?;
-    put(members, alloc, "top", list)
+    let Some(hits) = hits else {
+        return Ok(());
+    };
+    text.push_str(",\"top\":")?;
+    let hits = hits_text(alloc, hits, names)?;
+    text.push_str(hits.as_str())?;
+    Ok(())
 }
 
-/// Returns the object that an answer is.
-fn object_of(alloc: Global, answer: &Answer, names: Option<&[Text]>) -> Result<Value, AllocError>
-    ensures { IfOk result (λ value. view value ≡ answer_data (cut_answer (option_copied names.entry) answer.now)) }
-{
-    let mut members = Map::new(alloc);
-    put(&mut members, alloc, "count", Value::from(answer.count))?;
-    if let Some(groups) = &answer.groups {
-        put_groups(alloc, &mut members, groups)?;
-    }
-    if let Some(hits) = &answer.top {
-        put_top(alloc, &mut members, hits, names)?;
-    }
-    Ok(Value::Object(members))
-}
-
-/// An answer as JSON: the count, and what else was asked for. There is no float in it. If there are names, the
-/// documents of hits have only their fields.
-pub fn answer_json(
+/// The text of an answer: an object of the count, and of what else was asked for. If there are names, the documents of
+/// hits have only their fields.
+pub fn answer_text(
     alloc: Global,
     answer: &Answer,
     names: Option<&[Text]>,
-) -> Result<Value, AllocError>
-    ensures value { IfOk result (λ value. view value
-        ≡ answer_data (cut_answer (option_copied names.entry) answer.now)) }
-    ensures plain { IfOk result (λ value. has_float (view value) ≡ false) }
+) -> Result<String, AllocError>
+    ensures { IfOk result (λ text. string_bytes text
+        ≡ compact_text (answer_data (cut_answer (option_copied names.entry) answer.now))) }
 {
-    object_of(alloc, answer, names)
+    let mut text = String::from_str(alloc, "{\"count\":")?;
+    text.push_str(Buffer::new().format(answer.count))?;
+    push_groups(alloc, answer.groups.as_deref(), &mut text)?;
+    push_top(alloc, answer.top.as_deref(), names, &mut text)?;
+    text.push_str("}")?;
+    Ok(text)
 }

@@ -12,7 +12,7 @@ ghost use Rattle.fts_script.specs.command.Cuts.{cut_answer};
 ghost use Rattle.fts_script.specs.session.Replies.{Outcome, index_after, line_of, number_reply, refusal_reply, text_of};
 ghost use Rattle.fts_script.specs.session.Sessions.{Does, KeepsAtAnswer, name_text, reply_data};
 
-use crate::command::answer_json;
+use crate::command::answer_text;
 use crate::session::reply::{NumberName, Reply};
 use fts_model::{Answer, Refusal, Text};
 use itoa::Buffer;
@@ -63,8 +63,9 @@ fn answer_line(alloc: Global, answer: &Answer, names: Option<&[Text]>) -> Result
     ensures { IfOk result (λ line. string_bytes line
         ≡ line_of (answer_data (cut_answer (option_copied names.entry) answer.now))) }
 {
-    let value = answer_json(alloc, answer, names)?;
-    line_of(alloc, &value)
+    let mut line = answer_text(alloc, answer, names)?;
+    line.push('\n')?;
+    Ok(line)
 }
 
 /// The JSON value that reports a refusal in the line of this number.
