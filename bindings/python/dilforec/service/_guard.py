@@ -42,8 +42,10 @@ class Guard:
     def host(self, request: Request) -> None:
         """Refuses a Host that isn't one of its own: a page elsewhere whose name was made to lead here has another."""
         host = request.host.lower()
+        if host in self._hosts:
+            return
         name = host if host.endswith("]") else host.rpartition(":")[0] or host
-        if host not in self._hosts and name not in self._hosts:
+        if name not in self._hosts:
             raise HttpError(HTTPStatus.MISDIRECTED_REQUEST, "Misdirected", "this isn't the host that was asked for")
 
     def reads(self, request: Request) -> None:

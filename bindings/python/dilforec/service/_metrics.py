@@ -61,14 +61,14 @@ class Metrics:
         """Counts one of a kind of calls, and its seconds since a time of `perf_counter`."""
         seconds = time.perf_counter() - began
         with self._lock:
-            self._counts[f"{name}_total"] = self._counts.get(f"{name}_total", 0) + 1
-            self._counts[f"{name}_seconds_total"] = self._counts.get(f"{name}_seconds_total", 0) + seconds
             self._histograms[name].add(seconds)
 
     def text(self, gauges: "dict[str, tuple[str, float]]") -> str:
         """Prometheus's text: the counts, and what is measured now, each with a sentence of help."""
         with self._lock:
             counts = {name: self._counts.get(name, 0) for name in _COUNTS}
+            for name, histogram in self._histograms.items():
+                counts[f"{name}_total"], counts[f"{name}_seconds_total"] = sum(histogram.counts), histogram.seconds
             times = {name: self._histograms[name].lines(f"dilforec_{name}_seconds") for name in _TIMES}
         told = {name: ("counter", text, counts[name]) for name, text in _COUNTS.items()}
         told.update({name: ("gauge", text, value) for name, (text, value) in gauges.items()})
