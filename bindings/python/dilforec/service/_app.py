@@ -107,7 +107,7 @@ class Application:
 
     def is_brief(self, request: Request) -> bool:
         """Whether a request takes less time to begin than to hand to another thread. Its body is there."""
-        name = _name(request.path)
+        name = _name(request)
         is_change = name != "/compact" and request.method not in ("GET", "HEAD")
         return len(request.body) <= _BRIEF_BODY if is_change else name in _BRIEF
 
@@ -133,7 +133,7 @@ class Application:
 
     def answered(self, request: Request, response: Response) -> Response:
         """Counts an answer and logs it, and returns it with what a browser needs for a page of another site."""
-        if request.method in ("GET", "HEAD", "OPTIONS") and _name(request.path) in _SHARED:
+        if request.method in ("GET", "HEAD", "OPTIONS") and _name(request) in _SHARED:
             response = response._replace(headers=(*response.headers, *self.guard.sharing(request)))
         if response.status >= 400:
             self.metrics.count("failures_total" if response.status >= 500 else "refusals_total")
@@ -143,7 +143,7 @@ class Application:
         return response
 
     def _admitted(self, request: Request) -> "Union[Response, Call]":
-        name = _name(request.path)
+        name = _name(request)
         if name not in _HEALTH:
             self.guard.host(request)
         calls = self._calls.get(name) if name == request.path or name in _NAMED else None
@@ -216,11 +216,15 @@ class Application:
         return answer({"ready": True, "documents": len(store), "writable": store.writable})
 
 
-def _name(path: str) -> str:
+def _name(request: Request) -> str:
     """The name of a path's calls."""
-    if _DOCUMENT.fullmatch(path):
-        return "/documents/ID"
-    return "/documents/key/KEY" if path.startswith("/documents/key/") and path != "/documents/key/" else path
+    if request.call is None:
+        request.call = path = request.path
+        if _DOCUMENT.fullmatch(path):
+            request.call = "/documents/ID"
+        elif path.startswith("/documents/key/") and path != "/documents/key/":
+            request.call = "/documents/key/KEY"
+    return request.call
 
 
 def _request(environ: WSGIEnvironment) -> Request:

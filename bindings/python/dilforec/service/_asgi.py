@@ -6,11 +6,11 @@ handed on together, and wakes the loop together.
 from __future__ import annotations
 
 import asyncio
-from collections.abc import Awaitable, Callable, Iterator, Mapping
-from contextlib import contextmanager, suppress
+from collections.abc import Awaitable, Callable, Generator, Mapping
+from contextlib import suppress
 from functools import partial
 from http import HTTPStatus
-from typing import Any, Dict, NamedTuple, Optional
+from typing import Any, Dict, Generic, NamedTuple, Optional, TypeVar
 
 from dilforec.service._app import Application
 from dilforec.service._changes import Change
@@ -19,13 +19,18 @@ from dilforec.service._http import HttpError, Request, Response, failure, too_la
 Scope = Mapping[str, Any]
 Receive = Callable[[], Awaitable[Dict[str, Any]]]
 Send = Callable[[Dict[str, Any]], Awaitable[None]]
+T = TypeVar("T")
 
+# What a server that is the service's own has among the extensions of a scope: a call that sends a response, given it
+# and its body, by one write. To tell ASGI of each header takes longer than to do a small change.
+WHOLE = "dilforec.whole"
 # The most bytes of a head, without what stands between its parts.
 LONGEST_HEAD = 81_920
 # All bodies that are held have at most as many bytes as this many of the longest.
 _BODIES = 16
 # A group of changes doesn't wait for more if so many rounds of the loop brought none; a request takes two or three.
 _QUIET_ROUNDS = 5
+_NONE: "Mapping[str, Any]" = {}
 # A body that nobody wants is read over if it isn't longer than the limit by more; else its connection is closed.
 SKIPPED = 1 << 20
 
@@ -80,13 +85,18 @@ class Asgi:
         finally:
             self._held -= request.held
         response = self._application.answered(request, response)
+        body = b"" if request.method == "HEAD" else response.body
+        send_whole = scope.get("extensions", _NONE).get(WHOLE)
+        if send_whole is not None:
+            await send_whole(response, body)
+            return
         headers = [(name.lower().encode("latin-1"), value.encode("latin-1")) for name, value in response.lines()]
         await send({"type": "http.response.start", "status": response.status.value, "headers": headers})
-        await send({"type": "http.response.body", "body": b"" if request.method == "HEAD" else response.body})
+        await send({"type": "http.response.body", "body": body})
 
     async def _answer(self, request: Request, receive: Receive) -> Response:
         application = self._application
-        if _size(request) > LONGEST_HEAD:
+        if request.size > LONGEST_HEAD:
             return failure(head_too_large()).and_close()
         call = application.admit(request)
         if isinstance(call, Response):
@@ -108,22 +118,24 @@ class Asgi:
     async def _read(self, request: Request, receive: Receive) -> Optional[HttpError]:
         """Reads a body, or returns why it is refused. Gone is raised if the client goes away."""
         limit, parts = self._application.limits.body, []
+        time = _Time(self._body_seconds)
         try:
-            with _within(self._body_seconds):
-                more = True
-                while more:
-                    message = await receive()
-                    if message["type"] != "http.request":
-                        raise Gone
-                    parts.append(message.get("body", b""))
-                    more, request.held = message.get("more_body", False), request.held + len(parts[-1])
-                    self._held += len(parts[-1])
-                    if request.held > limit:
-                        return too_large(limit)
-                    if self._held > _BODIES * limit:
-                        return _busy()
+            more = True
+            while more:
+                message = await time.wait(receive())
+                if message["type"] != "http.request":
+                    raise Gone
+                parts.append(message.get("body", b""))
+                more, request.held = message.get("more_body", False), request.held + len(parts[-1])
+                self._held += len(parts[-1])
+                if request.held > limit:
+                    return too_large(limit)
+                if self._held > _BODIES * limit:
+                    return _busy()
         except asyncio.TimeoutError:
             return slow(f"the body didn't arrive within {self._body_seconds:g} seconds")
+        finally:
+            time.end()
         request.body = b"".join(parts)
         return None
 
@@ -204,44 +216,76 @@ def slow(words: str) -> HttpError:
     return HttpError(HTTPStatus.REQUEST_TIMEOUT, "TooSlow", words)
 
 
-@contextmanager
-def _within(seconds: float) -> "Iterator[None]":
-    """Raises TimeoutError in a block that takes longer."""
-    task, expired = asyncio.current_task(), []
+class _Time:
+    """The seconds that something may take from its first wait on. If it is there at once, there is no timer."""
 
-    def expire() -> None:
-        expired.append(True)
-        assert task is not None
+    def __init__(self, seconds: float) -> None:
+        self._seconds = seconds
+        self._timer: Optional[asyncio.TimerHandle] = None
+        self._is_over = False
+
+    async def wait(self, awaited: "Awaitable[T]") -> T:
+        """What is awaited. TimeoutError is raised when the time is over."""
+        steps = awaited.__await__()
+        try:
+            first = next(steps)
+        except StopIteration as end:
+            there: T = end.value
+            return there
+        self._begin()
+        try:
+            return await _Rest(first, steps)
+        except asyncio.CancelledError:
+            if self._is_over:
+                raise asyncio.TimeoutError from None
+            raise
+
+    def end(self) -> None:
+        """Ends the timer, if there is one."""
+        if self._timer is not None:
+            self._timer.cancel()
+
+    def _begin(self) -> None:
+        task = asyncio.current_task()
+        if self._timer is None and task is not None:
+            self._timer = asyncio.get_running_loop().call_later(self._seconds, self._expire, task)
+
+    def _expire(self, task: "asyncio.Task[Any]") -> None:
+        self._is_over = True
         task.cancel()
 
-    timer = asyncio.get_running_loop().call_later(seconds, expire)
-    try:
-        yield
-    except asyncio.CancelledError:
-        if expired:
-            raise asyncio.TimeoutError from None
-        raise
-    finally:
-        timer.cancel()
+
+class _Rest(Generic[T]):
+    """Something whose first step was done, which waits."""
+
+    def __init__(self, first: object, steps: "Generator[Any, None, T]") -> None:
+        self._first, self._steps = first, steps
+
+    def __await__(self) -> "Generator[Any, None, T]":
+        try:
+            yield self._first
+        except BaseException as error:
+            self._steps.throw(error)
+            raise
+        return (yield from self._steps)
 
 
 def _request(scope: Scope) -> Request:
     headers: "dict[str, str]" = {}
+    size = len(scope["path"]) + len(scope["query_string"])
     for given, value in scope["headers"]:
         name, text = given.decode("latin-1"), value.decode("latin-1")
+        size += len(name) + len(text)
         headers[name] = f"{headers[name]}, {text}" if name in headers else text
     client = scope.get("client")
-    return Request(scope["method"], scope["path"], scope["query_string"], headers, client[0] if client else "")
+    request = Request(scope["method"], scope["path"], scope["query_string"], headers, client[0] if client else "")
+    request.size = size
+    return request
 
 
 def _busy() -> HttpError:
     words = "too many bodies arrive at a time; nothing was done"
     return HttpError(HTTPStatus.SERVICE_UNAVAILABLE, "TooManyBodies", words, Retry_After="1")
-
-
-def _size(request: Request) -> int:
-    headers = sum(len(name) + len(value) for name, value in request.headers.items())
-    return headers + len(request.path) + len(request.query)
 
 
 def _is_endless(request: Request, limit: int) -> bool:

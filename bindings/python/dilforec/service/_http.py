@@ -3,6 +3,7 @@ from __future__ import annotations
 
 import re
 from collections.abc import Iterator, Mapping
+from functools import lru_cache
 from http import HTTPStatus
 from typing import Any, NamedTuple, Optional
 from urllib.parse import parse_qsl
@@ -56,6 +57,12 @@ class Response(NamedTuple):
         ]
         return about + [each for each in _ALWAYS if each[0] not in given] + list(self.headers)
 
+    def head(self) -> bytes:
+        """The line of the status and those of the headers, as HTTP/1.1 has them, without the blank line."""
+        if self.headers or self.status in _WITHOUT_BODY:
+            return _status_line(self.status) + _header_lines(self.lines())
+        return _usual_head(self.status, self.type) + b"content-length: %d\r\n" % len(self.body)
+
     def and_close(self) -> Response:
         """The same, after which the connection is closed."""
         return self._replace(headers=(*self.headers, ("Connection", "close")))
@@ -65,6 +72,20 @@ _WITHOUT_BODY = (HTTPStatus.NO_CONTENT, HTTPStatus.NOT_MODIFIED)
 _ALWAYS = (
     ("Cache-Control", "no-store"), ("X-Content-Type-Options", "nosniff"), ("Referrer-Policy", "no-referrer"),
 )
+
+
+def _status_line(status: HTTPStatus) -> bytes:
+    return f"HTTP/1.1 {status.value} {status.phrase}\r\n".encode()
+
+
+def _header_lines(headers: "list[tuple[str, str]]") -> bytes:
+    return "".join([f"{name.lower()}: {value}\r\n" for name, value in headers]).encode("latin-1")
+
+
+@lru_cache(64)
+def _usual_head(status: HTTPStatus, type: str) -> bytes:
+    """A head without the length, as most responses of a status have it."""
+    return _status_line(status) + _header_lines([("Content-Type", type), *_ALWAYS])
 
 
 def _tags(text: str) -> "list[str]":
@@ -129,6 +150,10 @@ class Request:
     body: bytes = b""
     # How much of the body has arrived.
     held = 0
+    # How many bytes the head has, without what stands between its parts.
+    size = 0
+    # What the application calls the path, once it has looked at it.
+    call: Optional[str] = None
 
     def __init__(self, method: str, path: str, query: bytes, headers: Mapping[str, str], peer: str) -> None:
         self.method = method

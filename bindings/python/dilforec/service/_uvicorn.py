@@ -21,8 +21,8 @@ import uvicorn
 from uvicorn.protocols.http.httptools_impl import HttpToolsProtocol
 
 from dilforec.service._app import Application
-from dilforec.service._asgi import LONGEST_HEAD, SKIPPED, Asgi, head_too_large, slow
-from dilforec.service._http import HttpError, Request, bad, failure
+from dilforec.service._asgi import LONGEST_HEAD, SKIPPED, WHOLE, Asgi, head_too_large, slow
+from dilforec.service._http import HttpError, Request, Response, bad, failure
 
 log = logging.getLogger("dilforec.service")
 
@@ -36,8 +36,11 @@ _LINGERING = 2.0
 _HEAD_START = 0.1
 # As many connections over their number are told so at a time; others are closed without a word.
 _MOST_BEYOND = 64
+# An answer that is shorter is sent by one write, and a longer one isn't copied for that.
+_SENT_WHOLE = 65_536
 # How often it is looked whether the service ends, and at all connections, in seconds.
 _LOOK, _SWEEP = 0.1, 1.0
+_CLOSE = b"connection", b"close"
 
 
 class Patience(NamedTuple):
@@ -77,8 +80,7 @@ class Watch:
         """The bytes of an answer to what is no request, which is counted and logged."""
         request = Request("?", "?", b"", {}, peer)
         response = self.application.answered(request, failure(error).and_close())
-        head = "".join(f"{name.lower()}: {value}\r\n" for name, value in response.lines())
-        return f"HTTP/1.1 {response.status.value} {response.status.phrase}\r\n{head}\r\n".encode() + response.body
+        return response.head() + b"\r\n" + response.body
 
 
 class Seen:
@@ -101,6 +103,9 @@ class Connection(HttpToolsProtocol):
     """A connection of uvicorn's, whose client has limits."""
 
     line: asyncio.Transport
+    # Uvicorn's own, which are there from the connection's and the request's beginning on.
+    flow: Any
+    scope: Any
 
     def __init__(self, watch: Watch, **given: Any) -> None:
         super().__init__(**given)
@@ -164,7 +169,9 @@ class Connection(HttpToolsProtocol):
         super().on_headers_complete()
         seen.in_head, seen.in_body, seen.skipped_bytes = False, True, 0
         # A request for another protocol is none that is answered.
-        seen.ahead += self.cycle is not before
+        if self.cycle is not before:
+            seen.ahead += 1
+            self.scope["extensions"] = {WHOLE: partial(self.send_whole, self.cycle)}
 
     def on_message_complete(self) -> None:
         super().on_message_complete()
@@ -173,13 +180,54 @@ class Connection(HttpToolsProtocol):
     # What uvicorn calls
 
     def on_response_complete(self) -> None:
+        """Begins the next request. Uvicorn would also have a timer for each answer, but `look` sees who is silent."""
         self.seen.ahead -= 1
         self.seen.since = time.monotonic()
-        super().on_response_complete()
+        self.server_state.total_requests += 1
+        if not self.line.is_closing():
+            self.flow.resume_reading()
+            self.begin_next()
+
+    def resume_writing(self) -> None:
+        super().resume_writing()
+        self.begin_next()
+
+    def begin_next(self) -> None:
+        """Begins the next request that was sent ahead, unless the client has yet to read the answer before."""
+        if self.pipeline and len(self.pipeline) == self.seen.ahead and not self.flow.write_paused:
+            request, application = self.pipeline.pop()
+            task = self.loop.create_task(request.run_asgi(application))
+            task.add_done_callback(self.tasks.discard)
+            self.tasks.add(task)
 
     def send_400_response(self, msg: str) -> None:
         """Answers what is no request. Uvicorn calls it while it handles the parser's error."""
         self.refuse(self.seen.refusal or _error_of(sys.exc_info()[1], msg))
+
+    # What the application calls
+
+    async def send_whole(self, request: Any, response: Response, body: bytes) -> None:
+        """Sends the answer to a request, which is uvicorn's, as uvicorn does, but by one write."""
+        if self.flow.write_paused and not request.disconnected:
+            await self.flow.drain()
+        if request.disconnected:
+            return
+        head = [response.head(), *(b"%b: %b\r\n" % header for header in self.server_state.default_headers)]
+        closes = ("Connection", "close") in response.headers
+        if _CLOSE in request.scope["headers"]:
+            head.append(b"" if closes else b"connection: close\r\n")
+            closes = True
+        head.append(b"\r\n")
+        if len(body) < _SENT_WHOLE:
+            self.line.write(b"".join(head) + body)
+        else:
+            self.line.write(b"".join(head))
+            self.line.write(body)
+        request.response_started = request.response_complete = True
+        request.message_event.set()
+        if closes or not request.keep_alive:
+            self.line.close()
+        self.on_response_complete()
 
     # Limits
 
