@@ -173,6 +173,11 @@ class Server:
         # The service writes at the file's place, so that stays where it is.
         return os.pread(self.log.fileno(), os.fstat(self.log.fileno()).st_size, 0).decode()
 
+    def seconds(self):
+        """How many seconds of processors it took so far."""
+        with open(f"/proc/{self.process.pid}/stat") as file:
+            return sum(map(int, file.read().rpartition(")")[2].split()[11:13])) / os.sysconf("SC_CLK_TCK")
+
     def stop(self, number):
         self.process.send_signal(number)
         status = self.process.wait(30)

@@ -2,7 +2,6 @@
 request; and an end in the middle of an answer."""
 import contextlib
 import json
-import os
 import re
 import signal
 import socket
@@ -58,6 +57,30 @@ class Faults(Served):
             self.assertEqual(status, 201)
         return self.request(server, "GET /search?top=id,1000,rising")
 
+    def size(self, server, line):
+        """How many bytes the answer to a request has, its head included."""
+        closing = "Connection: close"
+        return len(self.all(self.opened(server, self.request(server, line, closing)))) - len(closing) - 2
+
+    @staticmethod
+    def taken(server, sock):
+        """How many bytes for a client the system has, sent or not."""
+        ours, count = {sock.getsockname()[1], server.port}, 0
+        with open("/proc/net/tcp") as file:
+            next(file)
+            for _, here, there, _, queues, *_ in map(str.split, file):
+                if {int(end.partition(":")[2], 16) for end in (here, there)} == ours:
+                    count += sum(int(queue, 16) for queue in queues.split(":"))
+        return count
+
+    @staticmethod
+    def await_quiet(server):
+        """Returns when a server has done next to nothing for a second."""
+        before, until = -1.0, time.monotonic() + 60
+        while (spent := server.seconds()) - before > 0.05 and time.monotonic() < until:
+            before = spent
+            time.sleep(1)
+
     def others(self, server):
         """Others search and change."""
         began = time.monotonic()
@@ -68,13 +91,15 @@ class Faults(Served):
 
 class Readers(Faults):
     def test_no_reader(self):
-        """As many clients as threads ask for large answers and don't read: others are answered, and they are closed."""
+        """As many clients as threads ask for large answers and don't read: others are answered, and they are closed.
+
+        A server that has a thread wait for a client once 64 MB are unsent had none left, and answered no search.
+        """
         server = self.serve("--threads", 2, "--idle", 3)
         large = self.fill(server)
         silent = [self.opened(server, large * 30, room=4096) for _ in range(4)]
         until = time.monotonic() + 20
         while server.said().count("doesn't read") < 4 and time.monotonic() < until:
-            # A server whose threads wait once much is unsent answers nobody by and by.
             self.others(server)
             time.sleep(0.1)
         time.sleep(1.5)
@@ -85,30 +110,42 @@ class Readers(Faults):
             self.assertLess(len(self.all(sock)), 30_000_000)
 
     def test_no_reader_of_a_change(self):
-        """A client asks for large answers and changes in turn, and doesn't read: small changes of others are done."""
+        """A client asks for large answers, then for changes, and doesn't read: small changes of others are done.
+
+        A server that has a thread wait once 64 MB are unsent answers the searches up to a little less than that, and
+        then the change that goes beyond it has the one thread of changes wait for this client. Nobody else's change was
+        done, nor was the client ever closed for its silence, since it had requests.
+        """
         server = self.serve("--idle", 60)
-        change = self.request(server, "POST /documents", JSON, "Content-Length: 2", body=b"{}")
-        # After one of these 180 MB of answers, a server that waits in a change once much is unsent has a change to do.
-        self.opened(server, (self.fill(server) + change) * 30, room=4096)
-        for _ in range(20):
+        large = self.fill(server)
+        search = "GET /search?top=id,{},rising".format
+        whole, half = (self.size(server, search(count)) for count in (1000, 500))
+        each, taken = (whole - half) // 500, 0
+        # What the system takes is the same for each such client, and is known after the first.
+        for _ in range(2):
+            searches, rest = divmod((64 << 20) - 1000 + taken, whole)
+            count = max(1, (rest - whole) // each + 1000)
+            changes = self.request(server, "DELETE /documents/9999") * 80
+            asked = large * searches + self.request(server, search(count)) + changes
+            # So many bytes a server reads at once.
+            self.assertLess(len(asked), 8192)
+            sock = self.opened(server, asked, room=4096)
+            self.await_quiet(server)
+            taken = self.taken(server, sock)
             self.others(server)
-            time.sleep(0.4)
+            sock.close()
 
     def test_idle_connections(self):
         """What a request costs the service doesn't grow with the connections that are silent."""
         server = self.serve("--idle", 600)
 
-        def seconds():
-            with open(f"/proc/{server.process.pid}/stat") as file:
-                return sum(map(int, file.read().rpartition(")")[2].split()[11:13])) / os.sysconf("SC_CLK_TCK")
-
         def cost():
             sock, asked = self.opened(server), self.request(server, "GET /status")
-            before = seconds()
+            before = server.seconds()
             for _ in range(600):
                 sock.sendall(asked)
                 self.assertIn(b"200 OK", sock.recv(65536))
-            return seconds() - before
+            return server.seconds() - before
 
         cost()
         alone = cost()
