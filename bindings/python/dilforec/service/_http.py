@@ -2,7 +2,7 @@
 from __future__ import annotations
 
 import re
-from collections.abc import Iterator, Mapping
+from collections.abc import Iterable, Iterator, Mapping
 from functools import lru_cache
 from http import HTTPStatus
 from typing import Any, NamedTuple, Optional
@@ -51,17 +51,16 @@ class Response(NamedTuple):
 
     def lines(self) -> "list[tuple[str, str]]":
         """The headers, with those that each response has."""
-        given = {name for name, _ in self.headers}
-        about = [] if self.status in _WITHOUT_BODY else [
-            ("Content-Type", self.type), ("Content-Length", str(len(self.body))),
-        ]
-        return about + [each for each in _ALWAYS if each[0] not in given] + list(self.headers)
+        about = [] if self.status in _WITHOUT_BODY else [("Content-Length", str(len(self.body)))]
+        return [*_usual(self.status, self.type, self._names()), *about, *self.headers]
 
     def head(self) -> bytes:
         """The line of the status and those of the headers, as HTTP/1.1 has them, without the blank line."""
-        if self.headers or self.status in _WITHOUT_BODY:
-            return _status_line(self.status) + _header_lines(self.lines())
-        return _usual_head(self.status, self.type) + b"content-length: %d\r\n" % len(self.body)
+        length = b"" if self.status in _WITHOUT_BODY else b"content-length: %d\r\n" % len(self.body)
+        return _usual_head(self.status, self.type, self._names()) + length + _header_lines(self.headers)
+
+    def _names(self) -> "tuple[str, ...]":
+        return tuple([name for name, _ in self.headers])
 
     def and_close(self) -> Response:
         """The same, after which the connection is closed."""
@@ -74,18 +73,20 @@ _ALWAYS = (
 )
 
 
-def _status_line(status: HTTPStatus) -> bytes:
-    return f"HTTP/1.1 {status.value} {status.phrase}\r\n".encode()
-
-
-def _header_lines(headers: "list[tuple[str, str]]") -> bytes:
-    return "".join([f"{name.lower()}: {value}\r\n" for name, value in headers]).encode("latin-1")
+def _usual(status: HTTPStatus, type: str, own: "tuple[str, ...]") -> "list[tuple[str, str]]":
+    """The headers that each response of a type has, but its length, and those that are its own."""
+    about = [] if status in _WITHOUT_BODY else [("Content-Type", type)]
+    return about + [each for each in _ALWAYS if each[0] not in own]
 
 
 @lru_cache(64)
-def _usual_head(status: HTTPStatus, type: str) -> bytes:
-    """A head without the length, as most responses of a status have it."""
-    return _status_line(status) + _header_lines([("Content-Type", type), *_ALWAYS])
+def _usual_head(status: HTTPStatus, type: str, own: "tuple[str, ...]") -> bytes:
+    """The line of a status, and those of what `_usual` says. They are the same for most responses."""
+    return f"HTTP/1.1 {status.value} {status.phrase}\r\n".encode() + _header_lines(_usual(status, type, own))
+
+
+def _header_lines(headers: "Iterable[tuple[str, str]]") -> bytes:
+    return "".join([f"{name.lower()}: {value}\r\n" for name, value in headers]).encode("latin-1")
 
 
 def _tags(text: str) -> "list[str]":
