@@ -1,8 +1,10 @@
 """The application without the command: as ASGI, called as a server calls it, and as WSGI, on servers of the library."""
 import asyncio
 import concurrent.futures
+import functools
 import json
 import threading
+import time
 import unittest
 import urllib.error
 import urllib.request
@@ -12,6 +14,7 @@ from socketserver import ThreadingMixIn
 from unittest import mock
 
 from dilforec.service import application, asgi
+from dilforec.service._threads import Threads
 from service_tools import Stored
 
 
@@ -121,6 +124,63 @@ class Asgi(Stored):
         self.assertEqual(sent, ["lifespan.startup.complete", "lifespan.shutdown.complete"])
         with self.assertRaises(ValueError):
             asyncio.run(self.app({"type": "websocket"}, receive, send))
+
+
+class Calls(unittest.TestCase):
+    def test_threads(self):
+        """Calls are made by so many threads at most, which are started when they are needed, and end."""
+        threads = Threads(3, "test-call")
+        wait, at_a_time, most = threading.Barrier(3), [], []
+
+        def call(number):
+            at_a_time.append(number)
+            most.append(len(at_a_time))
+            wait.wait(20)
+            at_a_time.remove(number)
+            if number % 2:
+                raise KeyError(number)
+            return number
+
+        async def made():
+            self.assertEqual(await threads.call(lambda: "alone"), "alone")
+            self.assertEqual(len(self.named()), 1)
+            calls = [threads.call(functools.partial(call, number)) for number in range(12)]
+            told = await asyncio.gather(*calls, return_exceptions=True)
+            self.assertEqual([type(each) for each in told], [int, KeyError] * 6)
+            self.assertEqual((max(most), len(self.named())), (3, 3))
+            given_up = asyncio.create_task(threads.call(lambda: time.sleep(0.2)))
+            await asyncio.sleep(0.05)
+            given_up.cancel()
+            self.assertEqual(await threads.call(lambda: "goes on"), "goes on")
+            threads.close()
+            with self.assertRaises(RuntimeError):
+                await threads.call(lambda: "never")
+
+        asyncio.run(made())
+        until = time.monotonic() + 20
+        while self.named() and time.monotonic() < until:
+            time.sleep(0.01)
+        self.assertEqual(self.named(), [])
+
+    @staticmethod
+    def named():
+        return [thread for thread in threading.enumerate() if thread.name.startswith("test-call")]
+
+    def test_no_thread(self):
+        """A system without threads is an error of the first call alone, and later ones are made by those there are."""
+        threads = Threads(2, "test-call")
+        self.addCleanup(threads.close)
+
+        async def made():
+            none = mock.patch.object(threading.Thread, "start", side_effect=RuntimeError("can't start new thread"))
+            with none, self.assertRaises(RuntimeError):
+                await threads.call(lambda: 1)
+            self.assertEqual(await threads.call(lambda: 2), 2)
+            with none:
+                waiting = threads.call(lambda: time.sleep(0.1)), threads.call(lambda: 3)
+                self.assertEqual(await asyncio.gather(*waiting), [None, 3])
+
+        asyncio.run(made())
 
 
 class Threading(ThreadingMixIn, wsgiref.simple_server.WSGIServer):

@@ -15,6 +15,7 @@ from typing import Any, Dict, Generic, NamedTuple, Optional, TypeVar
 from dilforec.service._app import Application
 from dilforec.service._changes import Change
 from dilforec.service._http import HttpError, Request, Response, failure, too_large
+from dilforec.service._threads import Threads
 
 Scope = Mapping[str, Any]
 Receive = Callable[[], Awaitable[Dict[str, Any]]]
@@ -48,14 +49,12 @@ class Asgi:
         self._body_seconds = body_seconds
         # The bytes of all bodies that are held.
         self._held = 0
-        # Once it is imported, each fork takes its lock, and a signal handler that forks within one waits for ever.
-        from concurrent.futures import ThreadPoolExecutor
-        self._threads = ThreadPoolExecutor(threads, "dilforec-read")
+        self._threads = Threads(threads, "dilforec-read")
         self._together = Together(application)
 
     def close(self) -> None:
         """Ends its threads."""
-        self._threads.shutdown(wait=False)
+        self._threads.close()
 
     async def __call__(self, scope: Scope, receive: Receive, send: Send) -> None:
         if scope["type"] == "lifespan":
@@ -108,8 +107,7 @@ class Asgi:
         if application.is_brief(request):
             begun = application.begin(request, call)
         else:
-            loop = asyncio.get_running_loop()
-            begun = await loop.run_in_executor(self._threads, application.begin, request, call)
+            begun = await self._threads.call(partial(application.begin, request, call))
         if isinstance(begun, Response):
             return begun
         await self._together.do(begun)
