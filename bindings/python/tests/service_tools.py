@@ -178,6 +178,14 @@ class Server:
         with open(f"/proc/{self.process.pid}/stat") as file:
             return sum(map(int, file.read().rpartition(")")[2].split()[11:13])) / os.sysconf("SC_CLK_TCK")
 
+    def memory(self):
+        """The bytes of memory that it has, and the most that it had since the last call."""
+        with open(f"/proc/{self.process.pid}/status") as file:
+            told = file.read()
+        with open(f"/proc/{self.process.pid}/clear_refs", "w") as file:
+            file.write("5")
+        return [1024 * int(re.search(rf"{name}:\s*([0-9]+) kB", told)[1]) for name in ("VmRSS", "VmHWM")]
+
     def stop(self, number):
         self.process.send_signal(number)
         status = self.process.wait(30)

@@ -135,6 +135,26 @@ class Readers(Faults):
             self.others(server)
             sock.close()
 
+    def test_memory(self):
+        """A client that asks for large answers and doesn't read costs two of them at most, however many it asks for.
+
+        While answers are made, each thread has six at most. Until its client has read the one that waits, no further
+        request of it is begun.
+        """
+        clients, threads = 6, 2
+        server = self.serve("--threads", threads, "--idle", 60)
+        large = self.fill(server)
+        # What the first answers take for good isn't counted.
+        answer = min(self.size(server, "GET /search?top=id,1000,rising") for _ in range(2 * threads))
+        before, _ = server.memory()
+        for _ in range(clients):
+            self.opened(server, large * 30, room=4096)
+        self.await_quiet(server)
+        kept, most = (count - before for count in server.memory())
+        self.assertLess(kept, 2 * clients * answer)
+        self.assertLess(most, (2 * clients + 6 * threads) * answer)
+        self.others(server)
+
     def test_idle_connections(self):
         """What a request costs the service doesn't grow with the connections that are silent."""
         server = self.serve("--idle", 600)

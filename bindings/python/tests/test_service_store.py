@@ -9,6 +9,7 @@ import sys
 import textwrap
 import threading
 import time
+import tracemalloc
 import unittest
 from unittest import mock
 
@@ -84,6 +85,25 @@ class Calls(Stored):
                     snapshot.search_json("rust", **wrong)
             with self.assertRaises(dilforec.Syntax):
                 snapshot.search_json("rust OR")
+
+    def test_memory(self):
+        """A large answer, of groups or of documents, takes at most five times its bytes of memory while it is made."""
+        store = self.opened()
+        with store.transaction() as transaction:
+            for year in range(30_000):
+                transaction.add({"year": year})
+            for _ in range(200):
+                transaction.add({"title": "word " * 4000})
+        asks = {"groups": ["year"], "fields": []}, {"top": dilforec.Top("id", 200, "falling")}
+        with store.snapshot() as snapshot:
+            for asked in asks:
+                # Its room stays.
+                snapshot.search_json("*", **asked)
+                tracemalloc.start()
+                told = snapshot.search_json("*", **asked)
+                most = tracemalloc.get_traced_memory()[1]
+                tracemalloc.stop()
+                self.assertLess(most, 5 * len(told))
 
     def test_refusals(self):
         """What is refused leaves nothing, neither in the index nor in the file."""
