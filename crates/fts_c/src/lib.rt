@@ -28,6 +28,7 @@ ghost use Rattle.fts_c.specs.Transactions.{Transacts};
 ghost use Rattle.fts_script.specs.session.Outputs.{start};
 
 mod codes;
+pub mod laws;
 mod maintenance;
 mod raw_box;
 mod searchers;
