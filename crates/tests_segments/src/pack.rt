@@ -158,6 +158,26 @@ fn refused_columns_can_be_built_again(rt: HostRuntime) {
     }
 }
 
+/// The words of a column, with the number of bits of each value. If a growth was refused, the second try succeeds.
+fn words_of(rt: &impl Abort, alloc: Global, column: &Column) -> (u32, Vec<u64>) {
+    match column.packed(alloc) {
+        Ok(packed) => packed,
+        Err(refusal) => {
+            assert_eq!(rt; refusal, Refusal::Memory);
+            column.packed(alloc).expect(rt, "words again")
+        }
+    }
+}
+
+/// The offsets 0, 0 for a missing value, and 2 take two bits each.
+#[test]
+fn refused_words_of_a_column_can_be_packed_again(rt: HostRuntime) {
+    let column = built(&rt, rt.alloc(), &[Some(7), None, Some(9)]);
+    let (width, words) = words_of(&rt, rt.alloc(), &column);
+    assert_eq!(rt; width, 2);
+    assert_eq!(rt; words.as_slice(), [32].as_slice());
+}
+
 /// Bits, all of them set.
 fn all_set(rt: &impl Abort, alloc: Global, len: usize) -> Bits {
     Bits::all_set(alloc, len).expect(rt, "bits")
