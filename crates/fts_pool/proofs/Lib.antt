@@ -1,4 +1,5 @@
 pub mod ViewsLemmas
+pub mod OrderLemmas
 pub mod StepsLemmas
 pub mod SlotsLemmas
 pub mod ResultsLemmas

@@ -1,5 +1,5 @@
 -- Slots that are filled one by one.
-use Rattle.std.proofs.Common.{◌≡◌, ◌≢◌, ℕ, zero, suc, ◌+◌, ◌<◌, List, [], ◌∷◌, ◌++◌, length, map, get_or, set, refl, ap, subst, ◌∙◌, ◌⊎◌, inl, inr, ⊎_elim}
+use Rattle.std.proofs.Common.{◌≡◌, ◌≢◌, ℕ, zero, suc, ◌+◌, ◌<◌, List, [], ◌∷◌, ◌++◌, length, map, get_or, set, refl, ap, sym, subst, ◌∙◌, ◌⊎◌, inl, inr, ⊎_elim}
 use Rattle.std.proofs.Common.{arith, get_or-set_same, get_or-set_other, replicate}
 use Rattle.std.specs.Prelude.{Option, Some, None, is_some}
 use Rattle.std.specs.List.{AllZip}
@@ -8,10 +8,10 @@ use Rattle.fts_pool.specs.declared.deque.Known.{Known}
 use Rattle.fts_pool.specs.declared.slots.Done.{Done}
 use Rattle.fts_base.specs.Totals.{times}
 use Rattle.fts_pool.specs.Internals.Deque.{known}
-use Rattle.fts_pool.specs.Internals.Slots.{AreSlots, IsFilled, IsOf, IsReady, numbers_of}
+use Rattle.fts_pool.specs.Internals.Slots.{AreBelow, AreSlots, IsFilled, IsOf, IsReady, numbers_of}
 use Rattle.fts_base.proofs.TotalsLemmas.{times-append, times_else}
 
-either_some : (a b : ℕ) → 0 < a + b → (0 < a) ⊎ (0 < b)
+pub either_some : (a b : ℕ) → 0 < a + b → (0 < a) ⊎ (0 < b)
 either_some zero b h = inr (omega arith)
 either_some (suc a) b h = inl (omega arith)
 
@@ -70,23 +70,23 @@ module _ {J O : Type 0} (gives : J → O → Type 0) where
   pub ready_same : (jobs : List J) (slots : List (Option O)) (v w : Known) → w.pushed ≡ v.pushed → w.taken ≡ v.taken → IsReady gives jobs slots v →
       IsReady gives jobs slots w
   ready_same jobs slots v w pushed taken ready = record {
-    room = (let room = ready.room in omega arith);
+    below = subst (AreBelow (length jobs)) (sym pushed) ready.below;
     right = ready.right;
     filled = (λ n some_time. ready.filled n (subst (λ (l : List ℕ). 0 < times n l) taken some_time));
   }
 
   -- one more job was taken, and its slot filled
-  pub ready_put : (jobs : List J) (slots : List (Option O)) (n : ℕ) (out : O) (v w : Known) → IsReady gives jobs slots v → n < v.pushed → IsOf gives jobs n out
+  pub ready_put : (jobs : List J) (slots : List (Option O)) (n : ℕ) (out : O) (v w : Known) → IsReady gives jobs slots v → 0 < times n v.pushed → IsOf gives jobs n out
       → w ≡ known v.shares v.pushed (v.taken ++ n ∷ []) → IsReady gives jobs (set slots n (Some out)) w
-  ready_put jobs slots n out v w ready low mine is =
-      let room = ready.room in
+  ready_put jobs slots n out v w ready pushed mine is =
+      let low = ready.below n pushed in
       let len = slots_len jobs slots ready.right in
       let lt : n < length slots = omega arith in
       ready_same jobs (set slots n (Some out)) (known v.shares v.pushed (v.taken ++ n ∷ [])) w (ap (λ (u : Known). u.pushed) is)
       (ap (λ (u : Known). u.taken) is)
       record {
-        room = ready.room;
-        right = slots_put jobs slots n out (omega arith) mine ready.right;
+        below = ready.below;
+        right = slots_put jobs slots n out low mine ready.right;
         filled = (λ j some_time. filled_more slots n j out lt (λ ne. ready.filled j (let s = times-append j v.taken (n ∷ []) in let z = times_else j n [] ne in
             omega arith)));
       }
@@ -97,7 +97,7 @@ module _ {J O : Type 0} (gives : J → O → Type 0) where
       → ((n : ℕ) → IsFilled slots n → IsFilled slots' n) → ((n : ℕ) → 0 < times n (numbers_of done) → IsFilled slots' n)
       → w.pushed ≡ v.pushed → w.taken ≡ v.taken ++ numbers_of done → IsReady gives jobs slots' w
   ready_joined jobs slots slots' done v w ready are kept filled pushed taken = record {
-    room = (let room = ready.room in omega arith);
+    below = subst (AreBelow (length jobs)) (sym pushed) ready.below;
     right = are;
     filled = (λ n some_time.
         let s = times-append n v.taken (numbers_of done) in

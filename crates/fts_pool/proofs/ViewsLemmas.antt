@@ -1,23 +1,12 @@
--- The numbers below a bound, and the shares that the views of all passes have.
-use Rattle.std.proofs.Common.{◌≡◌, ◌≢◌, ℕ, ◌+◌, ◌<◌, List, [], ◌∷◌, set, ap, ◌∙◌, arith}
-use Rattle.std.proofs.lemmas.Bool.Decides.{nat_tests}
+-- The shares that the views of all passes have.
+use Rattle.std.proofs.Common.{◌≡◌, ◌≢◌, ℕ, ◌<◌, List, [], set, ap, ◌∙◌, arith}
 use mathlib.Core.Option.{some}
 use lib.ListN.{get_elem?}
 use Rattle.crossbeam_deque.proofs.Lists.{set_else}
 use Rattle.fts_base.specs.Totals.{times, total}
 use Rattle.fts_pool.specs.declared.deque.Known.{Known}
-use Rattle.fts_pool.specs.Internals.Deque.{once_below, spent, Fits}
+use Rattle.fts_pool.specs.Internals.Deque.{spent, Fits}
 use Rattle.fts_base.proofs.TotalsLemmas.{total-set, one_le}
-
-pub once_none : (x : ℕ) → once_below x 0 ≡ 0
-once_none x = grind (arith, nat_tests)
-
--- the numbers below n + 1 are those below n, and n
-pub once_more : (x n : ℕ) → once_below x (n + 1) ≡ once_below x n + times x (n ∷ [])
-once_more x n = grind (arith, nat_tests)
-
-pub below_once : (x n : ℕ) → 0 < once_below x n → x < n
-below_once x n h = grind (arith, nat_tests)
 
 -- if one view has all shares, another has none
 pub no_share : (views : List Known) (port : ℕ) (v : Known) → get_elem? views port ≡ some v → total (λ u. u.shares) views ≡ v.shares
@@ -27,12 +16,12 @@ no_share views port v at all other u apart here =
     let le = one_le (λ u. u.shares) (set views port spent) other u (set_else views port other spent apart ∙ here) in
     omega arith
 
-pub with_share : (n : ℕ) (v : Known) → 0 < v.shares → v.pushed ≡ n → Fits n v
-with_share n v some_share is = record { told = (λ _. is); idle = (λ none. absurd (omega arith)) }
+pub with_share : (pushed : List ℕ) (v : Known) → 0 < v.shares → v.pushed ≡ pushed → Fits pushed v
+with_share pushed v some_share is = record { told = (λ _. is); idle = (λ none. absurd (omega arith)) }
 
-pub with_none : (n : ℕ) (v : Known) → v.shares ≡ 0 → v.taken ≡ [] → Fits n v
-with_none n v none idle = record { told = (λ some_share. absurd (omega arith)); idle = (λ _. idle) }
+pub with_none : (pushed : List ℕ) (v : Known) → v.shares ≡ 0 → v.taken ≡ [] → Fits pushed v
+with_none pushed v none idle = record { told = (λ some_share. absurd (omega arith)); idle = (λ _. idle) }
 
 -- a thread without a share took no job
-pub took_none : (n x : ℕ) (v : Known) → Fits n v → v.shares ≡ 0 → times x v.taken ≡ 0
-took_none n x v fits none = ap (times x) (fits.idle none)
+pub took_none : (pushed : List ℕ) (x : ℕ) (v : Known) → Fits pushed v → v.shares ≡ 0 → times x v.taken ≡ 0
+took_none pushed x v fits none = ap (times x) (fits.idle none)

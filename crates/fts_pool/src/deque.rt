@@ -5,15 +5,15 @@ use crossbeam_deque::{Pass, Stealer, Worker};
 use std::alloc::Global;
 use std::collections::LinkedList;
 
-/// The knowledge of a thread about the deque: its number of the 64 shares, the number of jobs that were pushed, and the
-/// jobs that it took. No value of it is ever made.
+/// The knowledge of a thread about the deque: its number of the 64 shares, the jobs that were pushed, and those that it
+/// took. No value of it is ever made.
 pub struct Known {
     pub shares: u64,
-    pub pushed: usize,
+    pub pushed: LinkedList<usize>,
     pub taken: LinkedList<usize>,
 }
 
-/// The rule: each job that was pushed is in the deque or was taken by one thread, once.
+/// The rule: each job is in the deque or was taken by a thread, as often as it was pushed.
 pub struct EachOnce;
 
 impl Protocol<usize, Known> for EachOnce {
@@ -22,12 +22,12 @@ impl Protocol<usize, Known> for EachOnce {
 
     ghost holds = { Holds };
 
-    ghost first = { known 64 0 [] };
+    ghost first = { known 64 [] [] };
 
-    ghost guest = { known 0 0 [] };
+    ghost guest = { known 0 [] [] };
 }
 
-/// The step that pushes the next job, by the thread that has all shares.
+/// The step that pushes a job, by the thread that has all shares.
 pub struct Push;
 
 impl Outcome<usize, Known> for Push {

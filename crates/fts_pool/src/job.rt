@@ -7,6 +7,10 @@ pub trait Job: Sync {
     /// Whether this may be the result of the job.
     ghost gives: { Self → Self.Out → Type 0 };
 
+    /// About how long a run takes, in a unit that is the same for all jobs of a list. Dear jobs are begun before cheap
+    /// ones; nothing else depends on it.
+    fn cost(&self) -> u64;
+
     /// Runs the job. A contract says nothing of a run except its result.
     fn run(&self) -> Self::Out
         ensures { gives self.now result };

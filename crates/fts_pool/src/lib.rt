@@ -1,10 +1,10 @@
 //! Runs jobs on several threads, with one result per job in the order of the jobs.
 //!
 //! A search is a job per segment, and a commit is a job for each segment that it changes or builds. Segments differ in
-//! size by orders of magnitude, so jobs aren't assigned in advance: their numbers are in one deque, and each worker
-//! takes the next one as soon as it is free.
+//! size by orders of magnitude, so jobs aren't assigned in advance: their numbers are in one deque, the dearest first,
+//! and each worker takes the next one as soon as it is free.
 //!
-//! - [`Job`] is a job, with a relation between it and its possible results.
+//! - [`Job`] is a job, with its cost, and a relation between it and its possible results.
 //! - [`run_all`] runs a list of jobs. The calling thread is a worker itself, and the others steal from its deque. It
 //!   runs whatever nobody else takes, so it is no refusal if a thread doesn't start or a number doesn't fit the deque;
 //!   with one worker, or one job, no thread is started.
@@ -23,6 +23,7 @@
 mod deque;
 mod gate;
 mod job;
+mod order;
 mod run;
 mod slots;
 mod workers;

@@ -2,10 +2,12 @@
 ghost use Rattle.std.specs.Prelude.{◌≡◌, ℕ, ◌<◌, ◌≤◌, [], length, map, slice_set, vec_len, IfOk, replicate, Some, None};
 ghost use Rattle.std.specs.Vec.{vec_capacity};
 ghost use Rattle.fts_base.specs.Totals.{times};
-ghost use Rattle.fts_pool.specs.Internals.Slots.{AreOf, AreSlots, IsFilled, IsOf, numbers_of};
+ghost use Rattle.fts_pool.specs.Internals.Order.{ranked};
+ghost use Rattle.fts_pool.specs.Internals.Slots.{AreBelow, AreOf, AreSlots, IsFilled, IsOf, numbers_of};
 
 use crate::gate::Gate;
 use crate::job::Job;
+use crate::order::RankedJob;
 use std::alloc::{AllocError, Global};
 
 /// The result of a job, with the job's number.
@@ -17,7 +19,7 @@ pub struct Done<T> {
 
 /// Runs one job between the gate's two calls.
 pub(crate) fn run_one<J: Job, G: Gate>(jobs: &[J], number: usize, gate: &G) -> J::Out
-    requires { number < length jobs.now }
+    requires number { number < length jobs.now }
     ensures { IsOf J.gives jobs.now number result }
 {
     gate.before(number);
@@ -48,20 +50,32 @@ pub(crate) fn put<T: Drop>(slots: &mut Vec<Option<T>>, number: usize, out: T)
     slots[number] = Some(out);
 }
 
-/// Runs the jobs from this number, in order.
-pub(crate) fn run_from<J: Job, G: Gate>(
+/// Runs all jobs, by their numbers.
+pub(crate) fn run_in_turn<J: Job, G: Gate>(slots: &mut Vec<Option<J::Out>>, jobs: &[J], gate: &G)
+    requires slots { AreSlots J.gives jobs.now slots.old.items }
+    ensures slots { AreSlots J.gives jobs.now slots.new.items }
+    ensures filled { (n : ℕ) → n < length jobs.now → IsFilled slots.new.items n }
+{
+    for number in 0..jobs.len() {
+        put(slots, number, run_one(jobs, number, gate));
+    }
+}
+
+/// Runs the jobs that are left, in their order.
+pub(crate) fn run_left<J: Job, G: Gate>(
     slots: &mut Vec<Option<J::Out>>,
-    from: usize,
+    left: &[RankedJob],
     jobs: &[J],
     gate: &G,
 )
     requires slots { AreSlots J.gives jobs.now slots.old.items }
-    requires filled { (n : ℕ) → n < from → IsFilled slots.old.items n }
+    requires below { AreBelow (length jobs.now) (ranked left.now) }
     ensures slots { AreSlots J.gives jobs.now slots.new.items }
-    ensures filled { (n : ℕ) → n < length jobs.now → IsFilled slots.new.items n }
+    ensures kept { (n : ℕ) → IsFilled slots.old.items n → IsFilled slots.new.items n }
+    ensures filled { (n : ℕ) → 0 < times n (ranked left.now) → IsFilled slots.new.items n }
 {
-    for number in from..jobs.len() {
-        put(slots, number, run_one(jobs, number, gate));
+    for job in left {
+        put(slots, job.number, run_one(jobs, job.number, gate));
     }
 }
 

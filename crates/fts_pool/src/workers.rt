@@ -1,33 +1,35 @@
 // The threads that run the jobs: the calling thread pops from its deque, and the others steal from it.
-ghost use Rattle.std.specs.Prelude.{◌≡◌, ◌<◌, ◌≤◌, [], length};
+ghost use Rattle.std.specs.Prelude.{◌≡◌, ◌<◌, ◌≤◌, [], length, take};
 ghost use Rattle.crossbeam_deque.specs.Handles.{view, IsPassOf, worker_deque};
 ghost use Rattle.crossbeam_deque.specs.Handles.{stealer_deque, worker_flavor, worker_view};
 ghost use Rattle.fts_pool.specs.Internals.Deque.{known, TookAll};
+ghost use Rattle.fts_pool.specs.Internals.Order.{ranked};
 ghost use Rattle.fts_pool.specs.Internals.Slots.{AreOf, IsFresh, IsReady, numbers_of};
 
 use crate::deque::{JobPass, JobStealer, JobWorker, Pop, Push, Share, Theft};
 use crate::gate::Gate;
 use crate::job::Job;
+use crate::order::RankedJob;
 use crate::slots::{Done, put, put_all, run_one};
 use crossbeam_deque::Steal;
 use std::alloc::Global;
 use std::sync::Wait;
 use std::thread::{Threads, join, yield_now};
 
-/// Pushes the numbers of this many jobs in order, until one is refused, and returns the number of pushed jobs.
-pub(crate) fn push_all(worker: &mut JobWorker, count: usize) -> usize
-    requires { worker_view worker.old ≡ known 64 0 [] }
+/// Pushes the numbers of jobs in this order, until one is refused, and returns how many were pushed.
+pub(crate) fn push_all(worker: &mut JobWorker, order: &[RankedJob]) -> usize
+    requires { worker_view worker.old ≡ known 64 [] [] }
     ensures deque { worker_deque worker.new ≡ worker_deque worker.old }
     ensures flavor { worker_flavor worker.new ≡ worker_flavor worker.old }
-    ensures pushed { worker_view worker.new ≡ known 64 result [] }
-    ensures most { result ≤ count }
+    ensures pushed { worker_view worker.new ≡ known 64 (ranked (take result order.now)) [] }
+    ensures most { result ≤ length order.now }
 {
-    for number in 0..count {
-        if worker.push_as::<Push>(number).is_err() {
-            return number;
+    for (pushed, job) in order.iter().enumerate() {
+        if worker.push_as::<Push>(job.number).is_err() {
+            return pushed;
         }
     }
-    count
+    order.len()
 }
 
 /// Steals jobs and runs them, one after the other, until there is none left or a result can't be stored.

@@ -1,6 +1,6 @@
 // fts_pool: each job is run once, between the gate's two calls, and its result is in its place, whatever the
 // workers do.
-use fts_pool::{Job, Open, run_all};
+use fts_pool::{Gate, Job, Open, run_all};
 use std::process::Abort;
 use std::sync::Wait;
 use std::sync::atomic::{AtomicU64, Ordering};
@@ -27,6 +27,10 @@ impl Job for Square {
     type Out = u64;
 
     ghost gives = { λ job out. out ≡ job.side * job.side };
+
+    fn cost(&self) -> u64 {
+        u64::from(self.side)
+    }
 
     fn run(&self) -> u64 {
         self.runs.fetch_add(1, Ordering::SeqCst);
@@ -78,6 +82,50 @@ fn a_thousand_jobs(rt: HostRuntime) {
         let jobs = thousand_jobs(&rt);
         let squares = run_all(&rt, rt.alloc(), &jobs, workers, &Open).expect(&rt, "squares");
         are_thousand_squares(&rt, &squares);
+        each_ran(&rt, &jobs, 1);
+    }
+}
+
+/// Looks how many jobs have ended when the one of this number begins.
+#[derive(Drop)]
+struct Last {
+    number: usize,
+    ended: AtomicU64,
+    before: AtomicU64,
+}
+
+impl Gate for Last {
+    fn before(&self, job: usize) {
+        if job == self.number {
+            let ended = self.ended.load(Ordering::SeqCst);
+            self.before.store(ended, Ordering::SeqCst);
+        }
+    }
+
+    fn after(&self, _job: usize) {
+        self.ended.fetch_add(1, Ordering::SeqCst);
+    }
+}
+
+/// Four jobs, of which the one of this number is the cheapest.
+fn four_jobs(cheapest: usize) -> [Square; 4] {
+    let mut jobs = [square_of(9), square_of(8), square_of(8), square_of(9)];
+    jobs[cheapest].side = 7;
+    jobs
+}
+
+#[test]
+fn the_cheapest_job_is_begun_last(rt: HostRuntime) {
+    for number in 0..4usize {
+        let jobs = four_jobs(number);
+        let gate = Last {
+            number,
+            ended: AtomicU64::new(0),
+            before: AtomicU64::new(0),
+        };
+        run_all(&rt, rt.alloc(), &jobs, 2, &gate).expect(&rt, "squares");
+        // Two workers took the three others before, and one of them at most hasn't ended.
+        assert!(rt; gate.before.load(Ordering::SeqCst) >= 2);
         each_ran(&rt, &jobs, 1);
     }
 }

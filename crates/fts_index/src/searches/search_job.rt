@@ -49,6 +49,12 @@ impl Job for SearchJob<'_> {
 
     ghost gives = { AnswersSearch };
 
+    /// The number of documents: as for `search_cost`, the segments are taken to be alike. To look each of them up would
+    /// take as long as some searches.
+    fn cost(&self) -> u64 {
+        self.entry.segment().docs() as u64
+    }
+
     fn run(&self) -> Result<Part, Refusal> {
         search_segment(self.alloc, self.entry, self.query, self.request)
     }

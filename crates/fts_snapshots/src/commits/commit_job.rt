@@ -42,6 +42,15 @@ impl Job for CommitJob<'_> {
 
     ghost gives = { Answers };
 
+    /// About how many nanoseconds it takes, without the deletes, which each job applies. A document of a new segment
+    /// takes some thousands; the live bits of an existing one are copied 64 at a time.
+    fn cost(&self) -> u64 {
+        match &self.task {
+            Task::Strike(entry) => entry.segment().docs() as u64 / 64,
+            Task::Build(segment) => segment.group.documents().len() as u64 * 8_000,
+        }
+    }
+
     /// Returns the segment that it leaves. The only refusal is `Memory`.
     fn run(&self) -> Result<Entry, Refusal> {
         match &self.task {

@@ -10,14 +10,14 @@ give_out-requires-clause-slots g c κs within =
 
 pub into_results-requires-clause-filled : goal.into_results-requires-clause-filled
 into_results-requires-clause-filled g c n below =
-    let len = slots_len g.J.Job.gives c.args.jobs.now c.run_from.new.slots.items c.run_from.ensures.slots in
-    c.run_from.ensures.filled n (search rules)
+    let len = slots_len g.J.Job.gives c.args.jobs.now c.in_ok-slots-2.slots.items c.in_ok-slots-2.ensures.slots in
+    c.in_ok-slots-2.ensures.filled n (search rules)
 
 pub into_results-requires-clause-room : goal.into_results-requires-clause-room
 into_results-requires-clause-room g c =
-    let len = slots_len g.J.Job.gives c.args.jobs.now c.run_from.new.slots.items c.run_from.ensures.slots in
+    let len = slots_len g.J.Job.gives c.args.jobs.now c.in_ok-slots-2.slots.items c.in_ok-slots-2.ensures.slots in
     search rules
 
 pub returns-clause-ok : goal.returns-clause-ok
 returns-clause-ok g c =
-    outs_of g.J.Job.gives c.args.jobs.now c.into_results.result.items (subst (AreSlots g.J.Job.gives c.args.jobs.now) c.into_results.ensures c.run_from.ensures.slots)
+    outs_of g.J.Job.gives c.args.jobs.now c.into_results.result.items (subst (AreSlots g.J.Job.gives c.args.jobs.now) c.into_results.ensures c.in_ok-slots-2.ensures.slots)

@@ -2,7 +2,7 @@
 use Rattle.std.proofs.Common.{ℕ, ◌<◌, length, sym, subst, arith}
 use Rattle.fts_pool.specs.Internals.Slots.{AreSlots, IsFilled}
 use Rattle.fts_pool.proofs.SlotsLemmas.{filled_more, slots_len, slots_put}
-use Rattle.fts_pool.proofs.slots.run_from.Goals as goal
+use Rattle.fts_pool.proofs.slots.run_in_turn.Goals as goal
 
 pub put-requires : goal.put-requires
 put-requires g c = let len = slots_len g.J.Job.gives c.args.jobs.now c.loop-number.slots.items c.loop-number.invariant.slots in omega arith
