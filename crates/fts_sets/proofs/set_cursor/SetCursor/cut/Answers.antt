@@ -1,0 +1,19 @@
+-- What remains is that of the set which is left.
+use Rattle.std.proofs.Common.{◌≡◌, ℕ, List, length, sym, subst}
+use Rattle.std.specs.Prelude.{IfSome}
+use Rattle.fts_sets.proofs.CursorLemmas.{IsSetCursor-found, cut_left}
+use Rattle.fts_sets.proofs.set_cursor.SetCursor.cut.Goals as goal
+
+pub invariant_of-self-2 : goal.invariant_of-self-2
+invariant_of-self-2 c =
+    let s = c.self.inside in
+    let b = c.begin-self-inside in
+    let left = cut_left s.set c.with.new.self c.args.self.now c.args.live.now s.at b.result c.self.view_is c.in_ok-with.ensures.kept b.ensures.same in
+    IsSetCursor-found c.with.new.self s.at b.result c.count_set-total.result b.new.window b.ensures
+    (subst (λ (xs : List ℕ). IfSome c.count_set-total.result (λ n. n ≡ length xs)) (sym left) c.count_set-total.ensures)
+
+pub returns-clause-cut : goal.returns-clause-cut
+returns-clause-cut c =
+    let s = c.self.inside in
+    let b = c.begin-self-inside in
+    cut_left s.set c.with.new.self c.args.self.now c.args.live.now s.at b.result c.self.view_is c.in_ok-with.ensures.kept b.ensures.same

@@ -1,0 +1,227 @@
+// Sets of documents that are told by their number.
+ghost use Rattle.std.specs.Prelude.{◌≡◌, ◌≢◌, ℕ, ◌+◌, ◌*◌, ◌^◌, ◌<◌, ◌≤◌, ◌&&◌, false, IfErr, IfOk, IfSome};
+ghost use Rattle.std.specs.Prelude.{filter, length, nat_le, not, slice_index};
+ghost use Rattle.std.specs.List.{range_with_len};
+ghost use Rattle.fts_pack.specs.Documents.{Rises};
+ghost use Rattle.fts_pack.specs.bits.Changes.{AreChanged};
+ghost use Rattle.fts_postings.specs.Remaining.{at_least};
+ghost use Rattle.fts_postings.specs.Sets.{has};
+ghost use Rattle.fts_postings.specs.Windows.{is_set};
+ghost use Rattle.fts_sets.specs.Leaves.{all_have, leaf_has, one_has};
+ghost use Rattle.fts_sets.specs.Rows.{AreMarked, Tells};
+
+use crate::leaf::{self, Leaf};
+use crate::rows;
+use fts_pack::bits::Bits;
+use fts_postings::Window;
+use std::alloc::{AllocError, Global};
+use std::marker::Model;
+
+/// How many documents are looked at to guess how many a set has.
+const SAMPLE: usize = 256;
+
+/// The documents that pass each of some tests, one of each of others, and none of still others. It borrows bits and
+/// columns. Contracts see the documents.
+#[derive(Drop)]
+pub struct DocIdSet<'a> {
+    // No document has this number or a higher one.
+    docs: usize,
+    all: Vec<Leaf<'a>>,
+    any: Vec<Vec<Leaf<'a>>>,
+    none: Vec<Leaf<'a>>,
+}
+
+impl<'a> Model for DocIdSet<'a> {
+    ghost use Rattle.std.specs.Prelude.{ℕ, List, ◌^◌, ◌≤◌};
+    ghost use Rattle.fts_postings.specs.Windows.{passing};
+    ghost use Rattle.fts_sets.specs.Leaves.{is_told};
+
+    ghost Value = { List ℕ };
+
+    ghost view = { λ s. passing (is_told s.docs s.all.items s.any.items s.none.items) 0 s.docs };
+
+    ghost invariant = { λ s. s.docs ≤ 2 ^ 32 };
+}
+
+impl<'a> DocIdSet<'a> {
+    /// The first documents, this many.
+    pub fn every(alloc: Global, docs: usize) -> DocIdSet<'a>
+        requires { docs ≤ 2 ^ 32 }
+        ensures { result ≡ range_with_len 0 docs }
+    {
+        DocIdSet {
+            docs,
+            all: Vec::new(alloc),
+            any: Vec::new(alloc),
+            none: Vec::new(alloc),
+        }
+    }
+
+    /// Keeps only the documents that pass.
+    pub fn with(&mut self, leaf: Leaf<'a>) -> Result<(), AllocError>
+        ensures kept { IfOk result (λ _. self.new ≡ filter (leaf_has leaf.entry) self.old) }
+        ensures failed { IfErr result (λ _. self.new ≡ self.old) }
+    {
+        match leaf {
+            Leaf::Below(docs) => self.docs = self.docs.min(docs),
+            Leaf::Set(_) | Leaf::Within { .. } => self.all.push(leaf)?,
+        }
+        Ok(())
+    }
+
+    /// Keeps only the documents that pass each of these.
+    pub fn with_each(&mut self, leaves: &[Leaf<'a>]) -> Result<(), AllocError>
+        ensures { IfOk result (λ _. self.new ≡ filter (all_have leaves.now) self.old) }
+    {
+        for leaf in leaves {
+            self.with(*leaf)?;
+        }
+        Ok(())
+    }
+
+    /// Keeps only the documents that pass one of these.
+    pub fn with_any(&mut self, leaves: Vec<Leaf<'a>>) -> Result<(), AllocError>
+        ensures { IfOk result (λ _. self.new ≡ filter (one_has leaves.entry.items) self.old) }
+    {
+        if leaves.len() == 1 {
+            return self.with(leaves[0]);
+        }
+        self.any.push(leaves)?;
+        Ok(())
+    }
+
+    /// Keeps only the documents that pass none of these.
+    pub fn without_each(&mut self, leaves: &[Leaf<'a>]) -> Result<(), AllocError>
+        ensures { IfOk result (λ _. self.new ≡ filter (λ d. not (one_has leaves.now d)) self.old) }
+    {
+        for leaf in leaves {
+            self.without(*leaf)?;
+        }
+        Ok(())
+    }
+
+    fn without(&mut self, leaf: Leaf<'a>) -> Result<(), AllocError>
+        ensures { IfOk result (λ _. self.new ≡ filter (λ d. not (leaf_has leaf.entry d)) self.old) }
+    {
+        self.none.push(leaf)?;
+        Ok(())
+    }
+
+    /// A number that is greater than each document. Contracts learn here that these rise.
+    #[inline]
+    pub fn docs(&self) -> usize
+        ensures few { result ≤ 2 ^ 32 }
+        ensures past { (d : ℕ) → result ≤ d → has self.now d ≡ false }
+        ensures rises { Rises 0 self.now }
+    {
+        self.docs
+    }
+
+    /// Whether the document is one of them.
+    #[inline]
+    pub fn has(&self, doc: usize) -> bool
+        ensures { result ≡ has self.now doc }
+    {
+        if doc >= self.docs {
+            return false;
+        }
+        if !leaf::all_have(&self.all, doc) {
+            return false;
+        }
+        if !leaf::each_has(&self.any, doc) {
+            return false;
+        }
+        !leaf::one_has(&self.none, doc)
+    }
+
+    /// How many documents there are: their number, if bits alone tell them, otherwise about their number, by a sample.
+    pub fn estimate(&self) -> usize {
+        if self.any.is_empty() && self.none.is_empty() && self.all.len() == 1 {
+            if let Leaf::Set(bits) = &self.all[0] {
+                return bits.count_ones();
+            }
+        }
+        // An odd step, so that a sample doesn't follow what alternates.
+        let step = self.docs / SAMPLE | 1;
+        let mut found = 0usize;
+        for place in 0..SAMPLE {
+            let hit = self.has(place.saturating_mul(step));
+            found = found.saturating_add(usize::from(hit));
+        }
+        found.saturating_mul(step)
+    }
+
+    /// How many documents have their bit set, if it is known since there is no test.
+    pub fn count_set(&self, bits: &Bits) -> Option<usize>
+        ensures { IfSome result (λ n. n ≡ length (filter (is_set bits.now) self.now)) }
+    {
+        if !self.all.is_empty() || !self.any.is_empty() || !self.none.is_empty() || bits.len() != self.docs {
+            return None;
+        }
+        Some(bits.count_ones())
+    }
+
+    /// An upper bound on the documents from one on.
+    pub fn cost_from(&self, from: usize) -> usize
+        ensures { length (at_least from self.now) ≤ result }
+    {
+        self.docs.saturating_sub(from)
+    }
+
+    /// How many documents there are from one on.
+    pub fn count_from(&self, from: usize) -> usize
+        ensures { result ≡ length (at_least from self.now) }
+    {
+        let words = self.docs / 64 + 1;
+        let mut count = 0;
+        let mut index = from / 64;
+        while index < words {
+            let row = self.row(index, 16, from);
+            count += rows::ones(&row);
+            index += 16;
+        }
+        count
+    }
+
+    /// Marks the documents from one on in a window, up to the window's last.
+    pub fn mark(&self, window: &mut Window, first: u32)
+        requires { window.old.from ≤ first }
+        ensures place { (window.new.from ≡ window.old.from) × (window.new.last ≡ window.old.last) }
+        ensures marked { AreMarked (λ d. nat_le first d && has self.now d) window.old window.new }
+    {
+        let end = window.last as usize / 64 + 1;
+        let mut index = first as usize / 64;
+        while index < end {
+            let words = (end - index).min(16);
+            let row = self.row(index, words, first as usize);
+            window.mark_words(64 * index as u64, &row[..words]);
+            index += words;
+        }
+    }
+
+    /// The documents from `first` on, of this many words from the word of an index on.
+    #[inline]
+    fn row(&self, index: usize, words: usize, first: usize) -> [u64; 16]
+        requires few { words ≤ 16 }
+        requires near { index < 2 ^ 57 }
+        requires first { first < 64 * index + 64 }
+        ensures { (k : ℕ) → k < words
+            → Tells (λ d. nat_le first d && has self.now d) (64 * (index + k)) (slice_index result k) }
+    {
+        let mut row = rows::begin(index, words, first);
+        self.cut(index, &mut row);
+        row
+    }
+
+    /// Keeps of the documents that 16 words tell, from the word of an index on, those of the set.
+    #[inline]
+    fn cut(&self, index: usize, row: &mut [u64; 16])
+        requires { index < 2 ^ 57 }
+        ensures { AreChanged (λ doc told. told && has self.now doc) index row.old row.new }
+    {
+        rows::keep_first(self.docs, index, row);
+        rows::keep_each(&self.all, index, row);
+        rows::keep_clauses(&self.any, index, row);
+        rows::drop_each(&self.none, index, row);
+    }
+}

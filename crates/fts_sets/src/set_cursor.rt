@@ -1,0 +1,244 @@
+// A cursor over the documents of a set.
+ghost use Rattle.std.specs.Prelude.{◌≡◌, ℕ, ◌+◌, ◌^◌, ◌<◌, ◌≤◌, IfOk, IfErr, IfSome, [], true, filter, length};
+ghost use Rattle.fts_postings.specs.Remaining.{at_least};
+ghost use Rattle.fts_postings.specs.Sets.{has};
+ghost use Rattle.fts_postings.specs.Windows.{is_set};
+ghost use Rattle.fts_sets.specs.Rows.{AreMarked, Holds, IsFound};
+
+use crate::doc_id_set::DocIdSet;
+use crate::leaf::Leaf;
+use fts_pack::bits::Bits;
+use fts_postings::{DocSet, Window};
+use std::alloc::AllocError;
+use std::marker::Model;
+
+/// A number above each document, since these have 32 bits.
+const END: usize = 4_294_967_296;
+
+/// How far a window reaches where few documents may be asked for: two words.
+const NEAR: u32 = 127;
+
+/// How far it reaches after steps.
+const FAR: u32 = 4095;
+
+/// A cursor over the documents of a set. The next of them are in a window.
+#[derive(Drop)]
+pub struct SetCursor<'a> {
+    set: DocIdSet<'a>,
+    // How many documents remain, if that is known.
+    total: Option<usize>,
+    // The first document that remains, or `END`.
+    at: usize,
+    // It has the documents of the set from there to its last.
+    window: Window,
+}
+
+impl<'a> Model for SetCursor<'a> {
+    ghost use Rattle.std.specs.Prelude.{ℕ, List};
+    ghost use Rattle.fts_postings.specs.Remaining.{at_least};
+    ghost use Rattle.fts_sets.specs.Rows.{IsSetCursor};
+
+    ghost Value = { List ℕ };
+
+    ghost view = { λ c. at_least c.at c.set };
+
+    ghost invariant = { λ c. IsSetCursor c.set c.total c.at c.window };
+}
+
+impl<'a> SetCursor<'a> {
+    /// A cursor over a set, and how many documents this has, if that is known.
+    pub fn new(set: DocIdSet<'a>, total: Option<usize>) -> SetCursor<'a>
+        requires { IfSome total (λ n. n ≡ length set) }
+        ensures { result ≡ set.entry }
+    {
+        let mut window = Window::new();
+        let at = begin(&set, &mut window, 0);
+        SetCursor {
+            set,
+            total,
+            at,
+            window,
+        }
+    }
+
+    /// An upper bound on the documents that remain: their number, if it is known, otherwise the number of those not
+    /// looked at.
+    pub fn cost(&self) -> usize
+        ensures { length self.now ≤ result }
+    {
+        match self.total {
+            Some(total) => total,
+            None => self.set.cost_from(self.at),
+        }
+    }
+
+    /// How many documents remain. Passes them, without listing them; if their number is known, none is looked at.
+    pub fn count(&mut self) -> usize
+        ensures count { result ≡ length self.old }
+        ensures none { self.new ≡ [] }
+    {
+        let count = self.remaining();
+        self.total = None;
+        self.at = END;
+        count
+    }
+
+    /// How many documents remain.
+    fn remaining(&self) -> usize
+        ensures { result ≡ length self.now }
+    {
+        match self.total {
+            Some(total) => total,
+            None => self.set.count_from(self.at),
+        }
+    }
+
+    /// Marks the documents that have a place in a window, and passes them.
+    pub fn mark(&mut self, window: &mut Window)
+        requires { self.old ≡ at_least window.old.from self.old }
+        ensures marked { AreMarked (has self.old) window.old window.new }
+        ensures passed { self.new ≡ at_least (window.old.last + 1) self.old }
+        ensures place { (window.new.from ≡ window.old.from) × (window.new.last ≡ window.old.last) }
+    {
+        if self.at < END {
+            self.set.mark(window, self.at as u32);
+            self.pass(window.last as usize + 1);
+        }
+    }
+
+    /// Passes the documents below the target.
+    fn pass(&mut self, target: usize)
+        ensures { self.new ≡ at_least target self.old }
+    {
+        if self.at < target {
+            self.total = None;
+            self.at = find(&self.set, &mut self.window, target);
+        }
+    }
+
+    /// Leaves only those of the remaining documents whose bit is set.
+    pub fn cut(&mut self, live: &'a Bits) -> Result<(), AllocError>
+        ensures cut { IfOk result (λ _. self.new ≡ filter (is_set live.now) self.old) }
+        ensures failed { IfErr result (λ _. self.new ≡ self.old) }
+    {
+        let total = self.count_set(live);
+        self.set.with(Leaf::Set(live))?;
+        self.total = total;
+        self.at = begin(&self.set, &mut self.window, self.at);
+        Ok(())
+    }
+
+    /// How many of the documents that remain have their bit set, if it is known since each document remains.
+    fn count_set(&self, live: &Bits) -> Option<usize>
+        ensures { IfSome result (λ n. n ≡ length (filter (is_set live.now) self.now)) }
+    {
+        let total = self.total?;
+        if total != self.set.docs() {
+            return None;
+        }
+        self.set.count_set(live)
+    }
+}
+
+impl DocSet for SetCursor<'_> {
+    ghost remaining = { λ c. c };
+
+    #[inline]
+    fn doc(&self) -> Option<u32> {
+        if self.at < END {
+            Some(self.at as u32)
+        } else {
+            None
+        }
+    }
+
+    #[inline]
+    fn advance(&mut self) {
+        self.pass(self.at + 1);
+    }
+
+    #[inline]
+    fn seek(&mut self, target: u32) {
+        self.pass(target as usize);
+    }
+
+    /// Takes what fits of the window.
+    fn take(&mut self, out: &mut [u32; 128]) -> usize {
+        if self.at >= END {
+            return 0;
+        }
+        self.window.seek(self.at as u32);
+        let count = self.window.take(out);
+        self.total = None;
+        self.at = find(&self.set, &mut self.window, out[count - 1] as usize + 1);
+        count
+    }
+}
+
+/// The first document of a set from a number on, or `END`. The window is begun anew, and has those of the set from there
+/// to its last.
+fn begin(set: &DocIdSet, window: &mut Window, from: usize) -> usize
+    ensures { IsFound set.now from result window.new }
+{
+    let docs = set.docs();
+    if from >= docs {
+        return END;
+    }
+    fill(set, window, from as u32, NEAR);
+    find(set, window, from)
+}
+
+/// As `begin`, in a window that has the documents of the set from there to its last.
+fn find(set: &DocIdSet, window: &mut Window, from: usize) -> usize
+    requires { Holds set.now from window.old }
+    ensures { IsFound set.now from result window.new }
+{
+    let docs = set.docs();
+    let mut at = from;
+    while at < docs {
+        cover(set, window, at as u32, docs);
+        window.seek(at as u32);
+        if let Some(doc) = window.first() {
+            return doc as usize;
+        }
+        at = window.last as usize + 1;
+    }
+    END
+}
+
+/// Begins a window anew, if it has no place for a document.
+#[inline]
+fn cover(set: &DocIdSet, window: &mut Window, doc: u32, docs: usize)
+    requires { Holds set.now doc window.old }
+    ensures holds { Holds set.now doc window.new }
+    ensures within { doc ≤ window.new.last }
+{
+    if window.covers(doc) {
+        return;
+    }
+    let above = doc as usize - window.last as usize;
+    let reach = reach(docs.saturating_sub(doc as usize), above);
+    fill(set, window, doc, reach);
+}
+
+/// Begins a window anew at a document, with those of the set from there on.
+fn fill(set: &DocIdSet, window: &mut Window, from: u32, reach: u32)
+    requires { reach ≤ 4095 }
+    ensures holds { Holds set.now from window.new }
+    ensures within { from ≤ window.new.last }
+{
+    window.begin(from, reach);
+    set.mark(window, from);
+}
+
+/// How far a window reaches that begins this far above the last of the one before, if so many documents may remain.
+#[inline]
+fn reach(remaining: usize, above: usize) -> u32
+    ensures { result ≤ 4095 }
+{
+    if above > 128 {
+        NEAR
+    } else {
+        (FAR as usize).min(remaining) as u32
+    }
+}
