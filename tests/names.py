@@ -26,7 +26,7 @@ OF_A_SUBJECT = {
     "fts_cli": {"parser"},
     "fts_collect": {"collector", "searches", "walk"},
     "fts_cursor": {
-        "any", "filter", "hit_tests", "list_union", "phrase", "query_tree", "rows", "scan", "term_lists", "tree/live", "word_marks",
+        "any", "filter", "hit_sets", "list_union", "phrase", "query_tree", "term_lists", "tree/live",
     },
     "fts_engine_local": {"local_policy"},
     "fts_index": {"publications/left_right_rule", "publications/publication_log"},
@@ -40,6 +40,7 @@ OF_A_SUBJECT = {
     "fts_scan": {"answers", "matcher", "operations", "terms"},
     "fts_script": {"session/commands", "session/group_search", "streams"},
     "fts_segment": {"binary_search", "dictionary_merge", "segment_join", "term_merge", "token_log"},
+    "fts_sets": {"rows"},
     "fts_snapshots": {"entries/ids"},
     "fts_text": {"case_fold", "characters", "tokenizer"},
 }

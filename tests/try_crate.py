@@ -45,6 +45,7 @@ TABLE = {
     "fts_segment": Tried(SEGMENTS, "segments generated joins lists", "tests_segments"),
     "fts_merge": Tried(SEGMENTS, "merges joins cuttings", "tests_segments"),
     "fts_postings": Tried(SEGMENTS, "cursors walks"),
+    "fts_sets": Tried(SEGMENTS, "cursors walks queries collectors"),
     "fts_cursor": Tried(SEGMENTS, "cursors walks queries"),
     "fts_parts": Tried(SEGMENTS, "collectors cuttings", "tests_segments"),
     "fts_collect": Tried(SEGMENTS, "collectors cuttings", "tests_segments"),

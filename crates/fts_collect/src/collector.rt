@@ -16,11 +16,12 @@ ghost use Rattle.fts_parts.specs.Collected.{AreHits, HasRanked, HasSeen, HasValu
 ghost use Rattle.fts_parts.specs.Collected.{hits_at};
 
 use crate::walk::offer_best;
-use fts_cursor::{Cursor, DocSet, HitTest, cursor_of, hit_test};
+use fts_cursor::{Cursor, DocSet, cursor_of, hit_set};
 use fts_model::{Query, Refusal, Request, Top};
 use fts_pack::bits::Bits;
 use fts_parts::{Part, Seen, TopK, nothing_seen, see, told};
 use fts_segment::Segment;
+use fts_sets::DocIdSet;
 use std::alloc::{AllocError, Global};
 
 /// The number of hits that remain of a cursor, or the greatest `usize`, if nothing else is asked for and the cursor can
@@ -98,7 +99,7 @@ fn see_beside(
 fn see_told(
     alloc: Global,
     segment: &Segment,
-    hits: &HitTest,
+    hits: &DocIdSet,
     count: usize,
     request: &Request,
     top: Top,
@@ -145,7 +146,7 @@ fn see_hits(
     let Some(top) = request.top else {
         return see_all(segment, request, cursor, seen);
     };
-    let Some(hits) = hit_test(alloc, segment, live, query)? else {
+    let Some(hits) = hit_set(alloc, segment, live, query)? else {
         return see_all(segment, request, cursor, seen);
     };
     let count = hits.estimate();

@@ -10,16 +10,16 @@ ghost use Rattle.fts_segment.specs.Segments.{column};
 ghost use Rattle.fts_parts.specs.Collected.{AreHits};
 ghost use Rattle.fts_collect.specs.Internals.Walks.{IsBetween, IsEnd, RanksMore, hits_between};
 
-use fts_cursor::HitTest;
 use fts_model::{Order, Top};
 use fts_pack::{Blocks, ListRange, ListRef};
 use fts_parts::{Ranking, TopK, numbers_of};
 use fts_segment::Segment;
+use fts_sets::DocIdSet;
 use std::alloc::{AllocError, Global};
 
 /// Adds a document to others, if it is a hit.
 #[inline]
-fn push_hit(hits: &HitTest, doc: u32, found: &mut Vec<u32>) -> Result<(), AllocError>
+fn push_hit(hits: &DocIdSet, doc: u32, found: &mut Vec<u32>) -> Result<(), AllocError>
     ensures { OnOk result (found.new.items
         ≡ found.old.items ++ filter (has hits.now) (doc ∷ [])) }
 {
@@ -30,7 +30,7 @@ fn push_hit(hits: &HitTest, doc: u32, found: &mut Vec<u32>) -> Result<(), AllocE
 }
 
 /// Adds those of the documents to others that are hits.
-fn push_hits(hits: &HitTest, docs: &[u32], found: &mut Vec<u32>) -> Result<(), AllocError>
+fn push_hits(hits: &DocIdSet, docs: &[u32], found: &mut Vec<u32>) -> Result<(), AllocError>
     ensures { OnOk result (found.new.items
         ≡ found.old.items ++ filter (has hits.now) docs.now) }
 {
@@ -42,7 +42,7 @@ fn push_hits(hits: &HitTest, docs: &[u32], found: &mut Vec<u32>) -> Result<(), A
 
 /// Adds those documents of a list to others that are hits. Its blocks are opened in `open`.
 fn push_list(
-    hits: &HitTest,
+    hits: &DocIdSet,
     list: ListRef<'_>,
     open: &mut [u32; 128],
     found: &mut Vec<u32>,
@@ -63,7 +63,7 @@ fn listed_between(
     alloc: Global,
     segment: &Segment,
     field: usize,
-    hits: &HitTest,
+    hits: &DocIdSet,
     low: u64,
     high: u64,
 ) -> Result<Vec<u32>, AllocError>
@@ -87,7 +87,7 @@ fn hits_between(
     alloc: Global,
     segment: &Segment,
     field: usize,
-    hits: &HitTest,
+    hits: &DocIdSet,
     low: u64,
     high: u64,
 ) -> Result<Vec<u32>, AllocError>
@@ -188,7 +188,7 @@ pub(crate) fn offer_best(
     alloc: Global,
     segment: &Segment,
     top: Top,
-    hits: &HitTest,
+    hits: &DocIdSet,
     count: usize,
     top_k: &mut TopK,
 ) -> Result<bool, AllocError>

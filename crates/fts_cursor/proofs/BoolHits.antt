@@ -21,7 +21,8 @@ use Rattle.fts_cursor.specs.Hits.{is_live, live_hits, segment_hits}
 use Rattle.fts_postings.specs.Sets.{common, union, without}
 use Rattle.fts_cursor.specs.TreeValues.{TreeValue, remains}
 use Rattle.fts_postings.proofs.SetLemmas.{Rises-filter}
-use Rattle.fts_cursor.proofs.HitsLemmas.{Rises-numbers, has-all, has-filter, hits_apart, hits_common, hits_of, hits_union, numbers_are, test_at}
+use Rattle.fts_cursor.proofs.HitsLemmas.{Rises-numbers, has-all, hits_apart, hits_common, hits_of, hits_union, numbers_are, test_at}
+use Rattle.fts_sets.proofs.SetLemmas.{has-filter}
 
 -- all musts match, and where there is none one of the shoulds
 abbrev pub kept_by : List Field → List Query → List Query → Stamped DocumentValue → Bool

@@ -7,7 +7,7 @@ use Rattle.std.proofs.lemmas.Bool.{cases_lt}
 use Rattle.std.proofs.lemmas.List.{get_or_default}
 use Rattle.fts_postings.specs.Sets.{common, has, in_all, union}
 use Rattle.fts_cursor.specs.TreeValues.{TreeValue, remains}
-use Rattle.fts_cursor.proofs.HitsLemmas.{has-filter, same_members}
+use Rattle.fts_sets.proofs.SetLemmas.{has-filter, same_members}
 use Rattle.fts_postings.proofs.SetLemmas.{Rises-filter}
 use Rattle.fts_postings.proofs.CostLemmas.{length-with_all}
 use Rattle.fts_pack.proofs.DocumentsLemmas.{Rises-from_increasing}

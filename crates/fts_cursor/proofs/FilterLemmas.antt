@@ -14,7 +14,7 @@ use Rattle.fts_postings.specs.Bounds.{Bound}
 use Rattle.fts_postings.specs.Conjoined.{AllFollow, Conjoined}
 use Rattle.fts_postings.proofs.CostLemmas.{length-filter-le}
 use Rattle.fts_postings.proofs.TakesLemmas.{Taken}
-use Rattle.fts_cursor.specs.Dense.{in_each}
+use Rattle.fts_sets.specs.Leaves.{in_each}
 use Rattle.fts_cursor.specs.Hits.{is_live}
 use Rattle.fts_cursor.specs.Filters.{filtered}
 use Rattle.fts_cursor.specs.Standing.{Continues}

@@ -16,7 +16,9 @@ use Rattle.fts_postings.specs.Remaining.{at_least}
 use Rattle.fts_postings.specs.Windows.{is_found, passing}
 use Rattle.fts_postings.specs.Sets.{IsLeast, has, in_some, union, with_all, with_one}
 use Rattle.fts_cursor.specs.TreeValues.{Left, TreeContinues, TreeValue, beside, remains, together}
-use Rattle.fts_cursor.specs.Trees.{AreBeyond, AreMarked, IsBuffered, IsNow, found, gathered}
+use Rattle.fts_cursor.specs.Trees.{AreBeyond, IsBuffered, IsNow, gathered}
+use Rattle.fts_sets.specs.Rows.{AreMarked, found}
+use Rattle.fts_sets.proofs.MarkLemmas.{found_behind, found_rises}
 use Rattle.fts_cursor.specs.declared.tree.buffered_union.BufferedUnion.{BufferedUnion}
 use Rattle.fts_cursor.specs.declared.tree.Node.TheVariants.{Or}
 use Rattle.fts_postings.specs.declared.window.Window.{Window}
@@ -28,7 +30,7 @@ use Rattle.fts_postings.proofs.PassingLemmas.{Rises-passing, increasing-passing}
 use Rattle.fts_cursor.proofs.PartsLemmas.{TreeContinues-beside, TreeContinues-same, TreeContinues-together, UpTo, UpTo-next, UpTo-none, union-left}
 use Rattle.fts_postings.proofs.UnionLemmas.{Rises-union, at_least-with_all, by_order, first_of, has-union, has-with_one, in_some-append, leaves, union_first}
 use Rattle.fts_postings.proofs.UnionLemmas.{with_one-front}
-use Rattle.fts_cursor.proofs.HitsLemmas.{has-filter, has-range, past-range, same_members}
+use Rattle.fts_sets.proofs.SetLemmas.{has-filter, has-range, past-range, same_members}
 use Rattle.fts_cursor.proofs.TreeLemmas.{IsNow-first, drop_first, from_union, parts_from, stays_from_first}
 use Rattle.fts_pack.proofs.DocumentsLemmas.{Rises-from_increasing}
 
@@ -57,131 +59,17 @@ has-at_least_low target (x ∷ xs) d low = elim (cases_lt x target) [
       ∙ ap₂ (λ a b. a || b) (below_is_other x d (omega (arith, low, stay))) (has-at_least_low target xs d low)
 ]
 
--- a window has nothing behind its last document
-passing-behind : (p : ℕ → Bool) (a n d : ℕ) → a + n ≤ d → has (passing p a n) d ≡ false
-passing-behind p a zero d high = refl
-passing-behind p a (suc n) d high =
-    let rest = passing-behind p (a + 1) n d (omega (arith, high)) in
-    elim (cases_Bool (p a)) [
-      | inl kept ↦ ap (λ b. has (cond b (a ∷ passing p (a + 1) n) (passing p (a + 1) n)) d) kept
-          ∙ ap₂ (λ x y. x || y) (above_is_other a d (omega (arith, high))) rest
-      | inr other ↦ ap (λ b. has (cond b (a ∷ passing p (a + 1) n) (passing p (a + 1) n)) d) other ∙ rest
-    ]
-
-found_behind : (w : Window) (d : ℕ) → w.last < d → has (found w) d ≡ false
-found_behind w d high = elim (cases_lt w.last w.from) [
-  | inl over ↦ let none : suc w.last - w.from ≡ 0 = omega (arith, over) in ap (λ n. has (passing (is_found w.base w.words) w.from n) d) none
-  | inr stands ↦ passing-behind (is_found w.base w.words) w.from (suc w.last - w.from) d (omega (arith, high, stands))
-]
-
-found_rises : (w : Window) → Rises 0 (found w)
-found_rises w = Rises-from_increasing (found w)
-    (increasing-from_Rises w.from (found w) (Rises-passing (is_found w.base w.words) w.from (suc w.last - w.from)))
-
 found_first : (w : Window) (doc : ℕ) → Some doc ≡ slice_get (found w) 0 → doc ≤ w.last
 found_first w doc first = elim (cases_lt w.last doc) [
   | inl past ↦ absurd (false≢true (sym (found_behind w doc past) ∙ has-first (found w) doc first))
   | inr within ↦ within
 ]
 
--- the first of what is left of those from a number on is no less, and what was dropped lies below it
-Rises-got : (low : ℕ) (xs : List ℕ) (first : ℕ) → Rises low xs → Some first ≡ slice_get xs 0 → low ≤ first
-Rises-got low [] first up is = absurd (let e : Some first ≡ None = is in cc)
-Rises-got low (x ∷ xs) first up is = let same : first ≡ x = cc in omega (arith, same, up.0)
-
-dropped_below : (low : ℕ) (xs : List ℕ) (at first : ℕ) → Rises low xs → Some first ≡ slice_get (drop at xs) 0 →
-    (low ≤ first) × (at_least first (drop at xs) ≡ at_least first xs)
-dropped_below low xs zero first up is = (Rises-got low xs first up is, refl)
-dropped_below low [] (suc at) first up is = absurd (let e : Some first ≡ None = is in cc)
-dropped_below low (x ∷ xs) (suc at) first up is =
-    let rest = dropped_below (suc x) xs at first up.1 is in
-    (omega (arith, rest.0, up.0), rest.1 ∙ sym (leaves first x xs (omega (arith, rest.0))))
-
-first_from : (test : ℕ → Bool) (from n at first : ℕ) → Some first ≡ slice_get (drop at (passing test from n)) 0 → from ≤ first
-first_from test from n at first is = (dropped_below from (passing test from n) at first (Rises-passing test from n) is).0
-
-at_least-dropped : (test : ℕ → Bool) (from n at first : ℕ) → Some first ≡ slice_get (drop at (passing test from n)) 0 →
-    at_least first (drop at (passing test from n)) ≡ at_least first (passing test from n)
-at_least-dropped test from n at first is = (dropped_below from (passing test from n) at first (Rises-passing test from n) is).1
-
--- none is left from a target on that no document reaches
-or_right : (a b : Bool) → (a || b) ≡ false → b ≡ false
-or_right true b h = absurd (false≢true (sym h))
-or_right false b h = h
-
-has-dropped : (at : ℕ) (xs : List ℕ) (d : ℕ) → has xs d ≡ false → has (drop at xs) d ≡ false
-has-dropped zero xs d h = h
-has-dropped (suc at) [] d h = refl
-has-dropped (suc at) (x ∷ xs) d h = has-dropped at xs d (or_right (x == d) (has xs d) h)
-
-pub none_from : (p : ℕ → Bool) (from docs at target : ℕ) → docs ≤ target → at_least target (drop at (passing p from (docs - from))) ≡ []
-none_from p from docs at target few =
-    let all = passing p from (docs - from) in
-    let gone : (d : ℕ) → target ≤ d → has all d ≡ false = λ d up. elim (cases_lt from docs) [
-      | inl some ↦ passing-behind p from (docs - from) d (omega (arith, some, few, up))
-      | inr none ↦ let e : docs - from ≡ 0 = omega (arith, none) in ap (λ n. has (passing p from n) d) e
-    ] in
-    same_members 0 (at_least target (drop at all)) [] (Rises-from_increasing (at_least target (drop at all)) (IsStrictlyIncreasing-filter (λ d. nat_le target d)
-    (drop at all) (increasing-passing p from (docs - from) at))) tt
-    (λ d. elim (cases_lt d target) [
-      | inl low ↦ has-at_least_low target (drop at all) d low
-      | inr up ↦ has-at_least target (drop at all) d up ∙ has-dropped at all d (gone d up)
-    ])
-
 -- nothing is marked where nothing is left
 pub AreMarked-none : (xs : List ℕ) (w : Window) → None ≡ slice_get xs 0 → AreMarked (has xs) w w
 AreMarked-none xs w none d =
     sym (ap (λ b. has (found w) d || (nat_le d w.last && b)) (has-none xs d none)
     ∙ ap (λ b. has (found w) d || b) (and-false (nat_le d w.last)) ∙ or-false (has (found w) d))
-
--- marks of documents from a first one on that pass
-pub found_marked : (base from last : ℕ) (old new : List ℕ) (test : ℕ → Bool) (first : ℕ) → base ≤ from → from ≤ first →
-    ((d : ℕ) → base ≤ d → d ≤ last → is_found base new d ≡ (is_found base old d || (nat_le first d && test d))) →
-    (d : ℕ) → has (passing (is_found base new) from (suc last - from)) d
-    ≡ (has (passing (is_found base old) from (suc last - from)) d || (nat_le d last && (nat_le first d && test d)))
-found_marked base from last old new test first order low same d =
-    let n = suc last - from in
-    let p = is_found base new in
-    let q = is_found base old in
-    let both = has-filter p (range_with_len from n) d in
-    let before = has-filter q (range_with_len from n) d in
-    elim (cases_lt d from) [
-      | inl under ↦
-          has-below from (passing p from n) d (Rises-passing p from n) under
-          ∙ sym (ap₂ (λ a b. a || (nat_le d last && (b && test d))) (has-below from (passing q from n) d (Rises-passing q from n) under)
-          (lt-leb first d (omega (arith, under, low))) ∙ and-false (nat_le d last))
-      | inr up ↦ elim (cases_lt last d) [
-        | inl past ↦
-            both ∙ ap (λ b. b && p d) (past-range from n d (omega (arith, past, up)))
-            ∙ sym (ap₂ (λ a b. a || (b && (nat_le first d && test d))) (before ∙ ap (λ b. b && q d) (past-range from n d (omega (arith, past, up))))
-            (lt-leb d last past))
-        | inr within ↦
-            let there = has-range from n d up (omega (arith, within, up)) in
-            both ∙ ap (λ b. b && p d) there ∙ same d (omega (arith, order, up)) within
-            ∙ sym (ap₂ (λ a b. a || (b && (nat_le first d && test d))) (before ∙ ap (λ b. b && q d) there) (le-leb d last within))
-      ]
-    ]
-
--- what is left of those that pass has all of them from its first on
-pub left_told : (test : ℕ → Bool) (from docs at first : ℕ) → ((d : ℕ) → docs ≤ d → test d ≡ false) →
-    Some first ≡ slice_get (drop at (passing test from (docs - from))) 0 →
-    (d : ℕ) → has (drop at (passing test from (docs - from))) d ≡ (nat_le first d && test d)
-left_told test from docs at first past is d =
-    let all = passing test from (docs - from) in
-    let left = drop at all in
-    let rises = increasing-passing test from (docs - from) at in
-    let stands : from ≤ first = first_from test from (docs - from) at first is in
-    elim (cases_lt d first) [
-      | inl low ↦ has-before_first left first d rises is low ∙ sym (ap (λ b. b && test d) (lt-leb first d low))
-      | inr up ↦
-          sym (has-at_least first left d up) ∙ ap (λ xs. has xs d) (at_least-dropped test from (docs - from) at first is) ∙ has-at_least first all d up
-          ∙ has-filter test (range_with_len from (docs - from)) d
-          ∙ elim (cases_lt d docs) [
-            | inl inside ↦ ap (λ b. b && test d) (has-range from (docs - from) d (omega (arith, stands, up)) (omega (arith, stands, up, inside)))
-            | inr over ↦ ap (λ b. b && test d) (past-range from (docs - from) d (omega (arith, over, stands, up))) ∙ sym (past d over)
-          ]
-          ∙ sym (ap (λ b. b && test d) (le-leb first d up))
-    ]
 
 -- how far the documents of a part were marked
 pub record IsMarking (initial now : List ℕ) (old new : Window) : Type 0 where

@@ -20,7 +20,8 @@ use Rattle.std.proofs.lemmas.Option.{slice_get_past}
 use Rattle.std.proofs.Math.Bool.{and-false}
 use Rattle.fts_postings.proofs.PassingLemmas.{Rises-passing}
 use Rattle.fts_postings.proofs.SetLemmas.{Rises-filter, Rises-lower, above_is_other, has-below, is_itself}
-use Rattle.fts_postings.proofs.UnionLemmas.{Rises-union, by_order, has-union}
+use Rattle.fts_postings.proofs.UnionLemmas.{Rises-union, has-union}
+use Rattle.fts_sets.proofs.SetLemmas.{has-filter, has-range, past-range, same_members}
 
 -- whether the element of this number is there, and passes
 abbrev pub test_at : {X : Type 0} → (X → Bool) → List X → ℕ → Bool
@@ -56,51 +57,6 @@ has-numbers p k (x ∷ xs) (suc n) =
       | true ↦ ap (λ b. b || has (numbers_where p (k + 1) xs) (k + suc n)) (above_is_other k (k + suc n) (omega arith)) ∙ rest
       | false ↦ rest
     ]
-
--- a filter keeps the members that pass
-pub has-filter : (p : ℕ → Bool) (xs : List ℕ) (d : ℕ) → has (filter p xs) d ≡ (has xs d && p d)
-has-filter p [] d = refl
-has-filter p (x ∷ xs) d =
-    let rest = has-filter p xs d in
-    elim (cases_Bool (x == d)) [
-      | inl here ↦
-          let same : x ≡ d = eqb-true x d here in
-          let all : (has (x ∷ xs) d && p d) ≡ p d = ap (λ b. (b || has xs d) && p d) here in
-          elim (cases_Bool (p d)) [
-            | inl passes ↦
-                ap (λ b. has (cond b (x ∷ filter p xs) (filter p xs)) d) (ap p same ∙ passes) ∙ ap (λ b. b || has (filter p xs) d) here ∙ sym (all ∙ passes)
-            | inr fails ↦
-                ap (λ b. has (cond b (x ∷ filter p xs) (filter p xs)) d) (ap p same ∙ fails) ∙ rest ∙ ap (λ b. has xs d && b) fails ∙ and-false (has xs d)
-                ∙ sym (all ∙ fails)
-          ]
-      | inr other ↦
-          let all : (has xs d && p d) ≡ (has (x ∷ xs) d && p d) = ap (λ b. (b || has xs d) && p d) (sym other) in
-          elim (p x) as (λ b. has (cond b (x ∷ filter p xs) (filter p xs)) d ≡ (has (x ∷ xs) d && p d)) [
-            | true ↦ ap (λ b. b || has (filter p xs) d) other ∙ rest ∙ all
-            | false ↦ rest ∙ all
-          ]
-    ]
-
-behind : (x d : ℕ) (xs ys : List ℕ) → Rises (suc x) xs → Rises (suc x) ys → (has (x ∷ xs) d ≡ has (x ∷ ys) d) → has xs d ≡ has ys d
-behind x d xs ys up over same = elim (cases_lt x d) [
-  | inl above ↦
-      let other = above_is_other x d above in
-      ap (λ b. b || has xs d) (sym other) ∙ same ∙ ap (λ b. b || has ys d) other
-  | inr low ↦ has-below (suc x) xs d up (omega (arith, low)) ∙ sym (has-below (suc x) ys d over (omega (arith, low)))
-]
-
--- rising lists of the same members are the same
-pub same_members : (next : ℕ) (xs ys : List ℕ) → Rises next xs → Rises next ys → ((d : ℕ) → has xs d ≡ has ys d) → xs ≡ ys
-same_members next [] [] h k same = refl
-same_members next [] (y ∷ ys) h k same = absurd (false≢true (same y ∙ ap (λ b. b || has ys y) (is_itself y)))
-same_members next (x ∷ xs) [] h k same = absurd (false≢true (sym (same x) ∙ ap (λ b. b || has xs x) (is_itself x)))
-same_members next (x ∷ xs) (y ∷ ys) h k same = by_order ((x ∷ xs) ≡ (y ∷ ys)) x y
-    (λ lt. absurd (false≢true (sym (has-below y (y ∷ ys) x (omega arith, k.1) lt) ∙ sym (same x) ∙ ap (λ b. b || has xs x) (is_itself x))))
-    (λ eq.
-    let over : Rises (suc x) ys = subst (λ n. Rises (suc n) ys) (sym eq) k.1 in
-    ap (λ zs. x ∷ zs) (same_members (suc x) xs ys h.1 over (λ d. behind x d xs ys h.1 over (same d ∙ ap (λ z. (z == d) || has ys d) (sym eq))))
-    ∙ ap (λ z. z ∷ ys) eq)
-    (λ gt. absurd (false≢true (sym (has-below x (x ∷ xs) y (omega arith, h.1) gt) ∙ same y ∙ ap (λ b. b || has ys y) (is_itself y))))
 
 -- the documents of a segment that a query of the code finds
 abbrev pub hits_of : SegmentValue → Query → List ℕ
@@ -179,19 +135,6 @@ hits_apart p q xs =
     (Rises-numbers p 0 xs))
     (λ d. has-filter (lacks (numbers_where q 0 xs)) (numbers_where p 0 xs) d ∙ ap₂ (λ a b. a && not b) (has-all p xs d) (has-all q xs d) ∙ at_apart p q
     (slice_get xs d))
-
-pub has-range : (a n d : ℕ) → a ≤ d → d < a + n → has (range_with_len a n) d ≡ true
-has-range a zero d low high = absurd (omega (arith, low, high))
-has-range a (suc n) d low high = elim (cases_lt a d) [
-  | inl above ↦ ap (λ b. b || has (range_with_len (a + 1) n) d) (above_is_other a d above) ∙ has-range (a + 1) n d (omega (arith, above)) (omega (arith, high))
-  | inr here ↦ let same : a ≡ d = omega (arith, low, here) in ap (λ y. (y == d) || has (range_with_len (a + 1) n) d) same
-      ∙ ap (λ b. b || has (range_with_len (a + 1) n) d) (is_itself d)
-]
-
-pub past-range : (a n d : ℕ) → a + n ≤ d → has (range_with_len a n) d ≡ false
-past-range a zero d past = refl
-past-range a (suc n) d past = ap (λ b. b || has (range_with_len (a + 1) n) d) (above_is_other a d (omega (arith, past)))
-    ∙ past-range (a + 1) n d (omega (arith, past))
 
 -- those of a range of numbers that pass
 pub passing_are : {X : Type 0} (p : X → Bool) (xs : List X) (test : ℕ → Bool) → ((d : ℕ) → d < length xs → test d ≡ test_at p xs d) →

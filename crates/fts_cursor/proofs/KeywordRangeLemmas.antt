@@ -25,7 +25,7 @@ use Rattle.fts_segment.proofs.OccurrencesLemmas.{map-map}
 use Rattle.fts_postings.specs.Windows.{passing}
 use Rattle.fts_cursor.specs.Ranges.{IsLastOrdinal, ordinal_from, ordinal_to}
 use Rattle.fts_pack.specs.column.Column.{is_within}
-use Rattle.fts_cursor.specs.Scans.{has_within}
+use Rattle.fts_sets.specs.Leaves.{has_within}
 use Rattle.fts_cursor.proofs.FitLemmas.{are_of_kind, of_kind_at}
 use Rattle.fts_cursor.proofs.HitsLemmas.{numbers_are, passing_are, test_at}
 use Rattle.fts_cursor.proofs.RangeLemmas.{admits, small_of}

@@ -25,7 +25,8 @@ use Rattle.fts_cursor.specs.Splits.{bound_over}
 use Rattle.fts_postings.specs.Sets.{common, has, in_all}
 use Rattle.fts_postings.specs.Posting.{Posting, remaining_of}
 use Rattle.fts_cursor.specs.Terms.{AreTied, IsTied}
-use Rattle.fts_cursor.proofs.HitsLemmas.{Rises-hits, at_all, has-filter, hits_of, in_all-hits, numbers_are}
+use Rattle.fts_cursor.proofs.HitsLemmas.{Rises-hits, at_all, hits_of, in_all-hits, numbers_are}
+use Rattle.fts_sets.proofs.SetLemmas.{has-filter}
 use Rattle.fts_postings.proofs.SetLemmas.{Rises-filter, is_itself}
 use Rattle.fts_cursor.proofs.TermsLemmas.{terms-continue}
 

@@ -1,7 +1,6 @@
 pub mod TermsLemmas
 pub mod TermLemmas
 pub mod AloneLemmas
-pub mod ScanLemmas
 pub mod CountLemmas
 pub mod PartsLemmas
 pub mod TreeLemmas
@@ -22,11 +21,8 @@ pub mod KeywordRangeLemmas
 pub mod CostLemmas
 pub mod ListedLemmas
 pub mod LiveLemmas
-pub mod DenseLemmas
 pub mod CutLemmas
-pub mod RowLemmas
 pub mod FilterLemmas
 pub mod SplitLemmas
 pub mod TestsLemmas
-pub mod WordLemmas
 pub mod ShouldsLemmas

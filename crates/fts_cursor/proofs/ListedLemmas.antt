@@ -17,8 +17,8 @@ use Rattle.fts_postings.proofs.RemainingLemmas.{at_least_place, increasing-from_
 use Rattle.fts_postings.proofs.UnionLemmas.{Rises-union, has-union}
 use Rattle.fts_segment.specs.Between.{AreBetween}
 use Rattle.fts_pack.specs.column.Column.{is_within}
-use Rattle.fts_cursor.specs.Scans.{has_within}
-use Rattle.fts_cursor.proofs.HitsLemmas.{has-filter, has-range, past-range, same_members}
+use Rattle.fts_sets.specs.Leaves.{has_within}
+use Rattle.fts_sets.proofs.SetLemmas.{has-filter, has-range, past-range, same_members}
 use Rattle.fts_pack.proofs.DocumentsLemmas.{Rises-from_increasing}
 
 -- what is left rises too

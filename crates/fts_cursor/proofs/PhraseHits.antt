@@ -34,7 +34,8 @@ use Rattle.std.proofs.lemmas.List.Elements.{All-cons, All-nil}
 use Rattle.std.proofs.Math.Bool.{and-false, and-true, and_comm}
 use Rattle.fts_postings.proofs.RemainingLemmas.{increasing-from_Rises}
 use Rattle.fts_postings.proofs.SetLemmas.{Rises-filter}
-use Rattle.fts_cursor.proofs.HitsLemmas.{Rises-numbers, has-all, has-filter, numbers_are, test_at}
+use Rattle.fts_cursor.proofs.HitsLemmas.{Rises-numbers, has-all, numbers_are, test_at}
+use Rattle.fts_sets.proofs.SetLemmas.{has-filter}
 use Rattle.fts_cursor.proofs.PhraseLeads.{All-removed, AllZip-at, AllZip-removed, all_each, any_some, documents-led, phrase-led}
 use Rattle.fts_cursor.proofs.PhraseLemmas.{IsPaired, none_below}
 use Rattle.fts_pack.proofs.DocumentsLemmas.{Rises-from_increasing}

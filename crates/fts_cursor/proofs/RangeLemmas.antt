@@ -27,7 +27,7 @@ use Rattle.fts_segment.specs.FieldIndexes.{NumbersFit}
 use Rattle.fts_segment.specs.Occurrences.{values_in}
 use Rattle.fts_segment.specs.Segments.{SegmentValue, column, number_in, number_of, numbers_where}
 use Rattle.fts_cursor.specs.Ranges.{IsGreatestOf, IsLeastOf, IsWhole, IsWholeBound, key_from, key_of, key_to}
-use Rattle.fts_cursor.specs.Scans.{has_within}
+use Rattle.fts_sets.specs.Leaves.{has_within}
 use Rattle.fts_postings.specs.Windows.{passing}
 use Rattle.fts_cursor.proofs.FitLemmas.{AreOfKind, are_of_kind, of_kind_at}
 use Rattle.fts_cursor.proofs.HitsLemmas.{numbers_are, passing_are, test_at}

@@ -13,12 +13,13 @@ use Rattle.fts_postings.specs.Bounds.{most_at}
 use Rattle.fts_postings.specs.Sets.{has, in_some, union}
 use Rattle.fts_postings.proofs.UnionLemmas.{Rises-union, has-union, in_some-append}
 use Rattle.fts_segment.specs.Segments.{SegmentValue}
-use Rattle.fts_cursor.specs.Dense.{in_one}
+use Rattle.fts_sets.specs.Leaves.{in_one}
 use Rattle.fts_cursor.specs.Hits.{is_live}
 use Rattle.fts_cursor.specs.Most.{most_for, most_for_all}
 use Rattle.fts_cursor.specs.Shoulds.{AreShoulds}
 use Rattle.fts_cursor.specs.TreeValues.{TreeValue, all_most, remains}
-use Rattle.fts_cursor.proofs.HitsLemmas.{hits_of, same_members}
+use Rattle.fts_cursor.proofs.HitsLemmas.{hits_of}
+use Rattle.fts_sets.proofs.SetLemmas.{same_members}
 
 -- one query more
 hits_with : (segment : SegmentValue) (qs : List Query) (q : Query) (d : ℕ) →

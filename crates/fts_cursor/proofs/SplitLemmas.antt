@@ -16,7 +16,8 @@ use Rattle.fts_postings.specs.Sets.{common, has, in_all, lacks, union, without}
 use Rattle.fts_postings.specs.Windows.{passing}
 use Rattle.fts_postings.proofs.PassingLemmas.{Rises-passing}
 use Rattle.fts_postings.proofs.SetLemmas.{Rises-filter}
-use Rattle.fts_cursor.specs.Dense.{in_each, in_one}
+use Rattle.fts_sets.specs.declared.leaf.Leaf.{Leaf}
+use Rattle.fts_sets.specs.Leaves.{all_have, in_each, in_one, one_has}
 use Rattle.fts_cursor.specs.Hits.{is_live}
 use Rattle.fts_cursor.specs.Splits.{AreToldBy, FindsAll, IsSplit, bound_over}
 use Rattle.fts_cursor.specs.Standing.{Standing, at_most}
@@ -26,7 +27,9 @@ use Rattle.fts_segment.specs.Segments.{SegmentValue}
 use Rattle.fts_cursor.specs.Leading.{IsLed}
 use Rattle.fts_cursor.specs.Openings.{bound_of_all}
 use Rattle.fts_postings.proofs.SetLemmas.{is_itself}
-use Rattle.fts_cursor.proofs.HitsLemmas.{Rises-numbers, at_all, has-all, hits_of, in_all-hits, has-filter, has-range, past-range, same_members}
+use Rattle.fts_cursor.proofs.HitsLemmas.{Rises-numbers, at_all, has-all, hits_of, in_all-hits}
+use Rattle.std.proofs.Math.Bool.{and_assoc}
+use Rattle.fts_sets.proofs.SetLemmas.{has-filter, has-passing, has-range, past-range, same_members}
 use Rattle.fts_cursor.proofs.LeadingLemmas.{IsConjoinedOver, all_hits, led_hits}
 
 and_in : (a b c : Bool) → ((a && b) && (c && true)) ≡ ((a && (c && true)) && b)
@@ -86,37 +89,35 @@ FindsAll-conjoined shortest others c t h remaining openings bound = record {
   opened = λ d first at. omega (arith, openings, h.opened d first at);
 }
 
--- what is told of bits of which one is that of a list
-told_one : (a b c : Bool) → ((((a || false) && b)) && true) ≡ (a && b)
-told_one true true c = refl
-told_one true false c = refl
-told_one false b c = refl
-
 -- by words: all lists have bits
-module _ (shortest : List ℕ) (lists : List (List ℕ)) (first : Bor (List Bool)) (bits : List (Bor (List Bool))) (opened one : ℕ) (rises : Rises 0 shortest)
-    (tells : (d : ℕ) → is_live first.now d ≡ has shortest d) (split : IsSplit lists bits [] opened) where
-  abbrev pub test : ℕ → Bool
-  test d = ((is_live first.now d || false) && in_each bits d) && true
+module _ (shortest : List ℕ) (lists : List (List ℕ)) (first : Bor (List Bool)) (bits : List (Bor (List Bool))) (leaves : List Leaf) (opened one : ℕ)
+    (rises : Rises 0 shortest) (tells : (d : ℕ) → is_live first.now d ≡ has shortest d) (split : IsSplit lists bits [] opened)
+    (each : (d : ℕ) → all_have leaves d ≡ in_each bits d) where
+  abbrev pub told : List ℕ
+  told = filter (all_have leaves) (filter (is_live first.now) (range_with_len 0 (length first.now)))
 
-  told : (d : ℕ) → test d ≡ (has shortest d && in_all lists d)
-  told d =
-      let without : (b : Bool) → (b && true) ≡ b = elim [ true ↦ refl | false ↦ refl ] in
-      told_one (is_live first.now d) (in_each bits d) true ∙ ap₂ (λ a b. a && b) (tells d) (sym (without (in_each bits d)) ∙ sym (split.same d))
+  told_at : (d : ℕ) → (is_live first.now d && all_have leaves d) ≡ (has shortest d && in_all lists d)
+  told_at d =
+      let alone : (b : Bool) → b ≡ (b && true) = elim [ true ↦ refl | false ↦ refl ] in
+      ap₂ (λ a b. a && b) (tells d) (each d ∙ alone (in_each bits d) ∙ sym (split.same d))
 
-  pub told_all : passing test 0 (length first.now) ≡ common shortest lists
+  pub told_all : told ≡ common shortest lists
   told_all =
       let n = length first.now in
-      same_members 0 (passing test 0 n) (common shortest lists) (Rises-passing test 0 n) (Rises-filter 0 (in_all lists) shortest rises)
-      (λ d. has-filter test (range_with_len 0 n) d ∙ (elim (cases_lt d n) [
-        | inl inside ↦ (ap (λ b. b && test d) (has-range 0 n d (omega arith) (omega (arith, inside))) ∙ told d)
+      let range = range_with_len 0 n in
+      same_members 0 told (common shortest lists) (Rises-filter 0 (all_have leaves) (filter (is_live first.now) range) (Rises-passing (is_live first.now) 0 n))
+      (Rises-filter 0 (in_all lists) shortest rises)
+      (λ d. has-filter (all_have leaves) (filter (is_live first.now) range) d ∙ ap (λ a. a && all_have leaves d) (has-filter (is_live first.now) range d)
+      ∙ and_assoc (has range d) (is_live first.now d) (all_have leaves d) ∙ ap (λ b. has range d && b) (told_at d) ∙ (elim (cases_lt d n) [
+        | inl inside ↦ ap (λ b. b && (has shortest d && in_all lists d)) (has-range 0 n d (omega arith) (omega (arith, inside)))
         | inr past ↦ (
             let gone : is_live first.now d ≡ false = get_or_past first.now d false past in
-            ap (λ b. b && test d) (past-range 0 n d (omega (arith, past))) ∙ sym (ap (λ a. a && in_all lists d) (sym (tells d) ∙ gone))
+            ap (λ b. b && (has shortest d && in_all lists d)) (past-range 0 n d (omega (arith, past))) ∙ sym (ap (λ a. a && in_all lists d) (sym (tells d) ∙ gone))
             )
       ]) ∙ sym (has-filter (in_all lists) shortest d))
 
   pub FindsAll-told : (t : Standing) (sum : ℕ) → one ≤ block_count (length shortest) → (0 < length shortest → one ≡ 1) → sum ≡ opened + one →
-      t.remaining ≡ passing test 0 (length first.now) → t.openings ≡ sum → t.bound ≡ at_most sum → FindsAll shortest lists t
+      t.remaining ≡ told → t.openings ≡ sum → t.bound ≡ at_most sum → FindsAll shortest lists t
   FindsAll-told t sum few enters is remaining openings bound = record {
     remaining = remaining ∙ told_all;
     bound = λ doc.
@@ -212,20 +213,11 @@ AreToldBy-more lists bits x b h tells few = record {
       (All-nil (λ (c : Bor (List Bool)). length c.now ≤ 2 ^ 32)));
 }
 
-pub told_has : (bits : List (Bor (List Bool))) (docs : ℕ) → All (λ b. length b.now ≤ docs) bits →
-    (d : ℕ) → has (passing (λ d. (in_one bits d && true) && true) 0 docs) d ≡ in_one bits d
-told_has bits docs long d =
-    let test : ℕ → Bool = λ d. (in_one bits d && true) && true in
-    let plain : (b : Bool) → ((b && true) && true) ≡ b = elim [ true ↦ refl | false ↦ refl ] in
-    has-filter test (range_with_len 0 docs) d ∙ (elim (cases_lt d docs) [
-      | inl inside ↦ (ap (λ b. b && test d) (has-range 0 docs d (omega arith) (omega (arith, inside))) ∙ plain (in_one bits d))
-      | inr past ↦ (
-          let gone : in_one bits d ≡ false =
-          list_any_none (λ (b : Bor (List Bool)). is_live b.now d) bits (λ k b low. get_or_past (get_or bits k b).now d false
-          (let e = long k b low in omega (arith, e, past))) in
-          ap (λ b. b && test d) (past-range 0 docs d (omega (arith, past))) ∙ sym gone
-          )
-    ])
+pub told_has : (bits : List (Bor (List Bool))) (leaves : List Leaf) (docs : ℕ) → All (λ b. length b.now ≤ docs) bits →
+    ((d : ℕ) → one_has leaves d ≡ in_one bits d) → (d : ℕ) → has (filter (one_has leaves) (range_with_len 0 docs)) d ≡ in_one bits d
+told_has bits leaves docs long one d =
+    has-passing (one_has leaves) docs d (λ past. one d ∙ list_any_none (λ (b : Bor (List Bool)). is_live b.now d) bits
+    (λ k b low. get_or_past (get_or bits k b).now d false (let e = long k b low in omega (arith, e, past)))) ∙ one d
 
 pub hits_more : (segment : SegmentValue) (queries : List Query) (i : ℕ) (q : Query) → i < length queries → q ≡ get_or queries i q →
     map (hits_of segment) (take i queries) ++ hits_of segment q ∷ [] ≡ map (hits_of segment) (take (i + 1) queries)
@@ -240,37 +232,27 @@ has_all_hits segment [] d some = absurd (omega (arith, some))
 has_all_hits segment (q ∷ qs) d some =
     has-all _ segment.documents d ∙ sym (in_all-hits segment (q ∷ qs) d ∙ at_all segment.schema (slice_get segment.documents d) q qs)
 
-first_twice : (bs : List (Bor (List Bool))) (b : Bor (List Bool)) (d : ℕ) → b ≡ get_or bs 0 b → 0 < length bs →
-    ((is_live b.now d || false) && in_each bs d) ≡ in_each bs d
-first_twice [] b d same there = absurd (omega (arith, there))
-first_twice (x ∷ bs) b d same there =
-    let twice : (p q : Bool) → ((p || false) && (p && q)) ≡ (p && q) = elim [ true ↦ elim [ true ↦ refl | false ↦ refl ] | false ↦ λ q. refl ] in
-    ap (λ (c : Bor (List Bool)). (is_live c.now d || false) && in_each (x ∷ bs) d) same ∙ twice (is_live x.now d) (in_each bs d)
-
 first_gone : (bs : List (Bor (List Bool))) (b : Bor (List Bool)) (d : ℕ) → b ≡ get_or bs 0 b → 0 < length bs → length b.now ≤ d → in_each bs d ≡ false
 first_gone [] b d same there past = absurd (omega (arith, there))
 first_gone (x ∷ bs) b d same there past =
     ap (λ c. c && in_each bs d) (ap (λ (c : Bor (List Bool)). is_live c.now d) (sym same) ∙ get_or_past b.now d false past)
 
-pub told_apart : (segment : SegmentValue) (must must_not : List Query) (bits none : List (Bor (List Bool))) (first : Bor (List Bool)) → 0 < length must →
-    AreToldBy (map (hits_of segment) must) bits → AreToldBy (map (hits_of segment) must_not) none → first ≡ get_or bits 0 first →
-    passing (λ d. ((is_live first.now d || false) && in_each bits d) && not (in_one none d)) 0 (length first.now)
+pub told_apart : (segment : SegmentValue) (must must_not : List Query) (bits none : List (Bor (List Bool))) (kept dropped : List Leaf) (first : Bor (List Bool)) →
+    0 < length must → AreToldBy (map (hits_of segment) must) bits → AreToldBy (map (hits_of segment) must_not) none → first ≡ get_or bits 0 first →
+    ((d : ℕ) → all_have kept d ≡ in_each bits d) → ((d : ℕ) → one_has dropped d ≡ in_one none d) →
+    filter (λ d. not (one_has dropped d)) (filter (all_have kept) (range_with_len 0 (length first.now)))
     ≡ without (all_hits segment must) (union (map (hits_of segment) must_not))
-told_apart segment must must_not bits none first some told gone is =
-    let test : ℕ → Bool = λ d. ((is_live first.now d || false) && in_each bits d) && not (in_one none d) in
+told_apart segment must must_not bits none kept dropped first some told gone is all one =
     let n = length first.now in
-    let kept = all_hits segment must in
-    let dropped = union (map (hits_of segment) must_not) in
+    let range = range_with_len 0 n in
+    let test : ℕ → Bool = λ d. not (one_has dropped d) in
+    let these = all_hits segment must in
+    let those = union (map (hits_of segment) must_not) in
     let there : 0 < length bits = omega (arith, told.count, some, length-map must (hits_of segment)) in
-    let each : (d : ℕ) → in_each bits d ≡ has kept d = λ d. sym (has_all_hits segment must d some ∙ told.each d) in
-    let apart : (d : ℕ) → test d ≡ (has kept d && not (has dropped d)) = λ d.
-    ap₂ (λ a b. a && not b) (first_twice bits first d is there ∙ each d) (sym (has-union (map (hits_of segment) must_not) d ∙ gone.same d)) in
-    same_members 0 (passing test 0 n) (without kept dropped) (Rises-passing test 0 n)
-    (Rises-filter 0 (lacks dropped) kept (Rises-numbers _ 0 segment.documents))
-    (λ d. has-filter test (range_with_len 0 n) d ∙ (elim (cases_lt d n) [
-      | inl inside ↦ (ap (λ b. b && test d) (has-range 0 n d (omega arith) (omega (arith, inside))) ∙ apart d)
-      | inr past ↦ (
-          let missing : has kept d ≡ false = sym (each d) ∙ first_gone bits first d is there past in
-          ap (λ b. b && test d) (past-range 0 n d (omega (arith, past))) ∙ sym (ap (λ a. a && not (has dropped d)) missing)
-          )
-    ]) ∙ sym (has-filter (lacks dropped) kept d))
+    let each : (d : ℕ) → all_have kept d ≡ has these d = λ d. all d ∙ sym (has_all_hits segment must d some ∙ told.each d) in
+    let other : (d : ℕ) → one_has dropped d ≡ has those d = λ d. one d ∙ sym (has-union (map (hits_of segment) must_not) d ∙ gone.same d) in
+    same_members 0 (filter test (filter (all_have kept) range)) (without these those) (Rises-filter 0 test (filter (all_have kept) range)
+    (Rises-passing (all_have kept) 0 n)) (Rises-filter 0 (lacks those) these (Rises-numbers _ 0 segment.documents))
+    (λ d. has-filter test (filter (all_have kept) range) d
+    ∙ ap (λ a. a && test d) (has-passing (all_have kept) n d (λ past. all d ∙ first_gone bits first d is there past))
+    ∙ ap₂ (λ a b. a && not b) (each d) (other d) ∙ sym (has-filter (lacks those) these d))

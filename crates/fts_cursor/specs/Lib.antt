@@ -4,14 +4,12 @@ pub mod Openings
 pub mod Phrases
 pub mod Leading
 pub mod Builds
-pub mod Scans
 pub mod TreeValues
 pub mod Trees
 pub mod Falls
 pub mod Ranges
 pub mod Hits
 pub mod Live
-pub mod Dense
 pub mod Filters
 pub mod Splits
 pub mod Tests

@@ -15,7 +15,7 @@ use Rattle.fts_postings.specs.Windows.{passing}
 use Rattle.fts_segment.specs.Keywords.{before, up_to}
 use Rattle.fts_segment.specs.Segments.{SegmentValue, column, ordinals}
 use Rattle.fts_cursor.specs.Hits.{segment_hits}
-use Rattle.fts_cursor.specs.Scans.{has_within}
+use Rattle.fts_sets.specs.Leaves.{has_within}
 
 -- a number as a column keeps it; a text is 0
 abbrev pub key_of : FieldValue → ℕ

@@ -5,7 +5,7 @@ use Rattle.fts_model.specs.declared.query.Query.{Query}
 use Rattle.fts_model.specs.QueryValues.{query_list, query_value}
 use Rattle.fts_segment.specs.Segments.{SegmentValue}
 use Rattle.fts_postings.specs.Sets.{in_some}
-use Rattle.fts_cursor.specs.Dense.{in_one}
+use Rattle.fts_sets.specs.Leaves.{in_one}
 use Rattle.fts_cursor.specs.Hits.{segment_hits}
 use Rattle.fts_cursor.specs.Most.{most_for_all}
 use Rattle.fts_cursor.specs.TreeValues.{TreeValue, all_most, remains}

@@ -4,7 +4,7 @@ use Rattle.std.specs.Borrow.{Bor}
 use Rattle.fts_pack.specs.Documents.{block_count}
 use Rattle.fts_postings.specs.Bounds.{Bound, most_at}
 use Rattle.fts_postings.specs.Sets.{common, has, in_all, in_some}
-use Rattle.fts_cursor.specs.Dense.{in_each, in_one}
+use Rattle.fts_sets.specs.Leaves.{in_each, in_one}
 use Rattle.fts_cursor.specs.Standing.{Standing}
 
 -- the bits of some of the lists, and the others; this many blocks were opened of those with bits, the first of each

@@ -9,7 +9,6 @@ use Rattle.fts_postings.specs.Sets.{FirstPasses, common, has, in_all, in_some, l
 use Rattle.fts_cursor.specs.Standing.{at_most}
 use Rattle.fts_cursor.specs.Terms.{AreTied, IsAlone, of_terms}
 use Rattle.fts_cursor.specs.TreeValues.{TreeValue, beside, leaf, remains, together}
-use Rattle.fts_postings.specs.Windows.{found_in}
 use Rattle.fts_cursor.specs.declared.tree.buffered_union.BufferedUnion.{BufferedUnion}
 use Rattle.fts_cursor.specs.declared.tree.exclusion.Exclusion.{Exclusion}
 use Rattle.fts_cursor.specs.declared.tree.intersection.Intersection.{Intersection}
@@ -19,18 +18,11 @@ use Rattle.fts_cursor.specs.declared.tree.Node.TheVariants.{And, Or, Without}
 use Rattle.fts_cursor.specs.declared.tree.Source.{Source}
 use Rattle.fts_cursor.specs.declared.tree.Source.TheVariants.{Nothing, Cursor}
 use Rattle.fts_postings.specs.declared.window.Window.{Window}
-
--- the documents of a window
-abbrev pub found : Window → List ℕ
-found window = found_in window.base window.from window.last window.words
+use Rattle.fts_sets.specs.Rows.{found}
 
 -- each of the lists begins after the window
 abbrev pub AreBeyond : Window → List (List ℕ) → Type 0
 AreBeyond window lists = (d : ℕ) → d ≤ window.last → in_some lists d ≡ false
-
--- the window has those too that pass, up to its last
-abbrev pub AreMarked : (ℕ → Bool) → Window → Window → Type 0
-AreMarked test old new = (d : ℕ) → has (found new) d ≡ (has (found old) d || (nat_le d old.last && test d))
 
 -- what the window has, and the parts
 abbrev pub gathered : BufferedUnion → List ℕ

@@ -5,7 +5,6 @@ ghost use Rattle.fts_cursor.specs.Builds.{is_term};
 ghost use Rattle.fts_model.specs.Queries.{matches};
 ghost use Rattle.fts_model.specs.QueryValues.{query_value};
 ghost use Rattle.fts_segment.specs.Segments.{numbers_where};
-ghost use Rattle.fts_cursor.specs.Dense.{in_one};
 ghost use Rattle.fts_cursor.specs.Hits.{is_live, segment_hits};
 ghost use Rattle.fts_cursor.specs.Splits.{AreToldBy};
 ghost use Rattle.fts_cursor.specs.Standing.{at_most};
@@ -13,15 +12,14 @@ ghost use Rattle.fts_cursor.specs.TreeValues.{all_most, remains};
 ghost use Rattle.fts_pack.specs.Documents.{Rises};
 ghost use Rattle.fts_postings.specs.Bounds.{most_at};
 ghost use Rattle.fts_postings.specs.Sets.{has, in_some, union, without};
+ghost use Rattle.fts_sets.specs.Leaves.{in_one};
 
-use crate::dense::Dense;
-use crate::rows::Kept;
-use crate::scan::ScanCursor;
 use crate::terms::{are_terms, is_term, list_of};
 use crate::tree::Tree;
 use fts_model::Query;
 use fts_pack::bits::Bits;
 use fts_segment::Segment;
+use fts_sets::{DocIdSet, SetCursor, leaves_of};
 use std::alloc::{AllocError, Global};
 
 /// Queries one of which must match: the bits of the lists of those that are terms and have some, and cursors of the
@@ -71,13 +69,11 @@ fn told<'a>(alloc: Global, bits: Vec<&'a Bits>) -> Result<Tree<'a>, AllocError>
     ensures rises { IfOk result (λ t. Rises 0 t.remaining) }
     ensures bound { IfOk result (λ t. t.bound ≡ at_most 0) }
 {
+    let leaves = leaves_of(alloc, &bits)?;
     let docs = longest(&bits);
-    let dense = Dense {
-        some: bits,
-        all: Vec::new(alloc),
-        none: Vec::new(alloc),
-    };
-    Tree::scan(alloc, ScanCursor::new(Kept::Told(dense), docs, None))
+    let mut set = DocIdSet::every(alloc, docs);
+    set.with_any(leaves)?;
+    Tree::scan(alloc, SetCursor::new(set, None))
 }
 
 /// The documents that have each of some terms and none of others. The lists of all these terms have bits, and there are
@@ -105,12 +101,13 @@ pub(crate) fn apart_by_words<'a>(
     let Some(none) = bits_of(alloc, segment, must_not)? else {
         return Ok(None);
     };
+    let kept = leaves_of(alloc, &all)?;
+    let dropped = leaves_of(alloc, &none)?;
     let first = all[0];
-    let docs = first.len();
-    let mut some = Vec::with_capacity(alloc, 1)?;
-    some.push(first)?;
-    let dense = Dense { some, all, none };
-    let tree = Tree::scan(alloc, ScanCursor::new(Kept::Told(dense), docs, None))?;
+    let mut set = DocIdSet::every(alloc, first.len());
+    set.with_each(&kept)?;
+    set.without_each(&dropped)?;
+    let tree = Tree::scan(alloc, SetCursor::new(set, None))?;
     Ok(Some(tree))
 }
 

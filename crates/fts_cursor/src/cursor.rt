@@ -12,7 +12,7 @@ use crate::filter::keep_set;
 use crate::tree::Tree;
 use fts_pack::bits::Bits;
 use fts_postings::DocSet;
-use std::alloc::{AllocError, Global};
+use std::alloc::AllocError;
 use std::marker::Model;
 
 /// The live documents of a segment that match a query, from the first on. It borrows the segment and its bits.
@@ -46,16 +46,12 @@ impl<'a> Cursor<'a> {
     }
 
     /// The cursor of the documents of the tree whose bit is set.
-    pub(crate) fn live(
-        alloc: Global,
-        tree: Tree<'a>,
-        live: &'a Bits,
-    ) -> Result<Cursor<'a>, AllocError>
+    pub(crate) fn live(tree: Tree<'a>, live: &'a Bits) -> Result<Cursor<'a>, AllocError>
         ensures remaining { IfOk result (λ c. c.remaining ≡ filter (is_live live.now) tree.entry.remaining) }
         ensures walked { IfOk result (λ c. Walked tree.entry.standing c) }
     {
         let mut tree = tree;
-        if tree.cut(alloc, live)? {
+        if tree.cut(live)? {
             return Ok(Cursor { tree, live: None });
         }
         settle(&mut tree, live);

@@ -6,16 +6,15 @@ ghost use Rattle.fts_postings.specs.Conjoined.{AllFollow, bound_of, common_of, c
 ghost use Rattle.fts_postings.specs.Remaining.{at_least};
 ghost use Rattle.fts_postings.specs.Sets.{FirstPasses};
 ghost use Rattle.fts_postings.specs.Takes.{Takes};
-ghost use Rattle.fts_cursor.specs.Dense.{in_each};
 ghost use Rattle.fts_cursor.specs.Hits.{is_live};
 ghost use Rattle.fts_cursor.specs.Standing.{Continues, Walked};
 ghost use Rattle.fts_cursor.specs.Terms.{AreTied};
+ghost use Rattle.fts_sets.specs.Leaves.{in_each};
 
-use crate::dense::in_each;
 use fts_pack::ListSource;
 use fts_pack::bits::Bits;
 use fts_postings::{Conjunction, DocSet};
-use std::alloc::{AllocError, Global};
+use std::alloc::AllocError;
 use std::marker::Model;
 
 /// A cursor over the documents that lists have in common and whose bits are set. The lists' documents are taken a
@@ -36,8 +35,8 @@ impl<'a> Model for FilterCursor<'a> {
     ghost Value = { Standing };
 
     ghost use Rattle.fts_postings.specs.Conjoined.{common_of};
-    ghost use Rattle.fts_cursor.specs.Dense.{in_each};
     ghost use Rattle.fts_cursor.specs.Filters.{IsFilter, filtered};
+    ghost use Rattle.fts_sets.specs.Leaves.{in_each};
 
     ghost view = { λ c. filtered c.terms c.opened (filter (in_each c.bits.items) (common_of c.terms)) };
 
@@ -67,7 +66,7 @@ impl<'a> FilterCursor<'a> {
     }
 
     /// Leaves only those of the remaining documents whose bit is set.
-    pub(crate) fn cut(&mut self, alloc: Global, live: &'a Bits) -> Result<(), AllocError>
+    pub(crate) fn cut(&mut self, live: &'a Bits) -> Result<(), AllocError>
         ensures cut { IfOk result (λ _. self.new.remaining ≡ filter (is_live live.now) self.old.remaining) }
         ensures failed { IfErr result (λ _. self.new ≡ self.old) }
         ensures walked { Walked self.old self.new }
@@ -180,6 +179,18 @@ pub(crate) fn keep_set(bits: &Bits, from: usize, end: usize, docs: &mut [u32; 12
         kept += usize::from(bits.contains(doc as usize));
     }
     kept
+}
+
+/// Whether the document's bit is set in each of these.
+#[inline]
+fn in_each(list: &[&Bits], doc: usize) -> bool
+    ensures { result ≡ in_each list.now doc }
+{
+    let mut found = true;
+    for bits in list {
+        found = found && bits.contains(doc);
+    }
+    found
 }
 
 /// Passes over documents whose bits aren't set.

@@ -21,22 +21,17 @@
 
 mod any;
 mod cursor;
-mod dense;
-mod doc_test;
 mod filter;
-mod hit_tests;
+mod hit_sets;
 mod list_union;
 mod phrase;
 mod query_tree;
 mod range;
-mod rows;
-mod scan;
 mod term_lists;
 mod terms;
 mod tree;
-mod word_marks;
 
 pub use cursor::Cursor;
 pub use fts_postings::{Conjunction, DocSet, PostingCursor};
-pub use hit_tests::{HitTest, hit_test};
+pub use hit_sets::hit_set;
 pub use query_tree::cursor_of;

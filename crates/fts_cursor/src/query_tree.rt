@@ -21,8 +21,6 @@ use crate::any::{Shoulds, apart_by_words, told_by, union_of};
 use crate::cursor::Cursor;
 use crate::phrase::{Member, PhraseCursor};
 use crate::range::of_range;
-use crate::rows::Kept;
-use crate::scan::ScanCursor;
 use crate::term_lists::cursor_over;
 use crate::terms::{are_terms, of_terms};
 use crate::tree::Tree;
@@ -31,6 +29,7 @@ use fts_pack::ListSource;
 use fts_pack::bits::Bits;
 use fts_postings::{Conjunction, PostingCursor};
 use fts_segment::{ListId, Segment};
+use fts_sets::{DocIdSet, SetCursor};
 use std::alloc::{AllocError, Global};
 
 /// The cursor of a query over the documents of a segment whose bits are set.
@@ -55,7 +54,7 @@ pub fn cursor_of<'a>(
             if live.is_all_set() {
                 return Ok(Cursor::all(tree));
             }
-            match Cursor::live(alloc, tree, live) {
+            match Cursor::live(tree, live) {
                 Err(AllocError) => Err(Refusal::Memory),
                 Ok(cursor) => Ok(cursor),
             }
@@ -229,7 +228,8 @@ fn of_all(alloc: Global, segment: &Segment) -> Result<Tree<'_>, AllocError>
     ensures bound { IfOk result (λ t. t.bound ≡ at_most 0) }
 {
     let docs = segment.docs();
-    Tree::scan(alloc, ScanCursor::new(Kept::Every, docs, Some(docs)))
+    let every = DocIdSet::every(alloc, docs);
+    Tree::scan(alloc, SetCursor::new(every, Some(docs)))
 }
 
 /// The documents that have a term.

@@ -13,19 +13,18 @@ ghost use Rattle.fts_postings.specs.Bounds.{most_at};
 ghost use Rattle.fts_segment.specs.Segments.{column, keywords, ordinals};
 ghost use Rattle.fts_cursor.specs.Ranges.{AreBoundsOf, IsGreatestOf, IsLastOrdinal, IsLeastOf, IsWhole, IsWholeBound};
 ghost use Rattle.fts_cursor.specs.Ranges.{key_of, ordinal_from, values_of};
-ghost use Rattle.fts_cursor.specs.Scans.{has_within};
 ghost use Rattle.fts_postings.specs.Windows.{passing};
+ghost use Rattle.fts_sets.specs.Leaves.{has_within};
 ghost use Rattle.fts_segment.specs.Between.{AreBetween, count_between};
 
 use crate::list_union::ListedCursor;
-use crate::rows::Kept;
-use crate::scan::ScanCursor;
 use crate::tree::Tree;
 use fts_model::{FieldValue, Number};
 use fts_pack::ListRange;
 use fts_pack::bits::i64_to_u64;
 use fts_pack::column::Column;
 use fts_segment::Segment;
+use fts_sets::{DocIdSet, Leaf, SetCursor};
 use std::alloc::{AllocError, Global};
 use std::ops::Bound;
 
@@ -154,13 +153,9 @@ fn between<'a>(
         // No document is in two lists, so the blocks are no more than the documents.
         return Tree::listed(alloc, listed, opened.min(documents as u64));
     }
-    let kept = Kept::Within {
-        column,
-        low,
-        high,
-        live: None,
-    };
-    Tree::scan(alloc, ScanCursor::new(kept, docs, Some(documents)))
+    let mut set = DocIdSet::every(alloc, docs);
+    set.with(Leaf::Within { column, low, high })?;
+    Tree::scan(alloc, SetCursor::new(set, Some(documents)))
 }
 
 /// The least ordinal that a lower bound of a text admits.

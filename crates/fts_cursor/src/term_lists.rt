@@ -8,14 +8,12 @@ ghost use Rattle.fts_cursor.specs.Hits.{is_live};
 ghost use Rattle.fts_cursor.specs.Leading.{IsOver};
 ghost use Rattle.fts_cursor.specs.Splits.{FindsAll, FindsSplit, IsSplit};
 
-use crate::dense::Dense;
 use crate::filter::FilterCursor;
-use crate::rows::Kept;
-use crate::scan::ScanCursor;
 use crate::tree::Tree;
 use fts_pack::bits::Bits;
 use fts_pack::{ListRef, ListSource};
 use fts_postings::{Conjunction, PostingCursor};
+use fts_sets::{DocIdSet, Leaf, SetCursor, leaves_of};
 use std::alloc::{AllocError, Global};
 
 /// The documents that a list, which leads, and others have in common.
@@ -93,16 +91,11 @@ fn all_told<'a>(
     ensures { IfOk result (λ t. FindsSplit (listed shortest.entry) bits.entry.items [] opened t.standing) }
 {
     let opened = opened.saturating_add(cursor_over(shortest).openings());
-    let docs = first.len();
-    let mut some = Vec::with_capacity(alloc, 1)?;
-    some.push(first)?;
-    let dense = Dense {
-        some,
-        all: bits,
-        none: Vec::new(alloc),
-    };
-    let scan = ScanCursor::new(Kept::Told(dense), docs, None);
-    Tree::dense(alloc, scan, opened)
+    let leaves = leaves_of(alloc, &bits)?;
+    let mut set = DocIdSet::every(alloc, first.len());
+    set.with(Leaf::Set(first))?;
+    set.with_each(&leaves)?;
+    Tree::dense(alloc, SetCursor::new(set, None), opened)
 }
 
 /// The cursor if some of the others have bits.

@@ -23,12 +23,12 @@ mod live;
 use crate::filter::FilterCursor;
 use crate::list_union::ListedCursor;
 use crate::phrase::PhraseCursor;
-use crate::scan::ScanCursor;
 use buffered_union::{BufferedUnion, count_gathered, gather, refill, take_gathered};
 use exclusion::{Exclusion, settle};
 use fts_pack::bits::Bits;
 use fts_pack::{ListRef, ListSource};
 use fts_postings::{Conjunction, DocSet, PostingCursor, Window};
+use fts_sets::SetCursor;
 use intersection::{Intersection, align};
 use std::alloc::{AllocError, Global};
 use std::marker::Model;
@@ -54,7 +54,7 @@ enum Source<'a> {
 #[derive(Drop)]
 enum Node<'a> {
     /// The count is the number of blocks that were opened of the lists whose documents it has.
-    Scan(ScanCursor<'a>, u64),
+    Scan(SetCursor<'a>, u64),
     /// The count is the number of blocks that were opened to list the documents.
     Listed(ListedCursor, u64),
     Postings(PostingCursor<ListSource<'a>>),
@@ -108,7 +108,7 @@ impl<'a> Tree<'a> {
 
     /// The tree of documents that are tested by their number alone.
     #[inline(never)]
-    pub(crate) fn scan(alloc: Global, scan: ScanCursor<'a>) -> Result<Tree<'a>, AllocError>
+    pub(crate) fn scan(alloc: Global, scan: SetCursor<'a>) -> Result<Tree<'a>, AllocError>
         ensures remaining { IfOk result (λ t. t.remaining ≡ scan.entry) }
         ensures counts { IfOk result (λ t. (t.openings ≡ 0) × (t.bound ≡ at_most 0)) }
     {
@@ -118,7 +118,7 @@ impl<'a> Tree<'a> {
     /// The tree of documents that are given by bits of lists. `opened` blocks of these lists were opened.
     pub(crate) fn dense(
         alloc: Global,
-        scan: ScanCursor<'a>,
+        scan: SetCursor<'a>,
         opened: u64,
     ) -> Result<Tree<'a>, AllocError>
         ensures remaining { IfOk result (λ t. t.remaining ≡ scan.entry) }
@@ -230,7 +230,7 @@ impl<'a> Tree<'a> {
     }
 
     /// Leaves only those of the remaining documents whose bit is set, if words give both, and returns whether it did.
-    pub(crate) fn cut(&mut self, alloc: Global, live: &'a Bits) -> Result<bool, AllocError>
+    pub(crate) fn cut(&mut self, live: &'a Bits) -> Result<bool, AllocError>
         ensures cut { IfOk result (λ did. did ≡ true
             → self.new.remaining ≡ filter (is_live live.now) self.old.remaining) }
         ensures uncut { IfOk result (λ did. did ≡ false → self.new.remaining ≡ self.old.remaining) }
@@ -241,12 +241,12 @@ impl<'a> Tree<'a> {
         };
         match &mut **node {
             Node::Scan(scan, _) => {
-                let did = scan.cut(alloc, live)?;
+                scan.cut(live)?;
                 self.doc = scan.doc();
-                Ok(did)
+                Ok(true)
             }
             Node::Filter(filter) => {
-                filter.cut(alloc, live)?;
+                filter.cut(live)?;
                 self.doc = filter.doc();
                 Ok(true)
             }

@@ -8,7 +8,8 @@ ghost use Rattle.fts_postings.specs.Remaining.{at_least};
 ghost use Rattle.fts_postings.specs.Takes.{Takes};
 ghost use Rattle.fts_cursor.specs.TreeValues.{Left, TreeContinues, remains};
 ghost use Rattle.fts_cursor.specs.Standing.{Walked};
-ghost use Rattle.fts_cursor.specs.Trees.{AreBeyond, AreMarked, IsNow, StandsAt, found, gathered, tree_value};
+ghost use Rattle.fts_cursor.specs.Trees.{AreBeyond, IsNow, StandsAt, gathered, tree_value};
+ghost use Rattle.fts_sets.specs.Rows.{AreMarked, found};
 
 use crate::tree::{Node, Source, Tree};
 use fts_pack::ListSource;
@@ -141,11 +142,8 @@ fn mark_part(part: &mut Tree, window: &mut Window)
     match &mut **node {
         Node::Postings(postings) => part.doc = mark_postings(postings, window),
         Node::Scan(scan, _) => {
-            if scan.mark(window) {
-                part.doc = scan.doc();
-            } else {
-                mark_any(part, window);
-            }
+            scan.mark(window);
+            part.doc = scan.doc();
         }
         _ => mark_any(part, window),
     }

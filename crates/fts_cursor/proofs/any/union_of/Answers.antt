@@ -7,7 +7,7 @@ use Rattle.fts_pack.specs.Documents.{Rises}
 use Rattle.fts_postings.specs.Bounds.{Bound, most_at}
 use Rattle.fts_postings.specs.Sets.{has, in_some}
 use Rattle.fts_postings.proofs.UnionLemmas.{Rises-union, has-union}
-use Rattle.fts_cursor.specs.Dense.{in_one}
+use Rattle.fts_sets.specs.Leaves.{in_one}
 use Rattle.fts_cursor.specs.TreeValues.{remains}
 use Rattle.fts_cursor.proofs.ShouldsLemmas.{most_push, or_other, remains_push}
 use Rattle.fts_cursor.proofs.any.union_of.Goals as goal

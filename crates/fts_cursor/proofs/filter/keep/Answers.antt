@@ -2,7 +2,7 @@
 use Rattle.std.proofs.Common.{◌≡◌, ◌+◌, length, take, ap, sym, ◌∙◌, arith}
 use Rattle.std.specs.List.{filter}
 use Rattle.std.proofs.lemmas.List.{length-take-le, take_all}
-use Rattle.fts_cursor.specs.Dense.{in_each}
+use Rattle.fts_sets.specs.Leaves.{in_each}
 use Rattle.fts_cursor.proofs.FilterLemmas.{filter-every, left_next, passed_next}
 use Rattle.fts_cursor.proofs.filter.keep.Goals as goal
 

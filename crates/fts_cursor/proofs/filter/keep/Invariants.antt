@@ -1,7 +1,7 @@
 -- Those that the bits so far tell are at the front.
 use Rattle.std.proofs.Common.{◌≡◌, ◌+◌, ◌≤◌, length, take}
 use Rattle.std.specs.List.{filter}
-use Rattle.fts_cursor.specs.Dense.{in_each}
+use Rattle.fts_sets.specs.Leaves.{in_each}
 use Rattle.fts_cursor.proofs.filter.keep.Given as goal
 
 abbrev pub invariant-loop-one : goal.invariant-loop-one

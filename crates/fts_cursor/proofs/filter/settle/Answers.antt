@@ -1,7 +1,7 @@
 -- A document that bits don't tell is passed over.
 use Rattle.std.proofs.Common.{◌≡◌, false, refl, sym, ◌∙◌}
 use Rattle.fts_postings.specs.Conjoined.{common_of}
-use Rattle.fts_cursor.specs.Dense.{in_each}
+use Rattle.fts_sets.specs.Leaves.{in_each}
 use Rattle.fts_postings.proofs.ConjoinedLemmas.{AllFollow-same, AllFollow-trans}
 use Rattle.fts_postings.proofs.SetLemmas.{dead_passed}
 use Rattle.fts_cursor.proofs.filter.settle.Goals as goal

@@ -2,7 +2,7 @@
 use Rattle.std.proofs.Common.{◌≡◌, length}
 use Rattle.std.specs.List.{filter}
 use Rattle.fts_postings.specs.Conjoined.{AllFollow, common_of}
-use Rattle.fts_cursor.specs.Dense.{in_each}
+use Rattle.fts_sets.specs.Leaves.{in_each}
 use Rattle.fts_cursor.proofs.filter.settle.Given as goal
 
 abbrev pub invariant-loop-doc : goal.invariant-loop-doc

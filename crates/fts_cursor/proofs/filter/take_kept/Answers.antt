@@ -4,7 +4,7 @@ use Rattle.std.proofs.lemmas.List.{length-drop}
 use Rattle.fts_postings.specs.Conjoined.{common_of}
 use Rattle.fts_postings.proofs.ConjoinedLemmas.{AllFollow-same, AllFollow-trans}
 use Rattle.fts_postings.proofs.TakesLemmas.{Taken-all, Taken-full, Taken-none}
-use Rattle.fts_cursor.specs.Dense.{in_each}
+use Rattle.fts_sets.specs.Leaves.{in_each}
 use Rattle.fts_cursor.proofs.FilterLemmas.{Taken-ended, Taken-kept, Taken-still, ended}
 use Rattle.fts_cursor.proofs.filter.take_kept.Goals as goal
 

@@ -1,9 +1,10 @@
 -- The documents of the lists, or those of the column within the bounds.
-use Rattle.std.proofs.Common.{◌≡◌, ◌-◌, ◌≤◌, length, min, ap, subst, sym, ◌∙◌, arith}
+use Rattle.std.specs.List.{filter}
+use Rattle.std.proofs.Common.{◌≡◌, ◌≤◌, length, min, ap, subst, sym, ◌∙◌, arith}
 use Rattle.std.proofs.lemmas.Result.{IfOk-weaker}
 use Rattle.fts_pack.specs.ListRange.{lists_in_range}
 use Rattle.fts_pack.specs.Documents.{block_count}
-use Rattle.fts_cursor.specs.Scans.{has_within}
+use Rattle.fts_sets.specs.Leaves.{has_within}
 use Rattle.fts_cursor.specs.Standing.{at_most}
 use Rattle.fts_cursor.specs.TreeValues.{TreeValue}
 use Rattle.fts_postings.specs.Windows.{passing}
@@ -20,17 +21,17 @@ returns-then-documents-docs-clause-remaining c =
     listed.rises listed.sound listed.whole
     ∙ ap (passing (has_within c.args.low c.args.high c.args.column.now) 0) c.requires.size) c.listed.ensures.remaining
 
-pub new-requires-clause-total : goal.new-requires-clause-total
-new-requires-clause-total c =
+pub new-requires : goal.new-requires
+new-requires c =
     let column = c.args.column.now in
-    let all : c.args.docs - 0 ≡ length column = omega (arith, c.requires.size) in
-    c.requires.documents ∙ sym (ap (λ n. length (passing (has_within c.args.low c.args.high column) 0 n)) all ∙ count-within c.args.low c.args.high column)
+    let test = has_within c.args.low c.args.high column in
+    c.requires.documents ∙ sym (ap length (c.in_ok-with.ensures.kept ∙ ap (filter test) c.every-set.ensures)
+    ∙ ap (λ n. length (passing test 0 n)) (sym c.requires.size) ∙ count-within c.args.low c.args.high column)
 
 pub returns-clause-remaining : goal.returns-clause-remaining
 returns-clause-remaining c =
-    let all : c.args.docs - 0 ≡ c.args.docs = omega arith in
-    IfOk-weaker c.scan.result _ _ (λ t is. is ∙ c.new.ensures ∙ ap (passing (has_within c.args.low c.args.high c.args.column.now) 0) all)
-    c.scan.ensures.remaining
+    let test = has_within c.args.low c.args.high c.args.column.now in
+    IfOk-weaker c.scan.result _ _ (λ t is. is ∙ c.new.ensures ∙ c.in_ok-with.ensures.kept ∙ ap (filter test) c.every-set.ensures) c.scan.ensures.remaining
 
 pub returns-then-documents-docs-clause-opens : goal.returns-then-documents-docs-clause-opens
 returns-then-documents-docs-clause-opens c =
@@ -52,10 +53,10 @@ returns-then-documents-docs-clause-opens c =
 pub returns-clause-opens : goal.returns-clause-opens
 returns-clause-opens c =
     let column = c.args.column.now in
-    let all : c.args.docs - 0 ≡ length column = omega (arith, c.requires.size) in
+    let test = has_within c.args.low c.args.high column in
     let size : length c.new.result ≡ c.args.documents =
-    ap length c.new.ensures ∙ ap (λ n. length (passing (has_within c.args.low c.args.high column) 0 n)) all ∙ count-within c.args.low c.args.high column
-    ∙ sym c.requires.documents in
+    ap length (c.new.ensures ∙ c.in_ok-with.ensures.kept ∙ ap (filter test) c.every-set.ensures) ∙ ap (λ n. length (passing test 0 n)) (sym c.requires.size)
+    ∙ count-within c.args.low c.args.high column ∙ sym c.requires.documents in
     both_of c.scan.result _ _ _ (λ (t : TreeValue) remaining counts. opens_column c.args.docs t.standing
     (omega (arith, ap length remaining, size, c.if-documents-docs.false)) counts.1)
     c.scan.ensures.remaining c.scan.ensures.counts

@@ -6,7 +6,7 @@ use Rattle.fts_model.specs.declared.schema.Kind.TheVariants as kinds
 use Rattle.fts_model.specs.Queries.{is_bound_of, is_number_field}
 use Rattle.fts_model.specs.Schemas.{holds_numbers}
 use Rattle.fts_segment.specs.Segments.{ordinals}
-use Rattle.fts_cursor.specs.Scans.{has_within}
+use Rattle.fts_sets.specs.Leaves.{has_within}
 use Rattle.fts_postings.specs.Windows.{passing}
 use Rattle.fts_cursor.proofs.KeywordRangeLemmas.{Ranked, keyword_hits, no_keyword}
 use Rattle.fts_cursor.proofs.range.keyword_bounds.Goals as goal

@@ -5,7 +5,7 @@ use Rattle.fts_pack.specs.ListRange.{lists_in_range}
 use Rattle.fts_segment.specs.Between.{AreBetween, count_between}
 use Rattle.fts_postings.specs.Windows.{passing}
 use Rattle.fts_cursor.specs.Ranges.{values_of}
-use Rattle.fts_cursor.specs.Scans.{has_within}
+use Rattle.fts_sets.specs.Leaves.{has_within}
 use Rattle.fts_cursor.proofs.BoundsLemmas.{by_kind, length-values}
 use Rattle.fts_cursor.proofs.range.of_bounds.Goals as goal
 

@@ -3,7 +3,8 @@ use Rattle.std.proofs.Common.{◌≡◌, ◌*◌, ◌<◌, List, length, ap, sym
 use Rattle.std.proofs.lemmas.List.{take_all}
 use Rattle.fts_postings.specs.Sets.{in_all, lacks, union}
 use Rattle.fts_cursor.specs.TreeValues.{TreeValue, remains}
-use Rattle.fts_cursor.specs.Trees.{found, tree_value, value_of}
+use Rattle.fts_cursor.specs.Trees.{tree_value, value_of}
+use Rattle.fts_sets.specs.Rows.{found}
 use Rattle.fts_cursor.specs.declared.tree.Node.TheVariants.{And, Or, Without}
 use Rattle.fts_cursor.proofs.PartsLemmas.{height_within}
 use Rattle.fts_cursor.proofs.CostLemmas.{all_remaining, all_remaining-more, length-union}

@@ -7,7 +7,8 @@ use Rattle.std.proofs.lemmas.List.{with_items_is}
 use Rattle.fts_postings.specs.Sets.{IsLeast, common, in_all, in_some, lacks, union}
 use Rattle.fts_cursor.specs.TreeValues.{LeavesList, Left, Narrowed, TreeContinues, TreeValue, heights, remains}
 use Rattle.fts_cursor.specs.Terms.{AreTied, IsAlone}
-use Rattle.fts_cursor.specs.Trees.{AreMarked, IsBuffered, IsNow, found, gathered, tree_value, value_of}
+use Rattle.fts_cursor.specs.Trees.{IsBuffered, IsNow, gathered, tree_value, value_of}
+use Rattle.fts_sets.specs.Rows.{AreMarked, found}
 use Rattle.std.specs.Vec.{with_items}
 use Rattle.fts_cursor.specs.declared.tree.Node.TheVariants.{Or}
 use Rattle.fts_cursor.proofs.GatherLemmas.{TreeContinues-parts, IsMarking-next, IsMarking-none, IsNow-none, IsNow-some, MarkedUpTo-next, MarkedUpTo-none}

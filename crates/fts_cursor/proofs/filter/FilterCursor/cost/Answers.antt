@@ -1,7 +1,7 @@
 -- What bits tell of what lists have is some of it.
 use Rattle.std.proofs.Common.{arith}
 use Rattle.fts_postings.specs.Conjoined.{common_of}
-use Rattle.fts_cursor.specs.Dense.{in_each}
+use Rattle.fts_sets.specs.Leaves.{in_each}
 use Rattle.fts_postings.proofs.CostLemmas.{length-filter-le}
 use Rattle.fts_cursor.proofs.filter.FilterCursor.cost.Goals as goal
 

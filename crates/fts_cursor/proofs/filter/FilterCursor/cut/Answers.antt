@@ -3,7 +3,7 @@ use Rattle.std.proofs.Common.{subst, ◌≡◌, ap, ◌∙◌}
 use Rattle.std.specs.List.{filter}
 use Rattle.fts_postings.specs.Conjoined.{common_of}
 use Rattle.fts_postings.specs.Sets.{FirstPasses}
-use Rattle.fts_cursor.specs.Dense.{in_each}
+use Rattle.fts_sets.specs.Leaves.{in_each}
 use Rattle.fts_cursor.specs.Hits.{is_live}
 use Rattle.fts_cursor.specs.Standing.{Standing}
 use Rattle.fts_cursor.proofs.CutLemmas.{each_more, filter-both}

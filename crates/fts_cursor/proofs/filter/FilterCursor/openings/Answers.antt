@@ -3,7 +3,7 @@ use Rattle.std.proofs.Common.{◌≤◌, subst, arith}
 use Rattle.std.specs.List.{filter, slice_get}
 use Rattle.fts_postings.specs.Bounds.{most_at}
 use Rattle.fts_postings.specs.Conjoined.{bound_of, common_of, counts_of}
-use Rattle.fts_cursor.specs.Dense.{in_each}
+use Rattle.fts_sets.specs.Leaves.{in_each}
 use Rattle.fts_postings.proofs.SetLemmas.{filter-first}
 use Rattle.fts_cursor.proofs.TermsLemmas.{terms-tied}
 use Rattle.fts_cursor.proofs.filter.FilterCursor.openings.Goals as goal

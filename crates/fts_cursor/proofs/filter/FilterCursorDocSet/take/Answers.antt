@@ -5,7 +5,7 @@ use Rattle.fts_postings.proofs.ConjoinedLemmas.{AllFollow-trans}
 use Rattle.fts_postings.specs.Conjoined.{common_of}
 use Rattle.fts_postings.specs.Sets.{FirstPasses}
 use Rattle.fts_postings.specs.Takes.{Takes}
-use Rattle.fts_cursor.specs.Dense.{in_each}
+use Rattle.fts_sets.specs.Leaves.{in_each}
 use Rattle.fts_cursor.specs.Standing.{Standing}
 use Rattle.fts_cursor.proofs.FilterLemmas.{filter-continues}
 use Rattle.fts_cursor.proofs.TermsLemmas.{terms-continue}

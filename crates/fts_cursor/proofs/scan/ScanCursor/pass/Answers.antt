@@ -1,1 +1,0 @@
--- After the greatest document there is none.
