@@ -37,10 +37,10 @@ replaced s delete add first second deletes adds =
 refused : (s : SessionValue) (delete add : List ℕ) (x : Refusal) → replace indexes s.index delete add ≡ Err x →
     first_refusal s (delete ∷ add ∷ []) ≡ Some x → IsTransaction s delete add
 refused s delete add x whole first = record {
-    after = subst (λ r. OnErr r (after_replace s delete add ≡ s)) whole (replace-none s delete add) ∙ sym (ap (unless_refused s (delete ∷ add ∷ [])) first);
-    reply = ap (replies_unless_refused s (delete ∷ add ∷ [])) first ∙ sym (ap (text_of (s.number + 1)) whole)
-        ∙ sym (ap (λ r. cond (is_ok r) (reply_to s delete ++ reply_to_replace s delete add) (reply_to_replace s delete add)) whole);
-  }
+  after = subst (λ r. OnErr r (after_replace s delete add ≡ s)) whole (replace-none s delete add) ∙ sym (ap (unless_refused s (delete ∷ add ∷ [])) first);
+  reply = ap (replies_unless_refused s (delete ∷ add ∷ [])) first ∙ sym (ap (text_of (s.number + 1)) whole)
+      ∙ sym (ap (λ r. cond (is_ok r) (reply_to s delete ++ reply_to_replace s delete add) (reply_to_replace s delete add)) whole);
+}
 
 -- both were done
 done : (s : SessionValue) (delete add : List ℕ) (e : Outcome Index) → replace indexes s.index delete add ≡ Ok e →

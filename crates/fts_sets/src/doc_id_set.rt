@@ -155,7 +155,11 @@ impl<'a> DocIdSet<'a> {
     pub fn count_set(&self, bits: &Bits) -> Option<usize>
         ensures { IfSome result (λ n. n ≡ length (filter (is_set bits.now) self.now)) }
     {
-        if !self.all.is_empty() || !self.any.is_empty() || !self.none.is_empty() || bits.len() != self.docs {
+        if !self.all.is_empty()
+            || !self.any.is_empty()
+            || !self.none.is_empty()
+            || bits.len() != self.docs
+        {
             return None;
         }
         Some(bits.count_ones())
