@@ -34,7 +34,7 @@ OF_A_SUBJECT = {
     "fts_model": {"limits", "operation", "value"},
     "fts_pack": {"bits/signed", "bits/widths", "column/value_counts", "four_lanes", "prefix_sums"},
     "fts_parts": {"order", "ranks"},
-    "fts_pool": {"deque", "workers"},
+    "fts_pool": {"deque", "order", "workers"},
     "fts_postings": {"marks", "posting", "stretch"},
     "fts_query": {"depth", "error", "parser", "reader"},
     "fts_scan": {"answers", "matcher", "operations", "terms"},

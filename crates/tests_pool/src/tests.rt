@@ -109,9 +109,12 @@ impl Gate for Last {
 
 /// Four jobs, of which the one of this number is the cheapest.
 fn four_jobs(cheapest: usize) -> [Square; 4] {
-    let mut jobs = [square_of(9), square_of(8), square_of(8), square_of(9)];
-    jobs[cheapest].side = 7;
-    jobs
+    match cheapest {
+        0 => [square_of(7), square_of(8), square_of(8), square_of(9)],
+        1 => [square_of(9), square_of(7), square_of(8), square_of(9)],
+        2 => [square_of(9), square_of(8), square_of(7), square_of(9)],
+        _ => [square_of(9), square_of(8), square_of(8), square_of(7)],
+    }
 }
 
 #[test]
