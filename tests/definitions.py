@@ -30,7 +30,7 @@ WIDTH = 120
 
 # Not listed: programs, tests and examples, which define nothing that others need, the command line, the parts of a segment, and how
 # rounds draw stamps. Of INNER, what the contracts of other libraries name is.
-OTHERS = re.compile(r"(tests|cases|testing|example)_|(fts|fts_cli|fts_list|dilforec)$|fts_(pack|positions|segment|postings|cursor|merge|pool|rounds)$")
+OTHERS = re.compile(r"(tests|cases|testing|example)_|(fts|fts_cli|fts_list|dilforec)$|fts_(pack|positions|segment|postings|sets|cursor|merge|pool|rounds)$")
 INNER = {"fts_snapshots", "fts_parts", "fts_collect", "fts_engine_local", "fts_engine_index", "fts_c"}
 
 DEFINITION = re.compile(r"(?:(?:abbrev|unfoldable|opaque) pub|pub (?:record|data)) ([^\s:({]+)")
