@@ -1,15 +1,15 @@
 -- 16 words, a word after the other, and one test after the other.
 use Rattle.std.proofs.Common.{◌≡◌, ◌&&◌, ◌||◌, ℕ, ◌+◌, ◌-◌, ◌*◌, ◌^◌, ◌<◌, ◌≤◌, ◌==◌, Bool, false, true, not, nat_le, List, length, get_or, take, count_ones}
-use Rattle.std.proofs.Common.{◌/◌, ◌%◌, suc, nat_lt, bit_and, refl, sym, ap, ap₂, ◌∙◌, inl, inr, arith}
+use Rattle.std.proofs.Common.{◌/◌, ◌%◌, suc, nat_lt, bit_and, bit_or, refl, sym, ap, ◌∙◌, inl, inr, arith}
 use Rattle.std.specs.Int.{bit_at, bit_not, w64}
 use Rattle.std.specs.List.{list_all, list_any}
-use Rattle.std.proofs.Math.Bool.{and-true, and_assoc}
+use Rattle.std.proofs.Math.Bool.{and_assoc}
 use Rattle.std.proofs.lemmas.Bool.{cases_lt, le-leb, le-ltb, lt-leb, lt-ltb}
 use Rattle.std.proofs.lemmas.List.{length-append}
 use Rattle.std.proofs.lemmas.List.Folds.{list_all_more, list_any_more}
-use Rattle.std.proofs.lemmas.Nat.Bits.{bit_at-zero, bit_at-lt, bit_at_and, bit_at_mask_below, bit_at_mask_inside, bit_at_ones, bit_at_ones_above, ones_shl}
+use Rattle.std.proofs.lemmas.Nat.Bits.{bit_at-zero, bit_at_mask_below, bit_at_mask_inside, bit_at_ones, bit_at_ones_above, ones_shl}
 use Rattle.std.proofs.lemmas.Nat.{one_shl}
-use Rattle.fts_pack.proofs.ChangeLemmas.{AreChangedTo, bit_of_and, bit_of_not}
+use Rattle.fts_pack.proofs.ChangeLemmas.{AreChangedTo, bit_of_and, bit_of_not, bit_of_or}
 use Rattle.fts_postings.specs.Windows.{is_marked, passing}
 use Rattle.fts_postings.proofs.PassingLemmas.{passing-append}
 use Rattle.fts_postings.proofs.MarksLemmas.{length-marked}
@@ -62,6 +62,21 @@ pub word-left : (test : ℕ → Bool) (at old word : ℕ) → word < 2 ^ 64 → 
 word-left test at old word fits tells j inside =
     bit_of_and old (bit_not w64 word) j ∙ ap (λ b. (bit_at old j == 1) && b) (bit_of_not word j fits inside ∙ ap not (tells j inside))
 
+-- a word is joined with one that tells
+pub word-joined : (test : ℕ → Bool) (at old word : ℕ) → Tells test at word → (j : ℕ) → j < 64 →
+    (bit_at (bit_or old word) j == 1) ≡ ((bit_at old j == 1) || test (at + j))
+word-joined test at old word tells j inside = bit_of_or old word j ∙ ap (λ b. (bit_at old j == 1) || b) (tells j inside)
+
+-- a document of a row is told by what the set is told by
+pub row_told : (from some below all none : Bool) → ((((from && some) && below) && all) && none) ≡ (from && (((below && all) && some) && none))
+row_told false some below all none = refl
+row_told true true false all none = refl
+row_told true true true true none = refl
+row_told true true true false none = refl
+row_told true false true true none = refl
+row_told true false true false none = refl
+row_told true false false all none = refl
+
 but_others : (a b : Bool) → (a && not (a && not b)) ≡ (a && b)
 but_others true true = refl
 but_others true false = refl
@@ -74,22 +89,15 @@ word-but old others j b fits inside is =
     bit_of_and old (bit_not w64 others) j
     ∙ ap (λ c. (bit_at old j == 1) && c) (bit_of_not others j fits inside ∙ ap not is) ∙ but_others (bit_at old j == 1) b
 
--- the bits below a first document are gone
+-- the bits from a first document on
 pub first-word : (index first mask : ℕ) → first < 64 * index + 64 → mask ≡ (2 ^ 64 - 1) * 2 ^ (first - 64 * index) % 2 ^ 64 →
-    Tells (nat_le first) (64 * index) (bit_and (2 ^ 64 - 1) mask)
+    Tells (nat_le first) (64 * index) mask
 first-word index first mask near is j inside =
     let s = first - 64 * index in
-    let word = 2 ^ 64 - 1 in
-    let mask_is : bit_at (bit_and word mask) j ≡ bit_at (bit_and word (2 ^ 64 - 2 ^ s)) j =
-    ap (λ m. bit_at (bit_and word m) j) (is ∙ ones_shl 64 s (omega (arith, near))) in
+    let mask_is : bit_at mask j ≡ bit_at (2 ^ 64 - 2 ^ s) j = ap (λ m. bit_at m j) (is ∙ ones_shl 64 s (omega (arith, near))) in
     elim (cases_lt j s) [
-      | inl low ↦
-          let gone : bit_at (bit_and word (2 ^ 64 - 2 ^ s)) j ≡ 0 = omega (arith, bit_at_and word (2 ^ 64 - 2 ^ s) j, bit_at_mask_below s 64 j low) in
-          ap (λ n. n == 1) (mask_is ∙ gone) ∙ sym (lt-leb first (64 * index + j) (omega (arith, low)))
-      | inr up ↦
-          let stays : bit_at (bit_and word (2 ^ 64 - 2 ^ s)) j ≡ 1 =
-          omega (arith, bit_at_and word (2 ^ 64 - 2 ^ s) j, bit_at_mask_inside s 64 j up inside, bit_at_ones 64 j inside) in
-          ap (λ n. n == 1) (mask_is ∙ stays) ∙ sym (le-leb first (64 * index + j) (omega (arith, up)))
+      | inl low ↦ ap (λ n. n == 1) (mask_is ∙ bit_at_mask_below s 64 j low) ∙ sym (lt-leb first (64 * index + j) (omega (arith, low)))
+      | inr up ↦ ap (λ n. n == 1) (mask_is ∙ bit_at_mask_inside s 64 j up inside) ∙ sym (le-leb first (64 * index + j) (omega (arith, up)))
     ]
 
 -- a word has what 64 documents have

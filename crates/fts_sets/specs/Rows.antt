@@ -1,5 +1,5 @@
 -- Words of 64 documents, and a window that has documents of a set.
-use Rattle.std.specs.Prelude.{◌≡◌, ℕ, ◌+◌, ◌<◌, ◌≤◌, ◌==◌, ◌&&◌, ◌||◌, ◌^◌, Bool, IfSome, List, Option, false, length, nat_le, true}
+use Rattle.std.specs.Prelude.{◌≡◌, ℕ, ◌+◌, ◌*◌, ◌<◌, ◌≤◌, ◌==◌, ◌&&◌, ◌||◌, ◌^◌, Bool, IfSome, List, Option, false, length, nat_le, slice_index, true}
 use Rattle.std.specs.Int.{bit_at}
 use Rattle.fts_pack.specs.Documents.{Rises}
 use Rattle.fts_postings.specs.Remaining.{at_least}
@@ -10,6 +10,11 @@ use Rattle.fts_postings.specs.declared.window.Window.{Window}
 -- the bits of a word tell of 64 documents from one on whether they pass
 abbrev pub Tells : (ℕ → Bool) → ℕ → ℕ → Type 0
 Tells test from word = (j : ℕ) → j < 64 → (bit_at word j == 1) ≡ test (from + j)
+
+-- of this many words, the first of them that of an index, each tells those documents too that pass
+abbrev pub AreAdded : (ℕ → Bool) → ℕ → ℕ → List ℕ → List ℕ → Type 0
+AreAdded test index words old new = (k j : ℕ) → k < words → j < 64 →
+    (bit_at (slice_index new k) j == 1) ≡ ((bit_at (slice_index old k) j == 1) || test (64 * (index + k) + j))
 
 -- the documents of a window
 abbrev pub found : Window → List ℕ

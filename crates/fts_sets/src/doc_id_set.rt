@@ -212,20 +212,10 @@ impl<'a> DocIdSet<'a> {
         ensures { (k : ℕ) → k < words
             → Tells (λ d. nat_le first d && has self.now d) (64 * (index + k)) (slice_index result k) }
     {
-        let mut row = rows::begin(index, words, first);
-        self.cut(index, &mut row);
+        let mut row = rows::begin_each(&self.any, index, words, first);
+        rows::keep_first(self.docs, index, &mut row);
+        rows::keep_each(&self.all, index, &mut row);
+        rows::drop_each(&self.none, index, &mut row);
         row
-    }
-
-    /// Keeps of the documents that 16 words tell, from the word of an index on, those of the set.
-    #[inline]
-    fn cut(&self, index: usize, row: &mut [u64; 16])
-        requires { index < 2 ^ 57 }
-        ensures { AreChanged (λ doc told. told && has self.now doc) index row.old row.new }
-    {
-        rows::keep_first(self.docs, index, row);
-        rows::keep_each(&self.all, index, row);
-        rows::keep_clauses(&self.any, index, row);
-        rows::drop_each(&self.none, index, row);
     }
 }

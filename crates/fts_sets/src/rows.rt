@@ -4,14 +4,37 @@ ghost use Rattle.std.specs.Int.{bit_at};
 ghost use Rattle.fts_pack.specs.bits.Changes.{AreChanged};
 ghost use Rattle.fts_postings.specs.Windows.{passing};
 ghost use Rattle.fts_sets.specs.Leaves.{all_have, each_has, leaf_has, one_has};
-ghost use Rattle.fts_sets.specs.Rows.{Tells};
+ghost use Rattle.fts_sets.specs.Rows.{AreAdded, Tells};
 
 use crate::leaf::Leaf;
 
-/// The documents from `first` on, of this many words from the word of an index on. That of the first is the first word,
-/// or is before it.
+/// The documents from `first` on that pass one of each of these, of this many words from the word of an index on. That
+/// of the first is the first word, or is before it.
 #[inline]
-pub(crate) fn begin(index: usize, words: usize, first: usize) -> [u64; 16]
+pub(crate) fn begin_each(
+    clauses: &[Vec<Leaf>],
+    index: usize,
+    words: usize,
+    first: usize,
+) -> [u64; 16]
+    requires few { words ≤ 16 }
+    requires near { index < 2 ^ 57 }
+    requires first { first < 64 * index + 64 }
+    ensures { (k : ℕ) → k < words
+        → Tells (λ d. nat_le first d && each_has clauses.now d) (64 * (index + k)) (slice_index result k) }
+{
+    let Some((clause, others)) = clauses.split_first() else {
+        return begin(index, words, first);
+    };
+    let mut row = some(clause, index, words);
+    keep_from(first, index, &mut row);
+    keep_clauses(others, index, &mut row);
+    row
+}
+
+/// The documents from `first` on.
+#[inline]
+fn begin(index: usize, words: usize, first: usize) -> [u64; 16]
     requires few { words ≤ 16 }
     requires near { index < 2 ^ 57 }
     requires first { first < 64 * index + 64 }
@@ -21,8 +44,56 @@ pub(crate) fn begin(index: usize, words: usize, first: usize) -> [u64; 16]
     for place in 0..words {
         row[place] = u64::MAX;
     }
-    row[0] &= u64::MAX << first.saturating_sub(64 * index);
+    keep_from(first, index, &mut row);
     row
+}
+
+/// The documents that pass one of these.
+#[inline]
+fn some(leaves: &[Leaf], index: usize, words: usize) -> [u64; 16]
+    requires few { words ≤ 16 }
+    requires near { index < 2 ^ 57 }
+    ensures { (k : ℕ) → k < words → Tells (one_has leaves.now) (64 * (index + k)) (slice_index result k) }
+{
+    let mut row = [0; 16];
+    for leaf in leaves {
+        add(leaf, index, words, &mut row);
+    }
+    row
+}
+
+/// Adds the documents that pass. A column is compared for this many words alone.
+#[inline]
+fn add(leaf: &Leaf, index: usize, words: usize, row: &mut [u64; 16])
+    requires few { words ≤ 16 }
+    requires near { index < 2 ^ 57 }
+    ensures { AreAdded (leaf_has leaf.now) index words row.old row.new }
+{
+    match leaf {
+        Leaf::Set(bits) => bits.or_into(index, row),
+        Leaf::Below(_) | Leaf::Within { .. } => add_words(*leaf, index, words, row),
+    }
+}
+
+/// As `add`, word by word.
+fn add_words(leaf: Leaf, index: usize, words: usize, row: &mut [u64; 16])
+    requires few { words ≤ 16 }
+    requires near { index < 2 ^ 57 }
+    ensures { AreAdded (leaf_has leaf.entry) index words row.old row.new }
+{
+    for place in 0..words {
+        row[place] |= leaf.word(index + place);
+    }
+}
+
+/// Keeps the documents from a first one on. Its word is the first, or is before it.
+#[inline]
+fn keep_from(first: usize, index: usize, row: &mut [u64; 16])
+    requires near { index < 2 ^ 57 }
+    requires first { first < 64 * index + 64 }
+    ensures { AreChanged (λ doc told. told && nat_le first doc) index row.old row.new }
+{
+    row[0] &= u64::MAX << first.saturating_sub(64 * index);
 }
 
 /// Keeps the documents below a number.
@@ -34,7 +105,7 @@ pub(crate) fn keep_first(docs: usize, index: usize, row: &mut [u64; 16])
     if index + 16 <= docs / 64 {
         return;
     }
-    keep_words(&Leaf::Below(docs), index, row);
+    keep_words(Leaf::Below(docs), index, row);
 }
 
 /// Keeps the documents that pass each of these.
@@ -50,7 +121,7 @@ pub(crate) fn keep_each(leaves: &[Leaf], index: usize, row: &mut [u64; 16])
 
 /// Keeps the documents that pass one of each of these.
 #[inline]
-pub(crate) fn keep_clauses(clauses: &[Vec<Leaf>], index: usize, row: &mut [u64; 16])
+fn keep_clauses(clauses: &[Vec<Leaf>], index: usize, row: &mut [u64; 16])
     requires { index < 2 ^ 57 }
     ensures { AreChanged (λ doc told. told && each_has clauses.now doc) index row.old row.new }
 {
@@ -91,7 +162,7 @@ fn keep(leaf: &Leaf, index: usize, row: &mut [u64; 16])
 {
     match leaf {
         Leaf::Set(bits) => bits.and_into(index, row),
-        Leaf::Below(_) | Leaf::Within { .. } => keep_words(leaf, index, row),
+        Leaf::Below(_) | Leaf::Within { .. } => keep_words(*leaf, index, row),
     }
 }
 
@@ -103,14 +174,14 @@ fn drop_leaf(leaf: &Leaf, index: usize, row: &mut [u64; 16])
 {
     match leaf {
         Leaf::Set(bits) => bits.and_not_into(index, row),
-        Leaf::Below(_) | Leaf::Within { .. } => drop_words(leaf, index, row),
+        Leaf::Below(_) | Leaf::Within { .. } => drop_words(*leaf, index, row),
     }
 }
 
 /// As `keep`, word by word. A column isn't compared for a word without documents.
-fn keep_words(leaf: &Leaf, index: usize, row: &mut [u64; 16])
+fn keep_words(leaf: Leaf, index: usize, row: &mut [u64; 16])
     requires { index < 2 ^ 57 }
-    ensures { AreChanged (λ doc told. told && leaf_has leaf.now doc) index row.old row.new }
+    ensures { AreChanged (λ doc told. told && leaf_has leaf.entry doc) index row.old row.new }
 {
     for place in 0..16 {
         if row[place] != 0 {
@@ -120,9 +191,9 @@ fn keep_words(leaf: &Leaf, index: usize, row: &mut [u64; 16])
 }
 
 /// As `drop_leaf`, word by word.
-fn drop_words(leaf: &Leaf, index: usize, row: &mut [u64; 16])
+fn drop_words(leaf: Leaf, index: usize, row: &mut [u64; 16])
     requires { index < 2 ^ 57 }
-    ensures { AreChanged (λ doc told. told && not (leaf_has leaf.now doc)) index row.old row.new }
+    ensures { AreChanged (λ doc told. told && not (leaf_has leaf.entry doc)) index row.old row.new }
 {
     for place in 0..16 {
         if row[place] != 0 {
