@@ -26,7 +26,6 @@ end_found set at from docs w up few past over before = record {
       ∙ before;
   end = omega arith;
   stands = λ low. absurd (omega (arith, low));
-  within = λ low. absurd (omega (arith, low));
   holds = λ d high low. absurd (omega (arith, high, low, w.fits));
 }
 
@@ -60,7 +59,6 @@ module _ (set : List ℕ) (at : ℕ) (a b c : Window) (up : Rises 0 set) (holds 
           ∙ before;
       end = omega (arith, fits);
       stands = λ low. sym (there doc up_to within) ∙ has-first (found b) doc first;
-      within = λ low. omega (arith, within, last, sought_last);
       holds = λ d high low. ap (λ xs. has xs d) same ∙ there d (omega (arith, high, up_to)) (omega (arith, low, last, sought_last));
     }
 
@@ -82,7 +80,8 @@ right true = refl
 right false = refl
 
 -- what is left of a set passes its window's part of it
-module _ (set out : List ℕ) (at count next : ℕ) (a b w : Window) (f : IsFound set at at a) (stands : at < 2 ^ 32) (sought_last : b.last ≡ a.last)
+module _ (set out : List ℕ) (at count next : ℕ) (a b w : Window) (up : Rises 0 set) (here : has set at ≡ true) (holds : Holds set at a) (within : at ≤ a.last)
+    (sought_last : b.last ≡ a.last)
     (sought : found b ≡ at_least at (found a)) (last : w.last ≡ b.last) (takes : Takes (found b) (found w) out count) (next_is : next ≡ get_or out (count - 1) 0 + 1) where
   front : (d : ℕ) → has (found b) d ≡ (nat_lt d (b.last + 1) && (nat_le at d && has set d))
   front d = elim (cases_lt b.last d) [
@@ -93,29 +92,29 @@ module _ (set out : List ℕ) (at count next : ℕ) (a b w : Window) (f : IsFoun
               ap (λ x. has (found a) d && x) (lt-leb at d low) ∙ and-false (has (found a) d)
               ∙ sym (ap₂ (λ x y. x && (y && has set d)) (lt-ltb d (b.last + 1) (omega (arith, inside))) (lt-leb at d low))
           | inr high ↦
-              ap₂ (λ x y. x && y) (f.holds d high (omega (arith, inside, sought_last))) (le-leb at d high) ∙ right (has set d)
+              ap₂ (λ x y. x && y) (holds d high (omega (arith, inside, sought_last))) (le-leb at d high) ∙ right (has set d)
               ∙ sym (ap₂ (λ x y. x && (y && has set d)) (lt-ltb d (b.last + 1) (omega (arith, inside))) (le-leb at d high))
         ]
   ]
 
   inside_at : at < b.last + 1
-  inside_at = omega (arith, f.within stands, sought_last)
+  inside_at = omega (arith, within, sought_last)
 
   pub some_window : 0 < count
-  some_window = takes.some (some_front set (found b) out at (b.last + 1) count next f.rises (found_rises b) front (f.stands stands) inside_at)
+  some_window = takes.some (some_front set (found b) out at (b.last + 1) count next up (found_rises b) front here inside_at)
 
   pub takes_window : Takes (at_least at set) (at_least next set) out count
-  takes_window = takes_front set (found b) out at (b.last + 1) count next f.rises (found_rises b) front (f.stands stands) inside_at (found w) takes next_is
+  takes_window = takes_front set (found b) out at (b.last + 1) count next up (found_rises b) front here inside_at (found w) takes next_is
 
   pub holds_next : Holds set next w
-  holds_next d high low = front_left set (found b) out at (b.last + 1) count next f.rises (found_rises b) front (f.stands stands) inside_at (found w) takes next_is d
+  holds_next d high low = front_left set (found b) out at (b.last + 1) count next up (found_rises b) front here inside_at (found w) takes next_is d
       high (omega (arith, low, last))
 
 -- a cursor at what was found
 pub IsSetCursor-found : (set : List ℕ) (from at : ℕ) (total : Option ℕ) (w : Window) → IsFound set from at w → IfSome total (λ n. n ≡ length (at_least at set)) →
     IsSetCursor set total at w
 IsSetCursor-found set from at total w f total_is = record {
-  found_is = record { rises = f.rises; few = f.few; same = refl; end = f.end; stands = f.stands; within = f.within; holds = f.holds };
+  found_is = record { rises = f.rises; few = f.few; same = refl; end = f.end; stands = f.stands; holds = f.holds };
   total_is = total_is;
 }
 

@@ -35,7 +35,6 @@ pub record IsFound (set : List ℕ) (from at : ℕ) (window : Window) : Type 0 w
   pub same : at_least at set ≡ at_least from set
   pub end : at ≤ 2 ^ 32
   pub stands : at < 2 ^ 32 → has set at ≡ true
-  pub within : at < 2 ^ 32 → at ≤ window.last
   pub holds : Holds set at window
 
 -- a cursor over a set: it is at a document, or at the end, and how many remain may be known

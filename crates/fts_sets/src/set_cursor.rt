@@ -15,7 +15,7 @@ use std::marker::Model;
 /// A number above each document, since these have 32 bits.
 const END: usize = 4_294_967_296;
 
-/// How far a window reaches where few documents may be asked for: two words.
+/// How far a window reaches if few documents may be asked for: two words.
 const NEAR: u32 = 127;
 
 /// How far it reaches after steps.
@@ -29,7 +29,7 @@ pub struct SetCursor<'a> {
     total: Option<usize>,
     // The first document that remains, or `END`.
     at: usize,
-    // It has the documents of the set from there to its last.
+    // If it ends there or later, it has the documents of the set from there to its last.
     window: Window,
 }
 
@@ -51,8 +51,8 @@ impl<'a> SetCursor<'a> {
         requires { IfSome total (λ n. n ≡ length set) }
         ensures { result ≡ set.entry }
     {
-        let mut window = Window::new();
-        let at = begin(&set, &mut window, 0);
+        let mut window = first_window(&set);
+        let at = find_at(&set, &mut window, 0);
         SetCursor {
             set,
             total,
@@ -112,7 +112,7 @@ impl<'a> SetCursor<'a> {
     {
         if self.at < target {
             self.total = None;
-            self.at = find(&self.set, &mut self.window, target);
+            self.at = find_at(&self.set, &mut self.window, target);
         }
     }
 
@@ -154,7 +154,8 @@ impl DocSet for SetCursor<'_> {
 
     #[inline]
     fn advance(&mut self) {
-        self.pass(self.at + 1);
+        self.total = None;
+        self.at = find(&self.set, &mut self.window, self.at + 1);
     }
 
     #[inline]
@@ -167,6 +168,7 @@ impl DocSet for SetCursor<'_> {
         if self.at >= END {
             return 0;
         }
+        cover(&self.set, &mut self.window, self.at as u32, FAR);
         self.window.seek(self.at as u32);
         let count = self.window.take(out);
         self.total = None;
@@ -175,50 +177,78 @@ impl DocSet for SetCursor<'_> {
     }
 }
 
-/// The first document of a set from a number on, or `END`. The window is begun anew, and has those of the set from there
-/// to its last.
+/// The first document of a set from a number on, or `END`. The window is begun anew.
 fn begin(set: &DocIdSet, window: &mut Window, from: usize) -> usize
     ensures { IsFound set.now from result window.new }
 {
-    let docs = set.docs();
-    if from >= docs {
-        return END;
+    *window = first_window(set);
+    find_at(set, window, from)
+}
+
+/// A window with a place for the first document alone, marked if the set has it.
+#[inline]
+fn first_window(set: &DocIdSet) -> Window
+    ensures { Holds set.now 0 result }
+{
+    let mut window = Window {
+        base: 0,
+        from: 0,
+        last: 0,
+        words: [0; 64],
+    };
+    if !set.has(0) {
+        return window;
     }
-    fill(set, window, from as u32, NEAR);
+    window.mark(0);
+    window
+}
+
+/// The first document of a set from a number on, or `END`. If that number is above the window's last document and the
+/// set has it, no window is filled.
+#[inline]
+fn find_at(set: &DocIdSet, window: &mut Window, from: usize) -> usize
+    requires { Holds set.now from window.old }
+    ensures { IsFound set.now from result window.new }
+{
+    if from < set.docs() && from > window.last as usize && set.has(from) {
+        return from;
+    }
     find(set, window, from)
 }
 
-/// As `begin`, in a window that has the documents of the set from there to its last.
+/// As `find_at`, by windows.
 fn find(set: &DocIdSet, window: &mut Window, from: usize) -> usize
     requires { Holds set.now from window.old }
     ensures { IsFound set.now from result window.new }
 {
     let docs = set.docs();
     let mut at = from;
+    let mut reach = first_reach(window.last, from);
     while at < docs {
-        cover(set, window, at as u32, docs);
+        cover(set, window, at as u32, reach);
         window.seek(at as u32);
         if let Some(doc) = window.first() {
             return doc as usize;
         }
         at = window.last as usize + 1;
+        reach = (2 * reach + 1).min(FAR);
     }
     END
 }
 
 /// Begins a window anew, if it has no place for a document.
 #[inline]
-fn cover(set: &DocIdSet, window: &mut Window, doc: u32, docs: usize)
-    requires { Holds set.now doc window.old }
+fn cover(set: &DocIdSet, window: &mut Window, doc: u32, reach: u32)
+    requires reach { reach ≤ 4095 }
+    requires holds { Holds set.now doc window.old }
     ensures holds { Holds set.now doc window.new }
     ensures within { doc ≤ window.new.last }
 {
     if window.covers(doc) {
         return;
     }
-    let above = doc as usize - window.last as usize;
-    let reach = reach(docs.saturating_sub(doc as usize), above);
-    fill(set, window, doc, reach);
+    let remaining = set.docs().saturating_sub(doc as usize);
+    fill(set, window, doc, remaining.min(reach as usize) as u32);
 }
 
 /// Begins a window anew at a document, with those of the set from there on.
@@ -231,14 +261,15 @@ fn fill(set: &DocIdSet, window: &mut Window, from: u32, reach: u32)
     set.mark(window, from);
 }
 
-/// How far a window reaches that begins this far above the last of the one before, if so many documents may remain.
+/// How far the first window reaches that begins at a document, if the one before ends at another: near at the start and
+/// after a far seek, since the next may go as far again.
 #[inline]
-fn reach(remaining: usize, above: usize) -> u32
+fn first_reach(last: u32, from: usize) -> u32
     ensures { result ≤ 4095 }
 {
-    if above > 128 {
+    if last == 0 || from > last as usize + 128 {
         NEAR
     } else {
-        (FAR as usize).min(remaining) as u32
+        FAR
     }
 }

@@ -18,6 +18,7 @@ loop-at-preserved c =
     record {
       same = none_found c.args.set.now c.loop-at.at c.cover.new.window c.seek.new.self w c.docs-docs.ensures.rises c.cover.ensures.holds c.seek.ensures.last
           c.seek.ensures.marked c.first.ensures.last c.first.ensures.same none c.cover.ensures.within ∙ c.loop-at.invariant.same;
+      near = omega arith;
       holds = λ d high low. absurd (omega (arith, high, low));
     }
 

@@ -1,5 +1,5 @@
 -- What was passed over isn't in the set.
-use Rattle.std.proofs.Common.{◌≡◌, ◌-◌}
+use Rattle.std.proofs.Common.{◌≡◌, ◌≤◌, ◌-◌}
 use Rattle.fts_postings.specs.Remaining.{at_least}
 use Rattle.fts_sets.specs.Rows.{Holds}
 use Rattle.fts_sets.proofs.set_cursor.find.Given as goal
@@ -7,6 +7,7 @@ use Rattle.fts_sets.proofs.set_cursor.find.Given as goal
 abbrev pub invariant-loop-at : goal.invariant-loop-at
 invariant-loop-at l = record {
   same : at_least l.at l.set ≡ at_least l.from l.set;
+  near : l.reach ≤ 4095;
   holds : Holds l.set l.at l.window;
 }
 

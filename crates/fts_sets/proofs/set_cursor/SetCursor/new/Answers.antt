@@ -6,10 +6,10 @@ use Rattle.fts_sets.proofs.set_cursor.SetCursor.new.Goals as goal
 
 pub invariant_of-result : goal.invariant_of-result
 invariant_of-result c =
-    let f = c.begin-at.ensures in
+    let f = c.find_at-at.ensures in
     let all = f.same ∙ at_least_all 0 0 c.args.set f.rises (omega arith) in
-    IsSetCursor-found c.args.set 0 c.begin-at.result c.args.total c.begin-at.new.window f
+    IsSetCursor-found c.args.set 0 c.find_at-at.result c.args.total c.find_at-at.new.window f
     (subst (λ (xs : List ℕ). IfSome c.args.total (λ n. n ≡ length xs)) (sym all) c.requires)
 
 pub returns : goal.returns
-returns c = c.begin-at.ensures.same ∙ at_least_all 0 0 c.args.set c.begin-at.ensures.rises (omega arith)
+returns c = c.find_at-at.ensures.same ∙ at_least_all 0 0 c.args.set c.find_at-at.ensures.rises (omega arith)

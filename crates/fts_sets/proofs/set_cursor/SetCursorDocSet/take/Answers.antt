@@ -20,23 +20,23 @@ overflow_sub-count c =
     let t = c.take-count in
     omega (
       arith,
-      some_window s.set t.new.out s.at t.result (get_or t.new.out (t.result - 1) 0 + 1) s.window c.seek.new.self t.new.self c.self.invariant.found_is
-          c.if-self-ge-END.false c.seek.ensures.last c.seek.ensures.marked t.ensures.last t.ensures.taken refl,
+      some_window s.set t.new.out s.at t.result (get_or t.new.out (t.result - 1) 0 + 1) c.cover.new.window c.seek.new.self t.new.self
+          c.self.invariant.rises (c.self.invariant.stands c.if-self-ge-END.false) c.cover.ensures.holds c.cover.ensures.within c.seek.ensures.last c.seek.ensures.marked t.ensures.last t.ensures.taken refl,
     )
 
 pub find-self-inside-requires : goal.find-self-inside-requires
 find-self-inside-requires c =
     let s = c.self.inside in
     let t = c.take-count in
-    holds_next s.set t.new.out s.at t.result (get_or t.new.out (t.result - 1) 0 + 1) s.window c.seek.new.self t.new.self c.self.invariant.found_is
-    c.if-self-ge-END.false c.seek.ensures.last c.seek.ensures.marked t.ensures.last t.ensures.taken refl
+    holds_next s.set t.new.out s.at t.result (get_or t.new.out (t.result - 1) 0 + 1) c.cover.new.window c.seek.new.self t.new.self
+    c.self.invariant.rises (c.self.invariant.stands c.if-self-ge-END.false) c.cover.ensures.holds c.cover.ensures.within c.seek.ensures.last c.seek.ensures.marked t.ensures.last t.ensures.taken refl
 
 pub returns : goal.returns
 returns c =
     let s = c.self.inside in
     let t = c.take-count in
     let next = get_or t.new.out (t.result - 1) 0 + 1 in
-    let all = takes_window s.set t.new.out s.at t.result next s.window c.seek.new.self t.new.self c.self.invariant.found_is
-    c.if-self-ge-END.false c.seek.ensures.last c.seek.ensures.marked t.ensures.last t.ensures.taken refl in
+    let all = takes_window s.set t.new.out s.at t.result next c.cover.new.window c.seek.new.self t.new.self
+    c.self.invariant.rises (c.self.invariant.stands c.if-self-ge-END.false) c.cover.ensures.holds c.cover.ensures.within c.seek.ensures.last c.seek.ensures.marked t.ensures.last t.ensures.taken refl in
     let left = subst (λ xs. Takes (at_least s.at s.set) xs t.new.out t.result) (sym c.find-self-inside.ensures.same) all in
     record { taken = subst (λ xs. Takes xs (at_least c.find-self-inside.result s.set) t.new.out t.result) c.self.view_is left }
