@@ -118,7 +118,7 @@ impl<'a> DocIdSet<'a> {
     }
 
     /// Whether the document is one of them.
-    #[inline]
+    #[inline(always)]
     pub fn has(&self, doc: usize) -> bool
         ensures { result ≡ has self.now doc }
     {

@@ -186,7 +186,6 @@ fn begin(set: &DocIdSet, window: &mut Window, from: usize) -> usize
 }
 
 /// A window with a place for the first document alone, marked if the set has it.
-#[inline]
 fn first_window(set: &DocIdSet) -> Window
     ensures { Holds set.now 0 result }
 {
@@ -205,7 +204,6 @@ fn first_window(set: &DocIdSet) -> Window
 
 /// The first document of a set from a number on, or `END`. If that number is above the window's last document and the
 /// set has it, no window is filled.
-#[inline]
 fn find_at(set: &DocIdSet, window: &mut Window, from: usize) -> usize
     requires { Holds set.now from window.old }
     ensures { IsFound set.now from result window.new }
