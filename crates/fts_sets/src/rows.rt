@@ -3,10 +3,11 @@ ghost use Rattle.std.specs.Prelude.{◌≡◌, ℕ, ◌+◌, ◌-◌, ◌*◌, �
 ghost use Rattle.std.specs.Int.{bit_at};
 ghost use Rattle.fts_pack.specs.bits.Changes.{AreChanged};
 ghost use Rattle.fts_postings.specs.Windows.{passing};
-ghost use Rattle.fts_sets.specs.Leaves.{all_have, each_has, leaf_has, one_has};
+ghost use Rattle.fts_sets.specs.Leaves.{all_have, each_has, has_within, leaf_has, one_has};
 ghost use Rattle.fts_sets.specs.Rows.{AreAdded, Tells};
 
 use crate::leaf::Leaf;
+use fts_pack::column::Column;
 
 /// The documents from `first` on that pass one of each of these, of this many words from the word of an index on. That
 /// of the first is the first word, or is before it.
@@ -162,7 +163,8 @@ fn keep(leaf: &Leaf, index: usize, row: &mut [u64; 16])
 {
     match leaf {
         Leaf::Set(bits) => bits.and_into(index, row),
-        Leaf::Below(_) | Leaf::Within { .. } => keep_words(*leaf, index, row),
+        Leaf::Below(_) => keep_words(*leaf, index, row),
+        Leaf::Within { column, low, high } => keep_within(column, *low, *high, index, row),
     }
 }
 
@@ -178,7 +180,19 @@ fn drop_leaf(leaf: &Leaf, index: usize, row: &mut [u64; 16])
     }
 }
 
-/// As `keep`, word by word. A column isn't compared for a word without documents.
+/// Keeps the documents whose number in a column is within these. The column isn't compared for a word without documents.
+fn keep_within(column: &Column, low: u64, high: u64, index: usize, row: &mut [u64; 16])
+    requires { index < 2 ^ 57 }
+    ensures { AreChanged (λ doc told. told && has_within low high column.now doc) index row.old row.new }
+{
+    for place in 0..16 {
+        if row[place] != 0 {
+            row[place] &= column.marks_within(64 * (index + place), low, high);
+        }
+    }
+}
+
+/// As `keep`, word by word.
 fn keep_words(leaf: Leaf, index: usize, row: &mut [u64; 16])
     requires { index < 2 ^ 57 }
     ensures { AreChanged (λ doc told. told && leaf_has leaf.entry doc) index row.old row.new }
