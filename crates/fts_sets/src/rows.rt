@@ -180,7 +180,7 @@ fn drop_leaf(leaf: &Leaf, index: usize, row: &mut [u64; 16])
     }
 }
 
-/// Keeps the documents whose number in a column is within these. The column isn't compared for a word without documents.
+/// Keeps the documents whose number in a column is within these. A word without documents isn't compared.
 fn keep_within(column: &Column, low: u64, high: u64, index: usize, row: &mut [u64; 16])
     requires { index < 2 ^ 57 }
     ensures { AreChanged (λ doc told. told && has_within low high column.now doc) index row.old row.new }
