@@ -1,5 +1,6 @@
 pub mod SetLemmas
 pub mod ToldLemmas
+pub mod KeptLemmas
 pub mod RowLemmas
 pub mod MarkLemmas
 pub mod CursorLemmas

@@ -77,6 +77,12 @@ past-range a zero d past = refl
 past-range a (suc n) d past = ap (λ b. b || has (range_with_len (a + 1) n) d) (above_is_other a d (omega (arith, past)))
     ∙ past-range (a + 1) n d (omega (arith, past))
 
+pub has-all_below : (n d : ℕ) → has (range_with_len 0 n) d ≡ nat_lt d n
+has-all_below n d = elim (cases_lt d n) [
+  | inl inside ↦ has-range 0 n d (omega arith) (omega (arith, inside)) ∙ sym (lt-ltb d n inside)
+  | inr past ↦ past-range 0 n d (omega (arith, past)) ∙ sym (le-ltb d n past)
+]
+
 -- a list of all that pass has each
 pub has-passing : (test : ℕ → Bool) (n d : ℕ) → (n ≤ d → test d ≡ false) → has (passing test 0 n) d ≡ test d
 has-passing test n d none =

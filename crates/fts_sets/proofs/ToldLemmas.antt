@@ -39,6 +39,17 @@ module _ (docs : ℕ) (all : List Leaf) (any : List (Vec Leaf)) (none : List Lea
       ∙ with_one (nat_lt d docs) (all_have all d) (each_has any d) (not (one_has none d)) (leaf_has l d))
       (λ d past. ap (λ b. ((b && all_have (all ++ l ∷ []) d) && each_has any d) && not (one_has none d)) (le-ltb d docs past))
 
+  -- a test more, before the others
+  one_first : (a b c n s : Bool) → (((a && (s && b)) && c) && n) ≡ ((((a && b) && c) && n) && s)
+  one_first false b c n s = refl
+  one_first true b c n true = sym (and-true ((b && c) && n))
+  one_first true b c n false = sym (and-false ((b && c) && n))
+
+  pub told-first : (l : Leaf) → passing (is_told docs (l ∷ all) any none) 0 docs ≡ filter (leaf_has l) (passing (is_told docs all any none) 0 docs)
+  told-first l = passing-kept (leaf_has l) (is_told docs all any none) (is_told docs (l ∷ all) any none) docs docs (omega arith)
+      (λ d. one_first (nat_lt d docs) (all_have all d) (each_has any d) (not (one_has none d)) (leaf_has l d))
+      (λ d past. ap (λ b. ((b && all_have (l ∷ all) d) && each_has any d) && not (one_has none d)) (le-ltb d docs past))
+
   below_one : (a b c n s : Bool) → ((((a && s) && b) && c) && n) ≡ ((((a && b) && c) && n) && s)
   below_one false b c n s = refl
   below_one true b c n true = sym (and-true ((b && c) && n))

@@ -1,17 +1,18 @@
 // Sets of documents that are told by their number.
 ghost use Rattle.std.specs.Prelude.{◌≡◌, ◌≢◌, ℕ, ◌+◌, ◌*◌, ◌^◌, ◌<◌, ◌≤◌, ◌&&◌, false, IfErr, IfOk, IfSome};
-ghost use Rattle.std.specs.Prelude.{filter, length, nat_le, not, slice_index};
+ghost use Rattle.std.specs.Prelude.{filter, length, nat_le, not, slice_index, take};
 ghost use Rattle.std.specs.List.{range_with_len};
 ghost use Rattle.fts_pack.specs.Documents.{Rises};
 ghost use Rattle.fts_pack.specs.bits.Changes.{AreChanged};
 ghost use Rattle.fts_postings.specs.Remaining.{at_least};
 ghost use Rattle.fts_postings.specs.Sets.{has};
 ghost use Rattle.fts_postings.specs.Windows.{is_set};
+ghost use Rattle.fts_sets.specs.Kept.{IsKept};
 ghost use Rattle.fts_sets.specs.Leaves.{all_have, leaf_has, one_has};
 ghost use Rattle.fts_sets.specs.Rows.{AreMarked, Tells};
 
 use crate::leaf::{self, Leaf};
-use crate::rows;
+use crate::{retain, rows};
 use fts_pack::bits::Bits;
 use fts_postings::Window;
 use std::alloc::{AllocError, Global};
@@ -34,6 +35,7 @@ pub struct DocIdSet<'a> {
 impl<'a> Model for DocIdSet<'a> {
     ghost use Rattle.std.specs.Prelude.{ℕ, List, ◌^◌, ◌≤◌};
     ghost use Rattle.fts_postings.specs.Windows.{passing};
+    ghost use Rattle.fts_sets.specs.Kept.{IsKept};
     ghost use Rattle.fts_sets.specs.Leaves.{is_told};
 
     ghost Value = { List ℕ };
@@ -64,7 +66,9 @@ impl<'a> DocIdSet<'a> {
     {
         match leaf {
             Leaf::Below(docs) => self.docs = self.docs.min(docs),
-            Leaf::Set(_) | Leaf::Within { .. } => self.all.push(leaf)?,
+            // Bits come first, so that a column isn't compared for the documents that they leave out.
+            Leaf::Set(_) => self.all.insert(0, leaf)?,
+            Leaf::Within { .. } => self.all.push(leaf)?,
         }
         Ok(())
     }
@@ -132,6 +136,19 @@ impl<'a> DocIdSet<'a> {
             return false;
         }
         !leaf::one_has(&self.none, doc)
+    }
+
+    /// Moves those of the documents `from..end` that are of the set to the front, after the first `from`, which are of it
+    /// too. Returns how many these are then in all.
+    pub fn retain(&self, from: usize, end: usize, docs: &mut [u32; 128]) -> usize
+        requires order { from ≤ end }
+        requires room { end ≤ 128 }
+        requires passed { filter (has self.now) (take from docs.old) ≡ take from docs.old }
+        ensures { IsKept (has self.now) from end docs.old docs.new result }
+    {
+        let kept = retain::keep_below(self.docs, &self.all, from, end, docs);
+        let some = retain::keep_clauses(&self.any, from, kept, docs);
+        retain::drop_each(&self.none, from, some, docs)
     }
 
     /// How many documents there are: their number, if bits alone tell them, otherwise about their number, by a sample.

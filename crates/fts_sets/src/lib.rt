@@ -15,9 +15,11 @@
 
 mod doc_id_set;
 mod leaf;
+mod retain;
 mod rows;
 mod set_cursor;
 
 pub use doc_id_set::DocIdSet;
 pub use leaf::{Leaf, leaves_of};
+pub use retain::keep_set;
 pub use set_cursor::SetCursor;

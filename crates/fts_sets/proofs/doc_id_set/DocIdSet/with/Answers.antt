@@ -4,7 +4,7 @@ use Rattle.std.specs.List.{filter}
 use Rattle.fts_sets.specs.declared.leaf.Leaf.{Leaf}
 use Rattle.fts_sets.specs.Leaves.{is_told, leaf_has}
 use Rattle.fts_postings.specs.Windows.{passing}
-use Rattle.fts_sets.proofs.ToldLemmas.{told-below, told-with}
+use Rattle.fts_sets.proofs.ToldLemmas.{told-below, told-first, told-with}
 use Rattle.fts_sets.proofs.doc_id_set.DocIdSet.with.Goals as goal
 
 pub returns-in-Below-clause-kept : goal.returns-in-Below-clause-kept
@@ -15,11 +15,20 @@ returns-in-Below-clause-kept c =
     ∙ ap (λ (l : Leaf). filter (leaf_has l) (passing (is_told s.docs s.all.items s.any.items s.none.items) 0 s.docs)) (sym c.in-Below.is)
     ∙ ap (filter (leaf_has c.args.leaf)) c.self.view_is
 
-pub returns-in_ok-push-in-Set : goal.returns-in_ok-push-in-Set
-returns-in_ok-push-in-Set c =
+pub returns-in_ok-insert-in-Set : goal.returns-in_ok-insert-in-Set
+returns-in_ok-insert-in-Set c =
     let s = c.self.inside in
     record {
-      kept = ap (λ xs. passing (is_told s.docs xs s.any.items s.none.items) 0 s.docs) c.in_ok-push-in-Set.ensures.items
+      kept = ap (λ xs. passing (is_told s.docs xs s.any.items s.none.items) 0 s.docs) c.in_ok-insert-in-Set.ensures.items
+          ∙ told-first s.docs s.all.items s.any.items s.none.items c.args.leaf ∙ ap (filter (leaf_has c.args.leaf)) c.self.view_is;
+      failed = tt;
+    }
+
+pub returns-in_ok-push-in-Within : goal.returns-in_ok-push-in-Within
+returns-in_ok-push-in-Within c =
+    let s = c.self.inside in
+    record {
+      kept = ap (λ xs. passing (is_told s.docs xs s.any.items s.none.items) 0 s.docs) c.in_ok-push-in-Within.ensures.items
           ∙ told-with s.docs s.all.items s.any.items s.none.items c.args.leaf ∙ ap (filter (leaf_has c.args.leaf)) c.self.view_is;
       failed = tt;
     }
