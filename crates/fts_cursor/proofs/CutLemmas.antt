@@ -1,12 +1,7 @@
 -- Those of what is kept whose bit is set.
-use Rattle.std.proofs.Common.{◌≡◌, ◌&&◌, ℕ, Bool, cond, List, [], ◌∷◌, ◌++◌, refl, sym, ap, ◌∙◌, inl, inr}
-use Rattle.std.specs.Borrow.{Bor}
+use Rattle.std.proofs.Common.{◌≡◌, ◌&&◌, ℕ, Bool, cond, List, [], ◌∷◌, refl, sym, ap, ◌∙◌, inl, inr}
 use Rattle.std.specs.List.{filter}
-use Rattle.std.proofs.Math.Bool.{and-true}
 use Rattle.std.proofs.lemmas.Bool.{cases_Bool}
-use Rattle.std.proofs.lemmas.List.Folds.{list_all-append}
-use Rattle.fts_cursor.specs.Hits.{is_live}
-use Rattle.fts_sets.specs.Leaves.{in_each}
 
 -- what passes one test and another
 pub filter-both : (p q l : ℕ → Bool) → ((d : ℕ) → q d ≡ (p d && l d)) → (xs : List ℕ) → filter q xs ≡ filter l (filter p xs)
@@ -22,10 +17,3 @@ filter-both p q l h (x ∷ xs) = elim (cases_Bool (p x)) [
       ap (λ b. cond b (x ∷ filter q xs) (filter q xs)) (h x ∙ ap (λ b. b && l x) dead) ∙ filter-both p q l h xs ∙ sym (ap (filter l) kept)
       )
 ]
-
--- whether the document's bit is set in each, one list of bits more
-pub each_more : (before all : List (Bor (List Bool))) (live : Bor (List Bool)) (doc : ℕ) → all ≡ before ++ live ∷ [] →
-    in_each all doc ≡ (in_each before doc && is_live live.now doc)
-each_more before all live doc is =
-    ap (λ xs. in_each xs doc) is ∙ list_all-append (λ (b : Bor (List Bool)). is_live b.now doc) before (live ∷ [])
-    ∙ ap (λ b. in_each before doc && b) (and-true (is_live live.now doc))

@@ -1,25 +1,19 @@
 -- Documents of lists that bits tell too, a stretch at a time.
-use Rattle.std.proofs.Common.{◌≡◌, ◌&&◌, ℕ, zero, suc, ◌+◌, ◌<◌, ◌≤◌, Bool, true, cond, get_or, None, List, [], ◌∷◌, ◌++◌, length, take, drop, refl, sym, ap}
+use Rattle.std.proofs.Common.{◌≡◌, ℕ, zero, suc, ◌+◌, Bool, cond, None, List, [], ◌∷◌, ◌++◌, length, take, drop, refl, sym, ap}
 use Rattle.std.proofs.Common.{ap₂, ◌∙◌, inl, inr, arith}
-use Rattle.std.specs.Borrow.{Bor}
 use Rattle.std.specs.List.{filter, slice_get}
 use Rattle.std.proofs.Math.Seq.{drop-append_seam, take-append_seam}
-use Rattle.std.proofs.lemmas.Bool.{and_parts, cases_Bool, cases_lt}
+use Rattle.std.proofs.lemmas.Bool.{cases_Bool, cases_lt}
 use Rattle.std.proofs.lemmas.List.{drop-drop, drop-take, length-append, length-drop, length-take-le, nil_from_length, take-append-drop, take-append-le}
 use Rattle.std.proofs.lemmas.List.{take-take}
 use Rattle.std.proofs.lemmas.List.Elements.{filter-append}
-use Rattle.std.proofs.lemmas.List.Folds.{list_all-append, list_all_more}
 use Rattle.fts_postings.specs.Takes.{IsStretch}
 use Rattle.fts_postings.specs.Bounds.{Bound}
 use Rattle.fts_postings.specs.Conjoined.{AllFollow, Conjoined}
-use Rattle.fts_postings.proofs.CostLemmas.{length-filter-le}
 use Rattle.fts_postings.proofs.TakesLemmas.{Taken}
-use Rattle.fts_sets.specs.Leaves.{in_each}
-use Rattle.fts_cursor.specs.Hits.{is_live}
 use Rattle.fts_cursor.specs.Filters.{filtered}
 use Rattle.fts_cursor.specs.Standing.{Continues}
 use Rattle.fts_cursor.specs.Terms.{AreTied}
-use Rattle.fts_cursor.proofs.CutLemmas.{filter-both}
 use Rattle.fts_cursor.proofs.TermsLemmas.{terms-continue}
 
 -- what passed passes
@@ -93,68 +87,6 @@ module _ (p : ℕ → Bool) (whole left out : List ℕ) (filled : ℕ) (h : Take
             ∙ ap (λ ys. front ++ ys) (take-append_seam more rest));
         within = omega (arith, sum, ap length split, length-append more rest, length-drop filled w, h.within);
       }
-
--- where all pass one test, all pass a weaker one
-pub filter-weaker : (p q : ℕ → Bool) (xs : List ℕ) → filter p xs ≡ xs → ((d : ℕ) → p d ≡ true → q d ≡ true) → filter q xs ≡ xs
-filter-weaker p q [] all weaker = refl
-filter-weaker p q (x ∷ xs) all weaker = elim (cases_Bool (p x)) [
-  | inl live ↦ (
-      let kept : x ∷ filter p xs ≡ x ∷ xs = sym (ap (λ b. cond b (x ∷ filter p xs) (filter p xs)) live) ∙ all in
-      let rest : filter p xs ≡ xs = ap (drop 1) kept in
-      ap (λ b. cond b (x ∷ filter q xs) (filter q xs)) (weaker x live) ∙ ap (λ ys. x ∷ ys) (filter-weaker p q xs rest weaker)
-      )
-  | inr dead ↦ (
-      let fewer : filter p xs ≡ x ∷ xs = sym (ap (λ b. cond b (x ∷ filter p xs) (filter p xs)) dead) ∙ all in
-      absurd (omega (arith, ap length fewer, length-filter-le p xs))
-      )
-]
-
--- a test left the front of an array as it was
-pub front_left : (p : ℕ → Bool) (before now : List ℕ) (from end n : ℕ) → take end now ≡ filter p (take n before) →
-    filter p (take from before) ≡ take from before → from ≤ n → from ≤ end → from ≤ length before → take from now ≡ take from before
-front_left p before now from end n left passed few within inside =
-    let front = take from before in
-    let rest = filter p (drop from (take n before)) in
-    let long : length front ≡ from = length-take-le from before inside in
-    let split : filter p (take n before) ≡ front ++ rest =
-    ap (filter p) (sym (take-append-drop from (take n before))) ∙ filter-append p (take from (take n before)) (drop from (take n before))
-    ∙ ap (λ xs. filter p xs ++ rest) (take-take from n before few) ∙ ap (λ xs. xs ++ rest) passed in
-    sym (take-take from end now within) ∙ ap (take from) (left ∙ split) ∙ ap (λ k. take k (front ++ rest)) (sym long) ∙ take-append_seam front rest
-
--- what each of the first lists of bits has, and one list of bits more
-module _ (bits : List (Bor (List Bool))) (i : ℕ) (one : Bor (List Bool)) (inside : i < length bits) (is : one ≡ get_or bits i one) where
-  pub each_next : (d : ℕ) → in_each (take (i + 1) bits) d ≡ (in_each (take i bits) d && is_live one.now d)
-  each_next d = list_all_more (λ (b : Bor (List Bool)). is_live b.now d) bits i one inside
-      ∙ ap (λ (b : Bor (List Bool)). in_each (take i bits) d && is_live b.now d) (sym is)
-
-  each_first : (k : ℕ) (d : ℕ) → in_each bits d ≡ true → in_each (take k bits) d ≡ true
-  each_first k d all =
-      let test : Bor (List Bool) → Bool = λ b. is_live b.now d in
-      (and_parts (in_each (take k bits) d) (in_each (drop k bits) d) (sym (list_all-append test (take k bits) (drop k bits)) ∙ ap (λ bs. in_each bs d)
-      (take-append-drop k bits) ∙ all)).0
-
-  module _ (from count end : ℕ) (before now : List ℕ) (passed : filter (in_each bits) (take from before) ≡ take from before)
-      (left : take end now ≡ filter (in_each (take i bits)) (take (from + count) before)) (low : from ≤ end) (room : from ≤ length before) where
-    pub passed_next : filter (is_live one.now) (take from now) ≡ take from now
-    passed_next =
-        let first = filter-weaker (in_each bits) (in_each (take i bits)) (take from before) passed (each_first i) in
-        let front : take from now ≡ take from before = front_left (in_each (take i bits)) before now from end (from + count) left first (omega arith) low
-        room in
-        let here : filter (is_live one.now) (take from before) ≡ take from before =
-        filter-weaker (in_each bits) (is_live one.now) (take from before) passed
-        (λ d all. (and_parts (in_each (take i bits) d) (is_live one.now d) (sym (each_next d) ∙ each_first (i + 1) d all)).1) in
-        ap (filter (is_live one.now)) front ∙ here ∙ sym front
-
-    pub left_next : (next : List ℕ) (kept : ℕ) → take kept next ≡ filter (is_live one.now) (take end now) →
-        take kept next ≡ filter (in_each (take (i + 1) bits)) (take (from + count) before)
-    left_next next kept is_kept =
-        is_kept ∙ ap (filter (is_live one.now)) left
-        ∙ sym (filter-both (in_each (take i bits)) (in_each (take (i + 1) bits)) (is_live one.now) each_next (take (from + count) before))
-
--- no list of bits yet
-pub filter-every : (xs : List ℕ) → filter (λ d. true) xs ≡ xs
-filter-every [] = refl
-filter-every (x ∷ xs) = ap (λ ys. x ∷ ys) (filter-every xs)
 
 -- a cursor later on
 pub filter-continues : (c d : Conjoined) (opened : ℕ) (before after : List ℕ) → AllFollow c d → AreTied c →

@@ -1,9 +1,9 @@
 -- The documents that match, as the members of rising lists.
-use Rattle.std.proofs.Common.{◌≡◌, ℕ, zero, suc, ◌+◌, ◌<◌, ◌≤◌, Bool, true, false, not, cond, ◌&&◌, ◌||◌, ◌==◌, Option, Some, None, List, [], ◌∷◌, length, map}
+use Rattle.std.proofs.Common.{◌≡◌, ℕ, zero, suc, ◌+◌, ◌<◌, Bool, true, false, not, cond, ◌&&◌, ◌||◌, Option, Some, None, List, [], ◌∷◌, length, map}
 use Rattle.std.proofs.Common.{refl, sym, ap, ap₂, subst, ◌∙◌, inl, inr, arith}
-use Rattle.std.specs.List.{filter, list_all, list_any, range_with_len, slice_get}
+use Rattle.std.specs.List.{list_all, list_any, range_with_len, slice_get}
 use Rattle.std.specs.Option.{option_map_or}
-use Rattle.std.proofs.lemmas.Bool.{cases_lt, cases_Bool, eqb-true, false≢true}
+use Rattle.std.proofs.lemmas.Bool.{cases_lt}
 use Rattle.fts_pack.specs.Documents.{Rises}
 use Rattle.fts_model.specs.declared.query.Query.{Query}
 use Rattle.fts_model.specs.QueryValues.{query_value}
@@ -17,7 +17,6 @@ use Rattle.fts_model.specs.declared.operation.Stamped.{Stamped}
 use Rattle.fts_model.specs.declared.schema.Field.{Field}
 use Rattle.fts_model.specs.Documents.{DocumentValue}
 use Rattle.std.proofs.lemmas.Option.{slice_get_past}
-use Rattle.std.proofs.Math.Bool.{and-false}
 use Rattle.fts_postings.proofs.PassingLemmas.{Rises-passing}
 use Rattle.fts_postings.proofs.SetLemmas.{Rises-filter, Rises-lower, above_is_other, has-below, is_itself}
 use Rattle.fts_postings.proofs.UnionLemmas.{Rises-union, has-union}

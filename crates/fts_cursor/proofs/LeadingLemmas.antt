@@ -1,7 +1,6 @@
 -- Lists of which the shortest leads: what a conjunction over them finds, and what it opens.
-use Rattle.std.proofs.Common.{◌≡◌, ◌≢◌, ℕ, zero, suc, ◌+◌, ◌-◌, ◌<◌, ◌≤◌, Bool, true, false, cond, ◌&&◌, ◌||◌, nat_lt, List, [], ◌∷◌, ◌++◌, length, map, take}
+use Rattle.std.proofs.Common.{◌≡◌, ◌≢◌, ℕ, zero, suc, ◌+◌, ◌<◌, ◌≤◌, Bool, true, false, cond, ◌&&◌, ◌||◌, nat_lt, List, [], ◌∷◌, ◌++◌, length, map, take}
 use Rattle.std.proofs.Common.{get_or, refl, sym, ap, ap₂, subst, ◌∙◌, inl, inr, arith}
-use Rattle.std.specs.Borrow.{Bor}
 use Rattle.std.specs.List.{All, AllZip, list_all, slice_get, sum_by}
 use Rattle.std.proofs.lemmas.Bool.{and_parts, cases_lt, false≢true, le-ltb, lt-ltb}
 use Rattle.std.proofs.lemmas.List.{length-append, map-append, take_more}
@@ -14,7 +13,7 @@ use Rattle.fts_pack.specs.declared.list_ref.ListRef.{ListRef}
 use Rattle.fts_pack.specs.ListRef.{listed}
 use Rattle.fts_model.specs.declared.query.Query.{Query}
 use Rattle.fts_model.proofs.QueriesBoolean.{matches_in}
-use Rattle.fts_pack.specs.Documents.{Rises, block_count, blocks_of}
+use Rattle.fts_pack.specs.Documents.{Rises, blocks_of}
 use Rattle.fts_pack.specs.SourceLaws.{blocks_joined, length-blocks_of}
 use Rattle.fts_segment.specs.Segments.{SegmentValue, numbers_where}
 use Rattle.fts_postings.specs.Conjoined.{AllFollow, Conjoined, bound_of, common_of, counts_of, each_remaining}

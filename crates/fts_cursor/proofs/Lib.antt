@@ -26,3 +26,4 @@ pub mod FilterLemmas
 pub mod SplitLemmas
 pub mod TestsLemmas
 pub mod ShouldsLemmas
+pub mod LeadLemmas

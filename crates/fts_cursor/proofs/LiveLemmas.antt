@@ -1,55 +1,17 @@
 -- Those of some documents that are live, at the front of what they lay in.
-use Rattle.std.proofs.Common.{◌≡◌, ℕ, zero, suc, ◌+◌, ◌<◌, ◌≤◌, Bool, true, false, cond, List, [], ◌∷◌, ◌++◌, length, get_or, set, take, drop, refl, sym, ap, ap₂, ◌∙◌}
+use Rattle.std.proofs.Common.{◌≡◌, ℕ, zero, suc, ◌+◌, ◌<◌, ◌≤◌, Bool, cond, List, [], ◌∷◌, ◌++◌, length, get_or, take, drop, sym, ap, ap₂, ◌∙◌}
 use Rattle.std.proofs.Common.{inl, inr, arith}
 use Rattle.std.specs.List.{filter}
 use Rattle.std.proofs.Math.Seq.{drop-append_seam, take-append_seam}
 use Rattle.std.proofs.lemmas.Bool.{cases_Bool}
-use Rattle.std.proofs.lemmas.Grind.{get_or_default_zero}
-use Rattle.std.proofs.lemmas.List.{drop-set-lt, length-append, length-set, length-take-le, take-append-drop, take_more, take-set-le}
+use Rattle.std.proofs.lemmas.List.{length-append, take-append-drop, take_more}
 use Rattle.std.proofs.lemmas.List.Elements.{filter-append}
-use Rattle.std.proofs.lemmas.List.Filters.{FiltersInPlace, FiltersInPlace-more_no, FiltersInPlace-more_set}
 use mir.Val.{bool_byte}
+use Rattle.fts_sets.proofs.KeptLemmas.{byte_is}
 use Rattle.fts_postings.specs.Sets.{FirstPasses}
 use Rattle.fts_postings.specs.Takes.{Takes}
 use Rattle.fts_postings.proofs.CostLemmas.{length-filter-le}
 use Rattle.fts_postings.proofs.TakesLemmas.{Taken, Taken-some}
-
-byte_is : (b : Bool) → bool_byte b ≡ cond {A = ℕ} b 1 0
-byte_is true = refl
-byte_is false = refl
-
-pub byte_few : (b : Bool) → bool_byte b ≤ 1
-byte_few true = omega arith
-byte_few false = omega arith
-
--- one more, which is written in any case
-pub kept_more : (p : ℕ → Bool) (xs ys : List ℕ) (k i x more : ℕ) (b : Bool) → FiltersInPlace p xs ys k i → i < length ys → x ≡ get_or ys i 0 → b ≡ p x →
-    more ≡ k + bool_byte b → FiltersInPlace p xs (set ys k x) more (i + 1)
-kept_more p xs ys k i x more b h inside is test adds =
-    let more_is : more ≡ k + cond (p x) 1 0 = adds ∙ ap (λ n. k + n) (byte_is b) ∙ ap (λ c. k + cond c 1 0) test in
-    let read : x ≡ get_or ys i x = is ∙ sym (get_or_default_zero ys i x inside) in
-    elim (cases_Bool (p x)) [
-      | inl live ↦
-          let one : more ≡ k + 1 = more_is ∙ ap (λ b. k + cond b 1 0) live in
-          rw one (FiltersInPlace-more_set h inside live read)
-      | inr dead ↦
-          let none : more ≡ k = more_is ∙ ap (λ b. k + cond b 1 0) dead ∙ omega arith in
-          let n = FiltersInPlace-more_no h inside dead read in
-          rw none (record {
-            front = take-set-le k ys k x (omega arith) ∙ n.front;
-            rest = drop-set-lt (i + 1) ys k x (omega (arith, h.behind)) ∙ n.rest;
-            behind = n.behind;
-            within = n.within;
-            long = length-set ys k x ∙ n.long;
-          })
-    ]
-
-module _ (p : ℕ → Bool) (xs ys : List ℕ) (k i count : ℕ) (h : FiltersInPlace p xs ys k i) (all : i ≡ count) where
-  pub kept_all : take k ys ≡ filter p (take count xs)
-  kept_all = h.front ∙ ap (λ n. filter p (take n xs)) all
-
-  pub kept_size : k ≡ length (filter p (take count xs))
-  kept_size = sym (length-take-le k ys (omega (arith, h.behind, h.within, h.long))) ∙ ap length kept_all
 
 -- the live ones among the next documents were taken
 pub Taken-live : (p : ℕ → Bool) (whole next front out : List ℕ) (n kept : ℕ) → front ≡ take n whole → filter p next ≡ filter p (drop n whole) →

@@ -1,5 +1,5 @@
 -- What the cursor of a query opens, by the queries in it.
-use Rattle.std.proofs.Common.{◌≡◌, ◌≢◌, ℕ, ◌+◌, ◌<◌, ◌≤◌, Bool, true, false, ◌&&◌, Option, Some, None, List, [], ◌∷◌, ◌++◌, length, map, take, get_or, refl}
+use Rattle.std.proofs.Common.{◌≡◌, ◌≢◌, ℕ, ◌+◌, ◌<◌, ◌≤◌, Bool, true, false, not, ◌&&◌, Option, None, List, [], ◌∷◌, ◌++◌, length, map, take, get_or, refl}
 use Rattle.std.proofs.Common.{sym, ap, ap₂, subst, ◌∙◌, inl, inr, arith}
 use Rattle.std.specs.Prelude.{if◌then◌else◌}
 use Rattle.std.specs.List.{AllZip, filter, list_all}
@@ -11,17 +11,16 @@ use Rattle.fts_model.specs.declared.query.Query.TheOpen.{Query-F}
 use Rattle.fts_model.specs.declared.query.Query.TheViews as views
 use Rattle.fts_model.specs.declared.query.Query.TheVariants as variants
 use Rattle.fts_model.specs.declared.query.Query.TheFolds.{fold-roll-Query}
-use Rattle.fts_model.specs.QueryValues.{QueryValue, QueryValues, nothing, term, boolean, no_queries, query_list, query_value, value_by_parts}
+use Rattle.fts_model.specs.QueryValues.{QueryValue, QueryValues, every, nothing, term, phrase, range, boolean, no_queries, query_list, query_value, value_by_parts}
 use Rattle.fts_model.specs.declared.schema.Field.{Field}
 use Rattle.fts_model.specs.Queries.{matches}
 use Rattle.fts_model.proofs.QueriesBoolean.{fits_in, query_fits_at_bool}
-use Rattle.fts_pack.specs.Documents.{block_count}
 use Rattle.fts_segment.proofs.HoldingLemmas.{numbers_where-none}
 use Rattle.fts_segment.specs.Segments.{SegmentValue, numbers_where, postings}
 use Rattle.fts_cursor.specs.Builds.{is_term}
-use Rattle.fts_cursor.specs.Most.{Opens, are_terms, hits_each, least_for, most_for, most_for_all}
+use Rattle.fts_cursor.specs.Most.{Opens, are_mixed, are_terms, is_free, hits_each, least_for, most_for, most_for_all}
 use Rattle.fts_cursor.specs.Hits.{segment_hits}
-use Rattle.fts_cursor.specs.Openings.{blocks_with, bound_for_musts, bound_of_all}
+use Rattle.fts_cursor.specs.Openings.{bound_for_musts, bound_of_all}
 use Rattle.fts_cursor.specs.Standing.{Standing, Walked, at_most}
 use Rattle.fts_cursor.specs.TreeValues.{TreeValue, all_most, remains}
 use Rattle.fts_postings.specs.Bounds.{Bound, most_at}
@@ -214,11 +213,6 @@ module _ (segment : SegmentValue) (query : Query) (must must_not should : List Q
         (sym (value ∙ ap (λ qs. boolean (query_list (map query_value must)) (query_list (map query_value qs)) (query_list (map query_value should))) none))
         h.opens
 
-    pub opens_told : 0 < length must_not → s.bound ≡ at_most 0 → Opens segment (query_value query) s.standing
-    opens_told some none =
-        opens_without segment (query_value query) (query_list (map query_value must)) (query_list (map query_value should)) must_not s.standing value some
-        (subst (λ (b : Bound). most_at b None ≤ most_for segment (query_value query)) (sym none) (omega arith))
-
     pub opens_apart : 0 < length must_not → (kept dropped : TreeValue) → Keeps segment must should kept →
         most_at dropped.bound None ≤ most_for_all segment (query_list (map query_value must_not)) →
         most_at s.bound None ≡ most_at kept.bound None + most_at dropped.bound None →
@@ -226,6 +220,68 @@ module _ (segment : SegmentValue) (query : Query) (must must_not should : List Q
     opens_apart some kept dropped keeps less most =
         opens_without segment (query_value query) (query_list (map query_value must)) (query_list (map query_value should)) must_not s.standing value some
         (subst (λ v. most_at s.bound None ≤ most_for segment v) (sym value) (omega (arith, keeps.opens.most, less, most)))
+
+-- a query of which nothing says that it opens blocks
+fewest_free : (segment : SegmentValue) (query : QueryValue) → is_free query ≡ true → least_for segment query ≡ 0
+fewest_free segment every free = refl
+fewest_free segment nothing free = refl
+fewest_free segment (term t) free = refl
+fewest_free segment (phrase field pattern) free = refl
+fewest_free segment (range field lower upper) free = absurd (false≢true free)
+fewest_free segment (boolean must must_not should) free = refl
+
+terms_all : (terms : List Term) → are_terms (query_list (map term terms)) ≡ true
+terms_all [] = refl
+terms_all (t ∷ ts) = terms_all ts
+
+musts_open : (terms : List Term) → is_free (boolean (query_list (map term terms)) no_queries no_queries) ≡ false
+musts_open [] = refl
+musts_open (t ∷ ts) = ap not (terms_all ts)
+
+pub opens_free : (segment : SegmentValue) (query : QueryValue) (s : Standing) → is_free query ≡ true → most_at s.bound None ≤ most_for segment query →
+    Opens segment query s
+opens_free segment query s free most = record {
+  most = most;
+  least = omega (arith, fewest_free segment query free);
+  one_term = λ u h. elim h [ inl e ↦ absurd (false≢true (sym (ap is_free e) ∙ free)) | inr e ↦ absurd (false≢true (sym (ap is_free e) ∙ free)) ];
+  list = λ u h. elim h [ inl e ↦ absurd (false≢true (sym (ap is_free e) ∙ free)) | inr e ↦ absurd (false≢true (sym (ap is_free e) ∙ free)) ];
+  musts = λ terms e doc. absurd (false≢true (sym (ap is_free e ∙ musts_open terms) ∙ free));
+  opened = λ terms e some. absurd (false≢true (sym (ap is_free e ∙ musts_open terms) ∙ free));
+}
+
+pub opens_nothing : (segment : SegmentValue) (query : QueryValue) (s : Standing) → s.bound ≡ at_most 0 → most_at s.bound None ≤ most_for segment query
+opens_nothing segment query s none = subst (λ (b : Bound). most_at b None ≤ most_for segment query) (sym none) (omega arith)
+
+-- which queries of the code these are
+pub free_apart : (must must_not should : List Query) → 0 < length must_not →
+    is_free (boolean (query_list (map query_value must)) (query_list (map query_value must_not)) (query_list (map query_value should))) ≡ true
+free_apart must [] should some = absurd (omega (arith, some))
+free_apart must (q ∷ qs) should some = refl
+
+pub free_musts : (must must_not should : List Query) → length must_not ≡ 0 → 0 < length must →
+    is_free (boolean (query_list (map query_value must)) (query_list (map query_value must_not)) (query_list (map query_value should)))
+    ≡ not (list_all (λ q. is_term (query_value q)) must)
+free_musts [] must_not should none some = absurd (omega (arith, some))
+free_musts (q ∷ qs) [] should none some = ap not (are_all_terms (q ∷ qs))
+free_musts (q ∷ qs) (p ∷ ps) should none some = absurd (omega (arith, none))
+
+pub free_shoulds : (must must_not should : List Query) → length must_not ≡ 0 → length must ≡ 0 →
+    is_free (boolean (query_list (map query_value must)) (query_list (map query_value must_not)) (query_list (map query_value should)))
+    ≡ are_mixed (query_list (map query_value should))
+free_shoulds [] [] should none empty = refl
+free_shoulds (q ∷ qs) must_not should none empty = absurd (omega (arith, empty))
+free_shoulds [] (p ∷ ps) should none empty = absurd (omega (arith, none))
+
+pub mixed_one : (qs : List Query) → length qs < 2 → false ≡ are_mixed (query_list (map query_value qs))
+mixed_one [] few = refl
+mixed_one (q ∷ []) few = refl
+mixed_one (q ∷ (w ∷ qs)) few = absurd (omega (arith, few))
+
+pub mixed_some : (qs : List Query) → 2 ≤ length qs →
+    not (list_all (λ q. is_term (query_value q)) qs) ≡ are_mixed (query_list (map query_value qs))
+mixed_some [] some = absurd (omega (arith, some))
+mixed_some (q ∷ []) some = absurd (omega (arith, some))
+mixed_some (q ∷ (w ∷ qs)) some = ap not (sym (are_all_terms (q ∷ (w ∷ qs))))
 
 -- the queries in a Boolean query fit where it does
 pub parts_fit : (schema : List Field) (query : Query) (must must_not should : _) → query ≡ views.Bool must must_not should → fits_in schema query ≡ true →

@@ -1,25 +1,22 @@
 -- Lists some of which have bits: what is told, and what is opened.
-use Rattle.std.proofs.Common.{◌≡◌, ◌≢◌, ℕ, ◌+◌, ◌-◌, ◌*◌, ◌^◌, ◌<◌, ◌≤◌, Bool, true, false, ◌&&◌, ◌||◌, List, [], ◌∷◌, ◌++◌, length, map, take, get_or, refl}
+use Rattle.std.proofs.Common.{◌≡◌, ◌≢◌, ℕ, ◌+◌, ◌-◌, ◌*◌, ◌<◌, ◌≤◌, Bool, true, false, ◌&&◌, ◌||◌, List, [], ◌∷◌, ◌++◌, length, map, take, get_or, refl}
 use Rattle.std.proofs.Common.{sym, ap, ap₂, ◌∙◌, inl, inr, arith}
-use Rattle.std.specs.Prelude.{Option, Result, Ok, Err, IfOk, All, not}
+use Rattle.std.specs.Prelude.{Option, Result, Ok, Err, IfOk, All}
 use Rattle.std.specs.Borrow.{Bor}
-use Rattle.std.specs.List.{filter, range_with_len, slice_get}
+use Rattle.std.specs.List.{filter, range_with_len}
 use Rattle.std.proofs.lemmas.Bool.{and_parts, cases_lt}
 use Rattle.std.proofs.lemmas.List.{length-append, get_or_past, map-append, take_more}
-use Rattle.std.proofs.lemmas.List.Folds.{list_all-append, list_any-append, list_any_none}
-use Rattle.std.proofs.lemmas.List.Elements.{All-append, All-cons, All-nil}
-use Rattle.fts_postings.proofs.UnionLemmas.{has-union}
+use Rattle.std.proofs.lemmas.List.Folds.{list_all-append, list_any_none}
 use Rattle.fts_pack.specs.Documents.{Rises, block_count}
 use Rattle.fts_postings.specs.Bounds.{Bound, most_at, reached}
 use Rattle.fts_postings.specs.Conjoined.{Conjoined, bound_of, common_of, counts_of}
-use Rattle.fts_postings.specs.Sets.{common, has, in_all, lacks, union, without}
-use Rattle.fts_postings.specs.Windows.{passing}
+use Rattle.fts_postings.specs.Sets.{common, has, in_all}
 use Rattle.fts_postings.proofs.PassingLemmas.{Rises-passing}
 use Rattle.fts_postings.proofs.SetLemmas.{Rises-filter}
 use Rattle.fts_sets.specs.declared.leaf.Leaf.{Leaf}
 use Rattle.fts_sets.specs.Leaves.{all_have, in_each, in_one, one_has}
 use Rattle.fts_cursor.specs.Hits.{is_live}
-use Rattle.fts_cursor.specs.Splits.{AreToldBy, FindsAll, IsSplit, bound_over}
+use Rattle.fts_cursor.specs.Splits.{FindsAll, IsSplit, bound_over}
 use Rattle.fts_cursor.specs.Standing.{Standing, at_most}
 use Rattle.std.proofs.lemmas.List.{length-map}
 use Rattle.fts_model.specs.declared.query.Query.{Query}
@@ -27,7 +24,7 @@ use Rattle.fts_segment.specs.Segments.{SegmentValue}
 use Rattle.fts_cursor.specs.Leading.{IsLed}
 use Rattle.fts_cursor.specs.Openings.{bound_of_all}
 use Rattle.fts_postings.proofs.SetLemmas.{is_itself}
-use Rattle.fts_cursor.proofs.HitsLemmas.{Rises-numbers, at_all, has-all, hits_of, in_all-hits}
+use Rattle.fts_cursor.proofs.HitsLemmas.{hits_of}
 use Rattle.std.proofs.Math.Bool.{and_assoc}
 use Rattle.fts_sets.proofs.SetLemmas.{has-filter, has-passing, has-range, past-range, same_members}
 use Rattle.fts_cursor.proofs.LeadingLemmas.{IsConjoinedOver, all_hits, led_hits}
@@ -198,21 +195,6 @@ pub both_of : {X Y : Type 0} (r : Result X Y) (P Q R : X → Type 0) → ((x : X
 both_of (Ok x) P Q R f p q = f x p q
 both_of (Err e) P Q R f p q = tt
 
-pub AreToldBy-none : AreToldBy [] []
-AreToldBy-none = record { same = λ d. refl; each = λ d. refl; count = refl; few = All-nil (λ (b : Bor (List Bool)). length b.now ≤ 2 ^ 32) }
-
-pub AreToldBy-more : (lists : List (List ℕ)) (bits : List (Bor (List Bool))) (x : List ℕ) (b : Bor (List Bool)) → AreToldBy lists bits →
-    ((d : ℕ) → is_live b.now d ≡ has x d) → length b.now ≤ 2 ^ 32 → AreToldBy (lists ++ x ∷ []) (bits ++ b ∷ [])
-AreToldBy-more lists bits x b h tells few = record {
-  same = λ d.
-      list_any-append (λ documents. has documents d) lists (x ∷ []) ∙ ap₂ (λ p q. p || (q || false)) (h.same d) (sym (tells d))
-      ∙ sym (list_any-append (λ (c : Bor (List Bool)). is_live c.now d) bits (b ∷ []));
-  each = λ d. in_all-more lists x d ∙ ap₂ (λ p q. p && (q && true)) (h.each d) (sym (tells d)) ∙ sym (in_each-more bits b d);
-  count = omega (arith, h.count, length-append lists (x ∷ []), length-append bits (b ∷ []));
-  few = All-append (λ (c : Bor (List Bool)). length c.now ≤ 2 ^ 32) bits (b ∷ []) h.few (All-cons (λ (c : Bor (List Bool)). length c.now ≤ 2 ^ 32) b [] few
-      (All-nil (λ (c : Bor (List Bool)). length c.now ≤ 2 ^ 32)));
-}
-
 pub told_has : (bits : List (Bor (List Bool))) (leaves : List Leaf) (docs : ℕ) → All (λ b. length b.now ≤ docs) bits →
     ((d : ℕ) → one_has leaves d ≡ in_one bits d) → (d : ℕ) → has (filter (one_has leaves) (range_with_len 0 docs)) d ≡ in_one bits d
 told_has bits leaves docs long one d =
@@ -225,34 +207,8 @@ hits_more segment queries i q inside is =
     ap (λ (p : Query). map (hits_of segment) (take i queries) ++ hits_of segment p ∷ []) is
     ∙ sym (map-append (hits_of segment) (take i queries) (get_or queries i q ∷ [])) ∙ ap (map (hits_of segment)) (sym (take_more queries i q inside))
 
--- by words: each of some lists has it, and none of others
-has_all_hits : (segment : SegmentValue) (queries : List Query) (d : ℕ) → 0 < length queries →
-    has (all_hits segment queries) d ≡ in_all (map (hits_of segment) queries) d
-has_all_hits segment [] d some = absurd (omega (arith, some))
-has_all_hits segment (q ∷ qs) d some =
-    has-all _ segment.documents d ∙ sym (in_all-hits segment (q ∷ qs) d ∙ at_all segment.schema (slice_get segment.documents d) q qs)
-
-first_gone : (bs : List (Bor (List Bool))) (b : Bor (List Bool)) (d : ℕ) → b ≡ get_or bs 0 b → 0 < length bs → length b.now ≤ d → in_each bs d ≡ false
+-- the bits of no document are set past the first's
+pub first_gone : (bs : List (Bor (List Bool))) (b : Bor (List Bool)) (d : ℕ) → b ≡ get_or bs 0 b → 0 < length bs → length b.now ≤ d → in_each bs d ≡ false
 first_gone [] b d same there past = absurd (omega (arith, there))
 first_gone (x ∷ bs) b d same there past =
     ap (λ c. c && in_each bs d) (ap (λ (c : Bor (List Bool)). is_live c.now d) (sym same) ∙ get_or_past b.now d false past)
-
-pub told_apart : (segment : SegmentValue) (must must_not : List Query) (bits none : List (Bor (List Bool))) (kept dropped : List Leaf) (first : Bor (List Bool)) →
-    0 < length must → AreToldBy (map (hits_of segment) must) bits → AreToldBy (map (hits_of segment) must_not) none → first ≡ get_or bits 0 first →
-    ((d : ℕ) → all_have kept d ≡ in_each bits d) → ((d : ℕ) → one_has dropped d ≡ in_one none d) →
-    filter (λ d. not (one_has dropped d)) (filter (all_have kept) (range_with_len 0 (length first.now)))
-    ≡ without (all_hits segment must) (union (map (hits_of segment) must_not))
-told_apart segment must must_not bits none kept dropped first some told gone is all one =
-    let n = length first.now in
-    let range = range_with_len 0 n in
-    let test : ℕ → Bool = λ d. not (one_has dropped d) in
-    let these = all_hits segment must in
-    let those = union (map (hits_of segment) must_not) in
-    let there : 0 < length bits = omega (arith, told.count, some, length-map must (hits_of segment)) in
-    let each : (d : ℕ) → all_have kept d ≡ has these d = λ d. all d ∙ sym (has_all_hits segment must d some ∙ told.each d) in
-    let other : (d : ℕ) → one_has dropped d ≡ has those d = λ d. one d ∙ sym (has-union (map (hits_of segment) must_not) d ∙ gone.same d) in
-    same_members 0 (filter test (filter (all_have kept) range)) (without these those) (Rises-filter 0 test (filter (all_have kept) range)
-    (Rises-passing (all_have kept) 0 n)) (Rises-filter 0 (lacks those) these (Rises-numbers _ 0 segment.documents))
-    (λ d. has-filter test (filter (all_have kept) range) d
-    ∙ ap (λ a. a && test d) (has-passing (all_have kept) n d (λ past. all d ∙ first_gone bits first d is there past))
-    ∙ ap₂ (λ a b. a && not b) (each d) (other d) ∙ sym (has-filter (lacks those) these d))

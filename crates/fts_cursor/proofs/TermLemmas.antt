@@ -1,17 +1,9 @@
 -- The terms that queries are, alone or as their only should.
-use Rattle.std.proofs.Common.{◌≡◌, ◌≢◌, false, Some, None, List, [], ◌∷◌, length, get_or, map, arith, refl, sym, ap, ◌∙◌, inl, inr}
-use Rattle.std.specs.Prelude.{◌⊎◌}
-use Rattle.std.specs.List.{slice_get}
-use Rattle.std.specs.Option.{option_map_or}
-use Rattle.fts_model.specs.Documents.{DocumentValue}
-use Rattle.fts_model.specs.Queries.{matches}
+use Rattle.std.proofs.Common.{◌≡◌, ◌≢◌, None, List, [], ◌∷◌, length, get_or, map, arith, refl, sym, ap}
 use Rattle.fts_model.specs.QueryValues.{QueryValue, QueryValues, every, nothing, term, phrase, range, boolean, no_queries, queries, query_list, query_value}
 use Rattle.fts_model.specs.declared.query.Query.{Query}
-use Rattle.fts_model.specs.declared.operation.Stamped.{Stamped}
 use Rattle.fts_model.specs.declared.operation.Term.{Term}
-use Rattle.fts_segment.specs.Segments.{SegmentValue}
 use Rattle.fts_cursor.specs.Builds.{only_term_in, term_in}
-use Rattle.fts_cursor.specs.Hits.{segment_hits}
 
 -- a Boolean query whose only member is this term as a should
 abbrev alone : Term → QueryValue

@@ -1,5 +1,5 @@
 -- What tests of documents tell of the hits of a query.
-use Rattle.std.proofs.Common.{◌≡◌, ℕ, ◌+◌, ◌<◌, ◌≤◌, Bool, true, false, not, ◌&&◌, ◌||◌, List, [], ◌∷◌, ◌++◌, get_or, length, map, take, refl, sym, ap, ap₂}
+use Rattle.std.proofs.Common.{◌≡◌, ℕ, ◌+◌, ◌<◌, Bool, true, false, not, ◌&&◌, ◌||◌, List, [], ◌∷◌, ◌++◌, get_or, length, map, take, refl, sym, ap, ap₂}
 use Rattle.std.proofs.Common.{◌∙◌, inl, inr, arith}
 use Rattle.std.specs.Prelude.{nat_lt}
 use Rattle.std.specs.List.{filter, range_with_len}
@@ -12,6 +12,7 @@ use Rattle.std.proofs.Math.Bool.{and-true, or-false}
 use Rattle.fts_model.specs.declared.operation.Stamped.{Stamped}
 use Rattle.fts_model.specs.declared.query.Query.{Query}
 use Rattle.fts_model.specs.Documents.{DocumentValue}
+use Rattle.fts_model.specs.Queries.{matches}
 use Rattle.fts_model.specs.QueryValues.{every, query_value}
 use Rattle.fts_segment.specs.Segments.{SegmentValue, numbers_where}
 use Rattle.fts_postings.specs.Sets.{has, in_all, in_some, lacks, union}
@@ -20,7 +21,7 @@ use Rattle.fts_postings.proofs.SetLemmas.{Rises-filter}
 use Rattle.fts_postings.proofs.UnionLemmas.{has-union}
 use Rattle.fts_sets.specs.declared.leaf.Leaf.{Leaf}
 use Rattle.fts_sets.specs.Leaves.{leaf_has, one_has}
-use Rattle.fts_sets.proofs.SetLemmas.{filter-agree, filter-and, has-filter, has-range, past-range, same_members}
+use Rattle.fts_sets.proofs.SetLemmas.{filter-agree, filter-and, has-filter, has-passing, has-range, past-range, same_members}
 use Rattle.fts_cursor.specs.Hits.{is_live, live_hits, segment_hits}
 use Rattle.fts_cursor.specs.Tests.{HasMore, hits_of_each, is_kept}
 use Rattle.fts_cursor.proofs.BoolHits.{IsBool, all_kept, bool_apart, bool_kept, kept_by, should_hits}
@@ -53,7 +54,7 @@ shoulds_are segment query must must_not should bool none gone d =
     sym (has-union (map (hits_of segment) should) d)
     ∙ ap (λ xs. has xs d) (bool_kept segment query must must_not should all bool gone (should_hits segment must should none))
 
-kept_are : (segment : SegmentValue) (must should : List Query) (d : ℕ) →
+pub kept_are : (segment : SegmentValue) (must should : List Query) (d : ℕ) →
     is_kept (hits_of_each segment must) (hits_of_each segment should) d ≡ has (numbers_where (kept_by segment.schema must should) 0 segment.documents) d
 kept_are segment [] should d = sym (has-union (map (hits_of segment) should) d) ∙ ap (λ xs. has xs d) (should_hits segment [] should refl)
 kept_are segment (q ∷ qs) should d =
@@ -110,6 +111,17 @@ told_hits segment query live docs same =
           ap (λ a. (a && is_live live d) && test d) (past-range 0 docs d (omega (arith, past)))
           ∙ sym (and_turn (test d) (is_live live d) ∙ ap (λ a. a && test d) (get_or_past live d false (omega (arith, past, same))))
     ] ∙ sym (has-filter (is_live live) (hits_of segment query) d))
+
+-- the hits among all documents
+pub told_all : (segment : SegmentValue) (query : Query) →
+    filter (has (hits_of segment query)) (range_with_len 0 (length segment.documents)) ≡ hits_of segment query
+told_all segment query =
+    let n = length segment.documents in
+    let hits = hits_of segment query in
+    let p : Stamped DocumentValue → Bool = λ e. matches segment.schema e.value (query_value query) in
+    same_members 0 (filter (has hits) (range_with_len 0 n)) hits (Rises-passing (has hits) 0 n) (Rises-hits segment query)
+    (λ d. has-passing (has hits) n d
+    (λ past. has-all p segment.documents d ∙ ap (λ s. option_map_or p s false) (slice_get_past segment.documents d past)))
 
 -- what matches one must more
 pub each_more : (segment : SegmentValue) (queries : List Query) (i : ℕ) (q : Query) → i < length queries → q ≡ get_or queries i q →

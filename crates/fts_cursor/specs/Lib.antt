@@ -15,3 +15,4 @@ pub mod Splits
 pub mod Tests
 pub mod Most
 pub mod Shoulds
+pub mod Told

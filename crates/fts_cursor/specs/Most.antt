@@ -1,5 +1,5 @@
 -- How many blocks the cursor of a query opens, whatever the query is.
-use Rattle.std.specs.Prelude.{◌≡◌, ◌≢◌, ℕ, ◌+◌, ◌/◌, ◌≤◌, nat_le, Bool, true, ◌&&◌, Option, None, Some, List, []}
+use Rattle.std.specs.Prelude.{◌≡◌, ◌≢◌, ℕ, ◌+◌, ◌/◌, ◌≤◌, nat_le, Bool, true, false, not, ◌&&◌, Option, None, Some, List, []}
 use Rattle.std.specs.Prelude.{◌∷◌, length}
 use Rattle.std.specs.Prelude.{if◌then◌else◌, map}
 use Rattle.fts_model.specs.declared.operation.Term.{Term}
@@ -57,6 +57,19 @@ abbrev mutual
   pub most_for_all : SegmentValue → QueryValues → ℕ
   most_for_all segment no_queries = 0
   most_for_all segment (queries q qs) = most_for segment q + most_for_all segment qs
+
+-- several queries aren't all terms
+abbrev pub are_mixed : QueryValues → Bool
+are_mixed (queries q (queries w qs)) = not (are_terms (queries q (queries w qs)))
+are_mixed qs = false
+
+-- nothing says of a query that it opens blocks: it is Boolean, and has must-nots, or musts that aren't all terms, or no
+-- must and several shoulds that aren't all terms
+abbrev pub is_free : QueryValue → Bool
+is_free (boolean must (queries q qs) should) = true
+is_free (boolean (queries q qs) no_queries should) = not (are_terms (queries q qs))
+is_free (boolean no_queries no_queries should) = are_mixed should
+is_free query = false
 
 -- the fewest blocks that the cursor of a range opens, as soon as it is made: few documents are read from the lists of
 -- their numbers

@@ -1,10 +1,10 @@
 -- Lists some of which have bits.
-use Rattle.std.specs.Prelude.{◌≡◌, ℕ, suc, ◌+◌, ◌^◌, ◌≤◌, ◌&&◌, All, Bool, true, List, Option, length}
+use Rattle.std.specs.Prelude.{◌≡◌, ℕ, suc, ◌+◌, ◌≤◌, ◌&&◌, Bool, true, List, Option, length}
 use Rattle.std.specs.Borrow.{Bor}
 use Rattle.fts_pack.specs.Documents.{block_count}
 use Rattle.fts_postings.specs.Bounds.{Bound, most_at}
-use Rattle.fts_postings.specs.Sets.{common, has, in_all, in_some}
-use Rattle.fts_sets.specs.Leaves.{in_each, in_one}
+use Rattle.fts_postings.specs.Sets.{common, has, in_all}
+use Rattle.fts_sets.specs.Leaves.{in_each}
 use Rattle.fts_cursor.specs.Standing.{Standing}
 
 -- the bits of some of the lists, and the others; this many blocks were opened of those with bits, the first of each
@@ -30,10 +30,3 @@ pub record FindsAll (shortest : List ℕ) (others : List (List ℕ)) (cursor : S
 abbrev pub FindsSplit : List ℕ → List (Bor (List Bool)) → List (List ℕ) → ℕ → Standing → Type 0
 FindsSplit shortest bits rest opened cursor =
     (lists : List (List ℕ)) → IsSplit lists bits rest opened → FindsAll shortest lists cursor
-
--- these bits are those of the lists
-pub record AreToldBy (lists : List (List ℕ)) (bits : List (Bor (List Bool))) : Type 0 where
-  pub same : (d : ℕ) → in_some lists d ≡ in_one bits d
-  pub each : (d : ℕ) → in_all lists d ≡ in_each bits d
-  pub count : length bits ≡ length lists
-  pub few : All (λ b. length b.now ≤ 2 ^ 32) bits

@@ -1,11 +1,11 @@
 -- What a tree of cursors stands for.
-use Rattle.std.specs.Prelude.{◌≡◌, ℕ, ◌==◌, ◌≤◌, nat_le, Bool, true, false, ◌&&◌, ◌||◌, Option, Some, None}
+use Rattle.std.specs.Prelude.{◌≡◌, ℕ, ◌==◌, ◌≤◌, Bool, true, false, Option, Some, None}
 use Rattle.std.specs.Prelude.{List, [], ◌∷◌, length, slice_get}
 use Rattle.std.specs.List.{filter}
 use Rattle.std.specs.List.Sorted.{IsStrictlyIncreasing}
 use Rattle.fts_postings.specs.Posting.{blocks_reached, members_of, remaining_of}
 use Rattle.fts_postings.specs.Conjoined.{common_of}
-use Rattle.fts_postings.specs.Sets.{FirstPasses, common, has, in_all, in_some, lacks, union, without}
+use Rattle.fts_postings.specs.Sets.{FirstPasses, common, in_all, in_some, lacks, union, without}
 use Rattle.fts_cursor.specs.Standing.{at_most}
 use Rattle.fts_cursor.specs.Terms.{AreTied, IsAlone, of_terms}
 use Rattle.fts_cursor.specs.TreeValues.{TreeValue, beside, leaf, remains, together}

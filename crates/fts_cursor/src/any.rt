@@ -1,20 +1,15 @@
 // The cursor of queries one of which must match. It works by words if the lists of terms have bits.
 ghost use Rattle.std.specs.Prelude.{◌≡◌, ℕ, ◌^◌, ◌<◌, ◌≤◌, ◌||◌, All, IfOk, IfSome, None, length, map, true};
-ghost use Rattle.std.specs.List.{list_all};
-ghost use Rattle.fts_cursor.specs.Builds.{is_term};
-ghost use Rattle.fts_model.specs.Queries.{matches};
 ghost use Rattle.fts_model.specs.QueryValues.{query_value};
-ghost use Rattle.fts_segment.specs.Segments.{numbers_where};
 ghost use Rattle.fts_cursor.specs.Hits.{is_live, segment_hits};
-ghost use Rattle.fts_cursor.specs.Splits.{AreToldBy};
 ghost use Rattle.fts_cursor.specs.Standing.{at_most};
 ghost use Rattle.fts_cursor.specs.TreeValues.{all_most, remains};
 ghost use Rattle.fts_pack.specs.Documents.{Rises};
 ghost use Rattle.fts_postings.specs.Bounds.{most_at};
-ghost use Rattle.fts_postings.specs.Sets.{has, in_some, union, without};
+ghost use Rattle.fts_postings.specs.Sets.{has, in_some};
 ghost use Rattle.fts_sets.specs.Leaves.{in_one};
 
-use crate::terms::{are_terms, is_term, list_of};
+use crate::terms::{is_term, list_of};
 use crate::tree::Tree;
 use fts_model::Query;
 use fts_pack::bits::Bits;
@@ -74,64 +69,6 @@ fn told<'a>(alloc: Global, bits: Vec<&'a Bits>) -> Result<Tree<'a>, AllocError>
     let mut set = DocIdSet::every(alloc, docs);
     set.with_any(leaves)?;
     Tree::scan(alloc, SetCursor::new(set, None))
-}
-
-/// The documents that have each of some terms and none of others. The lists of all these terms have bits, and there are
-/// some of both. No block is opened.
-pub(crate) fn apart_by_words<'a>(
-    alloc: Global,
-    segment: &'a Segment,
-    must: &[Query],
-    must_not: &[Query],
-) -> Result<Option<Tree<'a>>, AllocError>
-    ensures some { IfOk result (λ found. IfSome found (λ _.
-        (0 < length must.now) × (0 < length must_not.now))) }
-    ensures remaining { IfOk result (λ found. IfSome found (λ t. t.remaining ≡ without
-        (numbers_where (λ d. list_all (λ q. matches segment.now.schema d.value (query_value q)) must.now)
-        0 segment.now.documents)
-        (union (map (λ q. segment_hits segment.now (query_value q)) must_not.now)))) }
-    ensures bound { IfOk result (λ found. IfSome found (λ t. t.bound ≡ at_most 0)) }
-{
-    if must.is_empty() || must_not.is_empty() || !are_terms(must) || !are_terms(must_not) {
-        return Ok(None);
-    }
-    let Some(all) = bits_of(alloc, segment, must)? else {
-        return Ok(None);
-    };
-    let Some(none) = bits_of(alloc, segment, must_not)? else {
-        return Ok(None);
-    };
-    let kept = leaves_of(alloc, &all)?;
-    let dropped = leaves_of(alloc, &none)?;
-    let first = all[0];
-    let mut set = DocIdSet::every(alloc, first.len());
-    set.with_each(&kept)?;
-    set.without_each(&dropped)?;
-    let tree = Tree::scan(alloc, SetCursor::new(set, None))?;
-    Ok(Some(tree))
-}
-
-/// The bits of the lists of terms, if all have some.
-fn bits_of<'a>(
-    alloc: Global,
-    segment: &'a Segment,
-    queries: &[Query],
-) -> Result<Option<Vec<&'a Bits>>, AllocError>
-    requires { list_all (λ q. is_term (query_value q)) queries.now ≡ true }
-    ensures { IfOk result (λ found. IfSome found (λ bits.
-        AreToldBy (map (λ q. segment_hits segment.now (query_value q)) queries.now) bits.items)) }
-{
-    let mut all = Vec::with_capacity(alloc, queries.len())?;
-    for query in queries {
-        let Some(list) = list_of(segment, query) else {
-            return Ok(None);
-        };
-        let Some(bits) = list.bits() else {
-            return Ok(None);
-        };
-        all.push(bits)?;
-    }
-    Ok(Some(all))
 }
 
 /// How many documents have a bit in one of these at most.

@@ -8,10 +8,10 @@ ghost use Rattle.fts_postings.specs.Remaining.{at_least};
 ghost use Rattle.fts_postings.specs.Takes.{Takes};
 ghost use Rattle.fts_cursor.specs.Standing.{Continues, OpensAlong, OpensOnce, Walked};
 
-use crate::filter::keep_set;
 use crate::tree::Tree;
 use fts_pack::bits::Bits;
 use fts_postings::DocSet;
+use fts_sets::keep_set;
 use std::alloc::AllocError;
 use std::marker::Model;
 

@@ -1,30 +1,29 @@
-// A cursor over the documents that lists have in common and whose bits are set.
+// A cursor over the documents that lists have in common and that are of a set.
 ghost use Rattle.std.specs.Prelude.{◌≡◌, ℕ, ◌+◌, ◌-◌, ◌^◌, ◌≤◌, IfErr, IfOk, Option, drop, filter, length, min};
-ghost use Rattle.std.specs.Prelude.{slice_get, take};
+ghost use Rattle.std.specs.Prelude.{slice_get};
 ghost use Rattle.fts_postings.specs.Bounds.{most_at};
 ghost use Rattle.fts_postings.specs.Conjoined.{AllFollow, bound_of, common_of, counts_of};
 ghost use Rattle.fts_postings.specs.Remaining.{at_least};
-ghost use Rattle.fts_postings.specs.Sets.{FirstPasses};
+ghost use Rattle.fts_postings.specs.Sets.{FirstPasses, has};
 ghost use Rattle.fts_postings.specs.Takes.{Takes};
 ghost use Rattle.fts_cursor.specs.Hits.{is_live};
 ghost use Rattle.fts_cursor.specs.Standing.{Continues, Walked};
 ghost use Rattle.fts_cursor.specs.Terms.{AreTied};
-ghost use Rattle.fts_sets.specs.Leaves.{in_each};
 
 use fts_pack::ListSource;
 use fts_pack::bits::Bits;
 use fts_postings::{Conjunction, DocSet};
+use fts_sets::{DocIdSet, Leaf};
 use std::alloc::AllocError;
 use std::marker::Model;
 
-/// A cursor over the documents that lists have in common and whose bits are set. The lists' documents are taken a
+/// A cursor over the documents that lists have in common and that are of a set. The lists' documents are taken a
 /// stretch at a time, and filtered by the bits.
 #[derive(Drop)]
 pub(crate) struct FilterCursor<'a> {
     terms: Conjunction<ListSource<'a>>,
-    // The bit of a document is set in each of these.
-    bits: Vec<&'a Bits>,
-    // How many blocks were opened of the lists whose bits these are.
+    set: DocIdSet<'a>,
+    // How many blocks were opened of lists whose documents the set keeps.
     opened: u64,
 }
 
@@ -36,33 +35,29 @@ impl<'a> Model for FilterCursor<'a> {
 
     ghost use Rattle.fts_postings.specs.Conjoined.{common_of};
     ghost use Rattle.fts_cursor.specs.Filters.{IsFilter, filtered};
-    ghost use Rattle.fts_sets.specs.Leaves.{in_each};
+    ghost use Rattle.fts_postings.specs.Sets.{has};
 
-    ghost view = { λ c. filtered c.terms c.opened (filter (in_each c.bits.items) (common_of c.terms)) };
+    ghost view = { λ c. filtered c.terms c.opened (filter (has c.set) (common_of c.terms)) };
 
-    ghost invariant = { λ c. IsFilter c.terms (in_each c.bits.items) };
+    ghost invariant = { λ c. IsFilter c.terms (has c.set) };
 }
 
 impl<'a> FilterCursor<'a> {
-    /// Takes the conjunction before its first step, the bits, and how many blocks were opened of the lists whose bits
-    /// these are.
+    /// Takes the conjunction before its first step, the set, and how many blocks were opened of lists whose documents the
+    /// set keeps.
     pub(crate) fn new(
         terms: Conjunction<ListSource<'a>>,
-        bits: Vec<&'a Bits>,
+        set: DocIdSet<'a>,
         opened: u64,
     ) -> FilterCursor<'a>
         requires tied { AreTied terms }
-        ensures remaining { result.remaining ≡ filter (in_each bits.entry.items) (common_of terms.entry) }
+        ensures remaining { result.remaining ≡ filter (has set.entry) (common_of terms.entry) }
         ensures openings { counts_of terms.entry + opened ≤ result.openings }
         ensures bound { (doc : Option ℕ) → most_at result.bound doc ≡ most_at (bound_of terms.entry) doc + opened }
     {
         let mut terms = terms;
-        settle(&mut terms, &bits);
-        FilterCursor {
-            terms,
-            bits,
-            opened,
-        }
+        settle(&mut terms, &set);
+        FilterCursor { terms, set, opened }
     }
 
     /// Leaves only those of the remaining documents whose bit is set.
@@ -71,8 +66,8 @@ impl<'a> FilterCursor<'a> {
         ensures failed { IfErr result (λ _. self.new ≡ self.old) }
         ensures walked { Walked self.old self.new }
     {
-        self.bits.push(live)?;
-        settle(&mut self.terms, &self.bits);
+        self.set.with(Leaf::Set(live))?;
+        settle(&mut self.terms, &self.set);
         Ok(())
     }
 
@@ -105,7 +100,7 @@ impl<'a> DocSet for FilterCursor<'a> {
         ensures walked { Walked self.old self.new }
     {
         self.terms.advance();
-        settle(&mut self.terms, &self.bits);
+        settle(&mut self.terms, &self.set);
     }
 
     fn seek(&mut self, target: u32)
@@ -113,24 +108,24 @@ impl<'a> DocSet for FilterCursor<'a> {
         ensures continues { Continues self.old self.new }
     {
         self.terms.seek(target);
-        settle(&mut self.terms, &self.bits);
+        settle(&mut self.terms, &self.set);
     }
 
     fn take(&mut self, out: &mut [u32; 128]) -> usize
         ensures taken { Takes self.old.remaining self.new.remaining out.new result }
         ensures walked { Walked self.old self.new }
     {
-        let taken = take_kept(&mut self.terms, &self.bits, out);
-        settle(&mut self.terms, &self.bits);
+        let taken = take_kept(&mut self.terms, &self.set, out);
+        settle(&mut self.terms, &self.set);
         taken
     }
 }
 
-/// Takes the next documents whose bits are set, 128 if so many remain: few may be left of a block, and what comes after
+/// Takes the next documents that are of a set, 128 if so many remain: few may be left of a block, and what comes after
 /// these is passed over faster here than by steps.
-fn take_kept(terms: &mut Conjunction<ListSource>, bits: &[&Bits], out: &mut [u32; 128]) -> usize
-    ensures taken { Takes (filter (in_each bits.now) (common_of terms.old))
-        (filter (in_each bits.now) (common_of terms.new)) out.new result }
+fn take_kept(terms: &mut Conjunction<ListSource>, set: &DocIdSet, out: &mut [u32; 128]) -> usize
+    ensures taken { Takes (filter (has set.now) (common_of terms.old))
+        (filter (has set.now) (common_of terms.new)) out.new result }
     ensures follows { AllFollow terms.old terms.new }
 {
     let mut taken = 0;
@@ -139,69 +134,19 @@ fn take_kept(terms: &mut Conjunction<ListSource>, bits: &[&Bits], out: &mut [u32
         if count == 0 {
             return taken;
         }
-        taken = keep(bits, taken, count, out);
+        taken = set.retain(taken, taken + count, out);
     }
     128
 }
 
-/// Moves those of the documents `from..count` whose bits are set to the front, after the first `from`, whose bits are
-/// set too. Returns how many pass in all. One list of bits is looked at after the other, each without a branch.
-fn keep(bits: &[&Bits], from: usize, count: usize, docs: &mut [u32; 128]) -> usize
-    requires room { from + count ≤ 128 }
-    requires passed { filter (in_each bits.now) (take from docs.old) ≡ take from docs.old }
-    ensures kept { take result docs.new ≡ filter (in_each bits.now) (take (from + count) docs.old) }
-    ensures size { result ≡ length (filter (in_each bits.now) (take (from + count) docs.old)) }
-    ensures few { result ≤ from + count }
-{
-    let mut end = from + count;
-    for one in bits {
-        end = keep_set(one, from, end, docs);
-    }
-    end
-}
-
-/// Keeps those of the first `end` documents whose bit is set, as it is of the first `from`, and gives how many these
-/// are.
-#[inline]
-pub(crate) fn keep_set(bits: &Bits, from: usize, end: usize, docs: &mut [u32; 128]) -> usize
-    requires order { from ≤ end }
-    requires room { end ≤ 128 }
-    requires passed { filter (is_live bits.now) (take from docs.old) ≡ take from docs.old }
-    ensures kept { take result docs.new ≡ filter (is_live bits.now) (take end docs.old) }
-    ensures size { result ≡ length (filter (is_live bits.now) (take end docs.old)) }
-    ensures few { result ≤ end }
-    ensures more { from ≤ result }
-{
-    let mut kept = from;
-    for index in from..end {
-        let doc = docs[index];
-        docs[kept] = doc;
-        kept += usize::from(bits.contains(doc as usize));
-    }
-    kept
-}
-
-/// Whether the document's bit is set in each of these.
-#[inline]
-fn in_each(list: &[&Bits], doc: usize) -> bool
-    ensures { result ≡ in_each list.now doc }
-{
-    let mut found = true;
-    for bits in list {
-        found = found && bits.contains(doc);
-    }
-    found
-}
-
-/// Passes over documents whose bits aren't set.
-fn settle(terms: &mut Conjunction<ListSource>, bits: &[&Bits])
-    ensures same { filter (in_each bits.now) (common_of terms.new)
-        ≡ filter (in_each bits.now) (common_of terms.old) }
-    ensures settled { FirstPasses (in_each bits.now) (common_of terms.new) }
+/// Passes over documents that aren't of a set.
+fn settle(terms: &mut Conjunction<ListSource>, set: &DocIdSet)
+    ensures same { filter (has set.now) (common_of terms.new) ≡ filter (has set.now) (common_of terms.old) }
+    ensures settled { FirstPasses (has set.now) (common_of terms.new) }
     ensures follows { AllFollow terms.old terms.new }
 {
     while let Some(doc) = terms.doc() {
-        if in_each(bits, doc as usize) {
+        if set.has(doc as usize) {
             return;
         }
         terms.advance();

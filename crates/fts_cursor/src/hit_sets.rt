@@ -1,4 +1,4 @@
-// The hits of a query as a set, if each is told by its number: by bits and columns, without a cursor.
+// The hits of a query as a set, if each is told by its number: by bits and columns, without a list.
 ghost use Rattle.std.specs.Prelude.{◌≡◌, ◌≤◌, ◌^◌, false, true, IfOk, IfSome, filter, length};
 ghost use Rattle.std.specs.List.{list_all};
 ghost use Rattle.std.specs.Option.{option_map_or};
@@ -35,18 +35,20 @@ pub fn hit_set<'a>(
 {
     let mut hits = DocIdSet::every(alloc, segment.docs());
     hits.with(Leaf::Set(live))?;
-    if keep_hits(alloc, segment, query, &mut hits)? {
+    if keep_hits(alloc, segment, query, 0, &mut hits)? {
         Ok(Some(hits))
     } else {
         Ok(None)
     }
 }
 
-/// Keeps of a set the hits of a query, or returns false if they aren't told by their numbers.
-fn keep_hits<'a>(
+/// Keeps of a set the hits of a query, or returns false if they aren't told by their numbers, or if fewer than `least`
+/// documents are in one of its ranges.
+pub(crate) fn keep_hits<'a>(
     alloc: Global,
     segment: &'a Segment,
     query: &Query,
+    least: usize,
     set: &mut DocIdSet<'a>,
 ) -> Result<bool, AllocError>
     requires { query_fits segment.now.schema (query_value query.now) ≡ true }
@@ -59,13 +61,13 @@ fn keep_hits<'a>(
         should,
     } = query
     else {
-        return keep_query(alloc, segment, query, set);
+        return keep_query(alloc, segment, query, least, set);
     };
-    if !keep_kept(alloc, segment, must, should, set)? {
+    if !keep_kept(alloc, segment, must, should, least, set)? {
         return Ok(false);
     }
     let mut leaves = Vec::new(alloc);
-    if !push_queries(segment, must_not, &mut leaves)? {
+    if !push_queries(segment, must_not, least, &mut leaves)? {
         return Ok(false);
     }
     set.without_each(&leaves)?;
@@ -78,6 +80,7 @@ fn keep_kept<'a>(
     segment: &'a Segment,
     must: &[Query],
     should: &[Query],
+    least: usize,
     set: &mut DocIdSet<'a>,
 ) -> Result<bool, AllocError>
     requires must { list_all (λ q. query_fits segment.now.schema (query_value q)) must.now ≡ true }
@@ -86,10 +89,10 @@ fn keep_kept<'a>(
         ≡ filter (is_kept (hits_of_each segment.now must.now) (hits_of_each segment.now should.now)) set.old) }
 {
     if !must.is_empty() {
-        return keep_each(alloc, segment, must, set);
+        return keep_each(alloc, segment, must, least, set);
     }
     let mut leaves = Vec::new(alloc);
-    if !push_queries(segment, should, &mut leaves)? {
+    if !push_queries(segment, should, least, &mut leaves)? {
         return Ok(false);
     }
     set.with_any(leaves)?;
@@ -101,6 +104,7 @@ fn keep_each<'a>(
     alloc: Global,
     segment: &'a Segment,
     queries: &[Query],
+    least: usize,
     set: &mut DocIdSet<'a>,
 ) -> Result<bool, AllocError>
     requires { list_all (λ q. query_fits segment.now.schema (query_value q)) queries.now ≡ true }
@@ -108,7 +112,7 @@ fn keep_each<'a>(
         set.new ≡ filter (in_all (hits_of_each segment.now queries.now)) set.old) }
 {
     for query in queries {
-        if !keep_query(alloc, segment, query, set)? {
+        if !keep_query(alloc, segment, query, least, set)? {
             return Ok(false);
         }
     }
@@ -116,10 +120,11 @@ fn keep_each<'a>(
 }
 
 /// Keeps of a set what matches a query that has no musts and no must-nots.
-fn keep_query<'a>(
+pub(crate) fn keep_query<'a>(
     alloc: Global,
     segment: &'a Segment,
     query: &Query,
+    least: usize,
     set: &mut DocIdSet<'a>,
 ) -> Result<bool, AllocError>
     requires { query_fits segment.now.schema (query_value query.now) ≡ true }
@@ -127,7 +132,7 @@ fn keep_query<'a>(
         set.new ≡ filter (has (segment_hits segment.now (query_value query.now))) set.old) }
 {
     let mut leaves = Vec::new(alloc);
-    if !push_query(segment, query, &mut leaves)? {
+    if !push_query(segment, query, least, &mut leaves)? {
         return Ok(false);
     }
     set.with_any(leaves)?;
@@ -140,6 +145,7 @@ fn keep_query<'a>(
 fn push_query<'a>(
     segment: &'a Segment,
     query: &Query,
+    least: usize,
     leaves: &mut Vec<Leaf<'a>>,
 ) -> Result<bool, AllocError>
     requires { query_fits segment.now.schema (query_value query.now) ≡ true }
@@ -155,7 +161,7 @@ fn push_query<'a>(
             field,
             lower,
             upper,
-        } => push_range(segment, *field, lower, upper, leaves),
+        } => push_range(segment, *field, lower, upper, least, leaves),
         Query::Bool {
             must,
             must_not,
@@ -167,16 +173,17 @@ fn push_query<'a>(
             if !must_not.is_empty() {
                 return Ok(false);
             }
-            push_queries(segment, should, leaves)
+            push_queries(segment, should, least, leaves)
         }
     }
 }
 
 /// Adds tests one of which a document passes if and only if it matches one of the queries, or returns false.
 #[cycle(tests)]
-fn push_queries<'a>(
+pub(crate) fn push_queries<'a>(
     segment: &'a Segment,
     queries: &[Query],
+    least: usize,
     leaves: &mut Vec<Leaf<'a>>,
 ) -> Result<bool, AllocError>
     requires { list_all (λ q. query_fits segment.now.schema (query_value q)) queries.now ≡ true }
@@ -184,7 +191,7 @@ fn push_queries<'a>(
         HasMore (in_some (hits_of_each segment.now queries.now)) leaves.old.items leaves.new.items) }
 {
     for query in queries {
-        if !push_query(segment, query, leaves)? {
+        if !push_query(segment, query, least, leaves)? {
             return Ok(false);
         }
     }
@@ -219,12 +226,14 @@ fn push_term<'a>(
     Ok(true)
 }
 
-/// Adds the test of a range, or none if no number or text is within it.
+/// Adds the test of a range, or none if no number or text is within it. Returns false if fewer than `least` documents
+/// are in it.
 fn push_range<'a>(
     segment: &'a Segment,
     field: usize,
     lower: &Bound<FieldValue>,
     upper: &Bound<FieldValue>,
+    least: usize,
     leaves: &mut Vec<Leaf<'a>>,
 ) -> Result<bool, AllocError>
     requires { option_map_or (is_range_of lower.now upper.now) (kind_at segment.now.schema field) false ≡ true }
@@ -234,6 +243,9 @@ fn push_range<'a>(
     let Some((low, high)) = bounds_of(segment, field, lower, upper) else {
         return Ok(true);
     };
+    if least > 0 && segment.documents_between(field, low, high) < least {
+        return Ok(false);
+    }
     let column = segment.column(field);
     leaves.push(Leaf::Within { column, low, high })?;
     Ok(true)

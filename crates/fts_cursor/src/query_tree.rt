@@ -17,12 +17,13 @@ ghost use Rattle.fts_segment.specs.ListIds.{documents_in, positions_in};
 ghost use Rattle.fts_cursor.specs.Standing.{at_most};
 ghost use Rattle.fts_cursor.specs.TreeValues.{TreeValue, all_most, remains};
 
-use crate::any::{Shoulds, apart_by_words, told_by, union_of};
+use crate::any::{Shoulds, told_by, union_of};
 use crate::cursor::Cursor;
 use crate::phrase::{Member, PhraseCursor};
 use crate::range::of_range;
 use crate::term_lists::cursor_over;
 use crate::terms::{are_terms, of_terms};
+use crate::told::told;
 use crate::tree::Tree;
 use fts_model::{FieldValue, Query, Refusal, Term, Text};
 use fts_pack::ListSource;
@@ -85,7 +86,7 @@ fn tree_of<'a>(alloc: Global, segment: &'a Segment, query: &Query) -> Result<Tre
             must_not,
             should,
         } => {
-            if let Some(tree) = apart_by_words(alloc, segment, must, must_not)? {
+            if let Some(tree) = told(alloc, segment, query)? {
                 return Ok(tree);
             }
             let kept = if must.is_empty() {

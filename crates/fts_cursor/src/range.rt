@@ -1,5 +1,5 @@
 // Ranges, as what a column keeps: numbers, or ordinals of texts.
-ghost use Rattle.std.specs.Prelude.{◌≡◌, ℕ, ◌^◌, ◌<◌, ◌≤◌, IfOk, None, Some, false, length};
+ghost use Rattle.std.specs.Prelude.{◌≡◌, ℕ, ◌+◌, ◌/◌, ◌^◌, ◌<◌, ◌≤◌, IfOk, None, Some, false, length};
 ghost use Rattle.std.specs.Prelude.{slice_index_or, true};
 ghost use Rattle.std.specs.Option.{option_map_or};
 ghost use Rattle.fts_model.specs.Operations.{kind_at};
@@ -130,6 +130,14 @@ fn of_bounds(
     between(alloc, column, segment.docs(), lists, documents, low, high)
 }
 
+/// How many of some documents a range has at least whose column is read, not the lists of its numbers.
+pub(crate) fn fewest_scanned(docs: usize) -> usize
+    requires { docs ≤ 2 ^ 32 }
+    ensures { result ≡ docs / 256 + 1 }
+{
+    docs / 256 + 1
+}
+
 /// The documents with a number of a column between two, which are in these lists, and how many they are. If they are
 /// few, the lists are opened, otherwise the column is read.
 fn between<'a>(
@@ -148,7 +156,7 @@ fn between<'a>(
     ensures remaining { IfOk result (λ t. t.remaining ≡ passing (has_within low high column.now) 0 docs) }
     ensures opens { IfOk result (λ t. OpensRange docs t.standing) }
 {
-    if documents <= docs / 256 {
+    if documents < fewest_scanned(docs) {
         let (listed, opened) = ListedCursor::of_lists(alloc, lists)?;
         // No document is in two lists, so the blocks are no more than the documents.
         return Tree::listed(alloc, listed, opened.min(documents as u64));

@@ -1,5 +1,6 @@
 // The cursor of a list that leads others: by words if all have bits, and cut by the bits of those that have some.
-ghost use Rattle.std.specs.Prelude.{◌≡◌, ℕ, ◌^◌, ◌<◌, ◌≤◌, IfOk, [], length, map};
+ghost use Rattle.std.specs.Prelude.{◌≡◌, ℕ, ◌^◌, ◌<◌, ◌≤◌, All, IfOk, [], length, map};
+ghost use Rattle.fts_sets.specs.Leaves.{in_each};
 ghost use Rattle.std.specs.List.{AllZip};
 ghost use Rattle.fts_pack.specs.Documents.{Rises};
 ghost use Rattle.fts_pack.specs.ListRef.{listed};
@@ -46,8 +47,9 @@ struct Split<'a> {
 }
 
 fn split_of<'a>(alloc: Global, lists: &[ListRef<'a>]) -> Result<Split<'a>, AllocError>
-    ensures { IfOk result (λ split. IsSplit (map listed lists.now) split.bits.items
+    ensures split { IfOk result (λ split. IsSplit (map listed lists.now) split.bits.items
         (map listed split.rest.items) split.opened) }
+    ensures few { IfOk result (λ split. All (λ b. length b.now ≤ 2 ^ 32) split.bits.items) }
 {
     let mut bits = Vec::new(alloc);
     let mut rest = Vec::new(alloc);
@@ -106,14 +108,29 @@ fn some_told<'a>(
     bits: Vec<&'a Bits>,
     opened: u64,
 ) -> Result<Tree<'a>, AllocError>
-    requires { Rises 0 (listed shortest) }
+    requires rises { Rises 0 (listed shortest) }
+    requires some { 0 < length bits.items }
+    requires few { All (λ b. length b.now ≤ 2 ^ 32) bits.items }
     ensures { IfOk result (λ t. FindsSplit (listed shortest.entry) bits.entry.items
         (map listed rest.now) opened t.standing) }
 {
     let lead = cursor_over(shortest);
     let others = cursors_over(alloc, rest)?;
-    let filter = FilterCursor::new(Conjunction::new(lead, others), bits, opened);
+    let set = set_in_each(alloc, &bits)?;
+    let filter = FilterCursor::new(Conjunction::new(lead, others), set, opened);
     Tree::filter(alloc, filter)
+}
+
+/// The documents that are set in each of some bits.
+fn set_in_each<'a>(alloc: Global, bits: &[&'a Bits]) -> Result<DocIdSet<'a>, AllocError>
+    requires some { 0 < length bits.now }
+    requires few { All (λ b. length b.now ≤ 2 ^ 32) bits.now }
+    ensures { IfOk result (λ set. (d : ℕ) → has set d ≡ in_each bits.now d) }
+{
+    let leaves = leaves_of(alloc, bits)?;
+    let mut set = DocIdSet::every(alloc, bits[0].len());
+    set.with_each(&leaves)?;
+    Ok(set)
 }
 
 /// A cursor over a list.

@@ -1,5 +1,5 @@
 -- What some of the bits tell.
-use Rattle.std.proofs.Common.{◌≡◌, ◌^◌, ◌≤◌, ◌∙◌, List, ℕ, Bool, length, subst, sym, ap}
+use Rattle.std.proofs.Common.{◌^◌, ◌≤◌, ◌∙◌, List, Bool, length, subst, sym, ap}
 use Rattle.std.specs.Prelude.{All}
 use Rattle.std.specs.Borrow.{Bor}
 use Rattle.std.specs.List.{filter}

@@ -8,8 +8,8 @@ pub returns-clause-taken : goal.returns-clause-taken
 returns-clause-taken c =
     let kept = c.keep_set-kept in
     Takes-live (is_live c.args.live.now) c.args.tree.now.remaining c.take-taken.new.self.remaining c.settle.new.tree.remaining c.take-taken.new.out
-    kept.new.docs c.take-taken.result kept.result c.requires c.take-taken.ensures.taken c.settle.ensures.remaining kept.ensures.kept kept.ensures.size
-    kept.ensures.few
+    kept.new.docs c.take-taken.result kept.result c.requires c.take-taken.ensures.taken c.settle.ensures.remaining kept.ensures.front kept.ensures.size
+    kept.ensures.high
 
 pub returns-clause-walked : goal.returns-clause-walked
 returns-clause-walked c = Walked-trans _ _ _ c.take-taken.ensures.walked c.settle.ensures.walked

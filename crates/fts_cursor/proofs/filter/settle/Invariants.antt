@@ -2,12 +2,12 @@
 use Rattle.std.proofs.Common.{◌≡◌, length}
 use Rattle.std.specs.List.{filter}
 use Rattle.fts_postings.specs.Conjoined.{AllFollow, common_of}
-use Rattle.fts_sets.specs.Leaves.{in_each}
+use Rattle.fts_postings.specs.Sets.{has}
 use Rattle.fts_cursor.proofs.filter.settle.Given as goal
 
 abbrev pub invariant-loop-doc : goal.invariant-loop-doc
 invariant-loop-doc l = record {
-  same : filter (in_each l.bits) (common_of l.terms) ≡ filter (in_each l.bits) (common_of l.initial.terms);
+  same : filter (has l.set) (common_of l.terms) ≡ filter (has l.set) (common_of l.initial.terms);
   follows : AllFollow l.initial.terms l.terms;
 }
 

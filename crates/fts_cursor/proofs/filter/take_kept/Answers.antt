@@ -4,29 +4,30 @@ use Rattle.std.proofs.lemmas.List.{length-drop}
 use Rattle.fts_postings.specs.Conjoined.{common_of}
 use Rattle.fts_postings.proofs.ConjoinedLemmas.{AllFollow-same, AllFollow-trans}
 use Rattle.fts_postings.proofs.TakesLemmas.{Taken-all, Taken-full, Taken-none}
-use Rattle.fts_sets.specs.Leaves.{in_each}
+use Rattle.fts_postings.specs.Sets.{has}
 use Rattle.fts_cursor.proofs.FilterLemmas.{Taken-ended, Taken-kept, Taken-still, ended}
 use Rattle.fts_cursor.proofs.filter.take_kept.Goals as goal
 
 pub loop-taken-init : goal.loop-taken-init
 loop-taken-init c = record { front = Taken-none _ c.args.out.now; follows = AllFollow-same c.args.terms.now; room = omega arith }
 
-pub keep-taken-requires : goal.keep-taken-requires
-keep-taken-requires c = record {
+pub retain-taken-requires : goal.retain-taken-requires
+retain-taken-requires c = record {
+  order = omega arith;
   room = c.take_stretch-count.ensures.taken.room;
-  passed = Taken-still (in_each c.args.bits.now) (common_of c.args.terms.now) (common_of c.loop-taken.terms) c.loop-taken.out c.loop-taken.taken
+  passed = Taken-still (has c.args.set.now) (common_of c.args.terms.now) (common_of c.loop-taken.terms) c.loop-taken.out c.loop-taken.taken
       c.loop-taken.invariant.front (common_of c.take_stretch-count.new.self) c.take_stretch-count.new.out c.take_stretch-count.result
       c.take_stretch-count.ensures.taken;
 }
 
 pub loop-taken-preserved : goal.loop-taken-preserved
 loop-taken-preserved c = record {
-  front = Taken-kept (in_each c.args.bits.now) (common_of c.args.terms.now) (common_of c.loop-taken.terms) c.loop-taken.out c.loop-taken.taken
-      c.loop-taken.invariant.front (common_of c.take_stretch-count.new.self) c.take_stretch-count.new.out c.keep-taken.new.docs c.take_stretch-count.result
-      c.keep-taken.result c.take_stretch-count.ensures.taken c.keep-taken.ensures.kept c.keep-taken.ensures.size;
+  front = Taken-kept (has c.args.set.now) (common_of c.args.terms.now) (common_of c.loop-taken.terms) c.loop-taken.out c.loop-taken.taken
+      c.loop-taken.invariant.front (common_of c.take_stretch-count.new.self) c.take_stretch-count.new.out c.retain-taken.new.docs c.take_stretch-count.result
+      c.retain-taken.result c.take_stretch-count.ensures.taken c.retain-taken.ensures.front c.retain-taken.ensures.size;
   follows = AllFollow-trans c.args.terms.now c.loop-taken.terms c.take_stretch-count.new.self c.loop-taken.invariant.follows
       c.take_stretch-count.ensures.follows;
-  room = omega (arith, c.keep-taken.ensures.few, c.take_stretch-count.ensures.taken.room);
+  room = omega (arith, c.retain-taken.ensures.high, c.take_stretch-count.ensures.taken.room);
 }
 
 pub loop-taken-smaller : goal.loop-taken-smaller
@@ -37,7 +38,7 @@ loop-taken-smaller c =
 
 pub returns-then-count-eq0-clause-taken : goal.returns-then-count-eq0-clause-taken
 returns-then-count-eq0-clause-taken c =
-    let p = in_each c.args.bits.now in
+    let p = has c.args.set.now in
     let before = common_of c.args.terms.now in
     let left = common_of c.loop-taken.terms in
     let next = common_of c.take_stretch-count.new.self in

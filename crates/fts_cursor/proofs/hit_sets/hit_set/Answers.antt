@@ -1,5 +1,5 @@
 -- The live documents, of which the hits are kept.
-use Rattle.std.proofs.Common.{◌≡◌, length, ap, sym, ◌∙◌}
+use Rattle.std.proofs.Common.{ap, sym, ◌∙◌}
 use Rattle.std.specs.List.{filter}
 use Rattle.fts_postings.specs.Sets.{has}
 use Rattle.fts_cursor.specs.Hits.{is_live}

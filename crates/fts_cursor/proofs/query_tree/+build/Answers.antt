@@ -1,5 +1,5 @@
 -- What a Boolean query is, by the queries in it.
-use Rattle.std.proofs.Common.{◌≡◌, ℕ, ◌+◌, ◌*◌, ◌<◌, false, true, List, length, map, refl, rules, sym, ap, subst, ◌∙◌, ap₂, None, arith}
+use Rattle.std.proofs.Common.{◌≡◌, ℕ, ◌+◌, ◌*◌, ◌<◌, false, true, List, length, map, sym, ap, subst, ◌∙◌, arith}
 use Rattle.std.specs.List.{list_all}
 use Rattle.std.proofs.lemmas.Bool.{eqb-true}
 use Rattle.std.proofs.lemmas.List.{nil_from_length}
@@ -10,13 +10,11 @@ use Rattle.fts_model.specs.QueryValues.{query_value}
 use Rattle.fts_model.proofs.QueriesBoolean.{fits_in, matches_at_bool, matches_in, value_at_bool}
 use Rattle.fts_cursor.specs.Builds.{is_term}
 use Rattle.fts_cursor.specs.Most.{Opens}
-use Rattle.fts_postings.specs.Bounds.{most_at}
 use Rattle.fts_postings.specs.Sets.{union}
-use Rattle.fts_cursor.specs.TreeValues.{TreeValue}
-use Rattle.fts_cursor.proofs.BoolHits.{IsBool, all_kept, bool_apart, bool_kept, only_one, paired_more, single_hits, some_from}
+use Rattle.fts_cursor.proofs.BoolHits.{IsBool, bool_apart, bool_kept, only_one, paired_more, single_hits, some_from}
 use Rattle.fts_cursor.proofs.DepthLemmas.{depth, depth_at, depth_of, one_of_all, parts_fall}
 use Rattle.fts_cursor.proofs.HitsLemmas.{hits_of}
-use Rattle.fts_cursor.proofs.OpensLemmas.{Keeps, keeps_mixed, keeps_shoulds, keeps_terms, nothing_found, opens_apart, opens_kept, opens_told, parts_fit}
+use Rattle.fts_cursor.proofs.OpensLemmas.{Keeps, keeps_mixed, keeps_shoulds, keeps_terms, nothing_found, opens_apart, opens_kept, parts_fit}
 use Rattle.fts_cursor.proofs.OpensLemmas.{remains_more}
 use Rattle.fts_cursor.proofs.query_tree.+build.Goals.{tree_of-then-is_empty+in_ok-kept-in-Bool, tree_of-else-is_empty+then-are_terms+in_ok-kept-in-Bool-2}
 use Rattle.fts_cursor.proofs.query_tree.+build.Goals.{tree_of-else-is_empty+else-are_terms+in_ok-trees_of-in-Bool+in_ok-kept-in-Bool-3, tree_of-In-Bool}
@@ -52,7 +50,7 @@ tree_of-trees_of-requires t c =
 pub tree_of-any_of-requires-in-Bool : goal.tree_of-any_of-requires-in-Bool
 tree_of-any_of-requires-in-Bool t c =
     let part = (lie t (goal.at.tree_of-any_of-requires-in-Bool t c).In-Bool).1 in
-    (rw c.deref-in-Bool-3.ensures.value part.falls, ap (list_all (fits_in c.args.segment.now.schema)) c.deref-in-Bool-3.ensures.value ∙ part.fits)
+    (rw c.deref-in-Bool.ensures.value part.falls, ap (list_all (fits_in c.args.segment.now.schema)) c.deref-in-Bool.ensures.value ∙ part.fits)
 
 pub trees_of-tree_of-requires : goal.trees_of-tree_of-requires
 trees_of-tree_of-requires t c =
@@ -115,7 +113,7 @@ tree_of-returns-in-None-clause-hits t c = c.nothing.ensures.remaining ∙ nothin
 pub tree_of-returns-in_ok-dropped-in-Bool-clause-opens : goal.tree_of-returns-in_ok-dropped-in-Bool-clause-opens
 tree_of-returns-in_ok-dropped-in-Bool-clause-opens t c =
     let segment = c.args.segment.now in
-    let dropped = rw c.deref-in-Bool-3.ensures.value at c.in_ok-dropped-in-Bool.ensures.most in
+    let dropped = rw c.deref-in-Bool.ensures.value at c.in_ok-dropped-in-Bool.ensures.most in
     IfOk-weaker c.without.result _ _ (λ tree is. opens_apart segment c.args.query.now c.in-Bool.must.items c.in-Bool.must_not.items c.in-Bool.should.items tree
     (ap query_value c.in-Bool.is ∙ value_at_bool c.in-Bool.must c.in-Bool.must_not c.in-Bool.should)
     (omega (arith, some_from c.in-Bool.must_not.len (sym c.is_empty-in-Bool.ensures ∙ c.if-is_empty-2.false))) c.if-is_empty.kept
@@ -137,7 +135,7 @@ tree_of-returns-in_ok-dropped-in-Bool-clause-hits t c =
     let bool : IsBool segment c.args.query.now c.in-Bool.must.items c.in-Bool.must_not.items c.in-Bool.should.items =
     λ document. ap (matches_in segment.schema document) c.in-Bool.is ∙ matches_at_bool segment.schema document c.in-Bool.must c.in-Bool.must_not
     c.in-Bool.should in
-    let dropped = c.in_ok-dropped-in-Bool.ensures.hits ∙ ap union (ap (map (hits_of segment)) c.deref-in-Bool-3.ensures.value) in
+    let dropped = c.in_ok-dropped-in-Bool.ensures.hits ∙ ap union (ap (map (hits_of segment)) c.deref-in-Bool.ensures.value) in
     IfOk-weaker c.without.result _ _ (λ tree is. is ∙ bool_apart segment c.args.query.now c.in-Bool.must.items c.in-Bool.must_not.items c.in-Bool.should.items
     c.if-is_empty.kept.remaining c.in_ok-dropped-in-Bool.dropped.remaining bool
     (keeps t (goal.at.tree_of-returns-in_ok-dropped-in-Bool-clause-hits t c).Joined-is_empty).hits dropped) c.without.ensures.remaining
@@ -150,24 +148,10 @@ any_of-returns-in-len1-clause-hits t c =
     c.tree_of.ensures.hits
 
 pub tree_of-returns-in-Some-clause-hits : goal.tree_of-returns-in-Some-clause-hits
-tree_of-returns-in-Some-clause-hits t c =
-    let segment = c.args.segment.now in
-    let must = c.in-Bool.must.items in
-    let must_not = c.in-Bool.must_not.items in
-    let should = c.in-Bool.should.items in
-    let bool : IsBool segment c.args.query.now must must_not should = λ document. ap (matches_in segment.schema document) c.in-Bool.is
-    ∙ matches_at_bool segment.schema document c.in-Bool.must c.in-Bool.must_not c.in-Bool.should in
-    let told = rw c.in-Some.is at c.in_ok-tree-in-Bool.ensures in
-    let found = rw (c.deref-in-Bool.ensures.value, c.deref-in-Bool-2.ensures.value) at told in
-    found.remaining ∙ bool_apart segment c.args.query.now must must_not should _ (union (map (hits_of segment) must_not)) bool
-    (all_kept segment must should found.some.0) refl
+tree_of-returns-in-Some-clause-hits t c = rw c.in-Some.is at c.in_ok-tree-in-Bool.ensures.remaining
 
 pub tree_of-returns-in-Some-clause-opens : goal.tree_of-returns-in-Some-clause-opens
-tree_of-returns-in-Some-clause-opens t c =
-    let told = rw c.in-Some.is at c.in_ok-tree-in-Bool.ensures in
-    let found = rw (c.deref-in-Bool.ensures.value, c.deref-in-Bool-2.ensures.value) at told in
-    opens_told c.args.segment.now c.args.query.now c.in-Bool.must.items c.in-Bool.must_not.items c.in-Bool.should.items c.in-Some.tree
-    (ap query_value c.in-Bool.is ∙ value_at_bool c.in-Bool.must c.in-Bool.must_not c.in-Bool.should) found.some.1 found.bound
+tree_of-returns-in-Some-clause-opens t c = rw c.in-Some.is at c.in_ok-tree-in-Bool.ensures.opens
 
 pub shoulds_of-tree_of-requires : goal.shoulds_of-tree_of-requires
 shoulds_of-tree_of-requires t c =

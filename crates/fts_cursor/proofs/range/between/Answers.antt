@@ -14,8 +14,8 @@ use Rattle.fts_cursor.proofs.MostLemmas.{block_count-union, opens_column, opens_
 use Rattle.fts_cursor.proofs.SplitLemmas.{both_of}
 use Rattle.fts_cursor.proofs.range.between.Goals as goal
 
-pub returns-then-documents-docs-clause-remaining : goal.returns-then-documents-docs-clause-remaining
-returns-then-documents-docs-clause-remaining c =
+pub returns-then-documents-fewest_scanned-clause-remaining : goal.returns-then-documents-fewest_scanned-clause-remaining
+returns-then-documents-fewest_scanned-clause-remaining c =
     let listed = c.in_ok-listed.ensures in
     IfOk-weaker c.listed.result _ _ (λ t is. is ∙ lists_within c.args.column.now c.args.low c.args.high (lists_in_range c.args.lists) c.requires.lists c.in_ok-listed.listed
     listed.rises listed.sound listed.whole
@@ -33,8 +33,8 @@ returns-clause-remaining c =
     let test = has_within c.args.low c.args.high c.args.column.now in
     IfOk-weaker c.scan.result _ _ (λ t is. is ∙ c.new.ensures ∙ c.in_ok-with.ensures.kept ∙ ap (filter test) c.every-set.ensures) c.scan.ensures.remaining
 
-pub returns-then-documents-docs-clause-opens : goal.returns-then-documents-docs-clause-opens
-returns-then-documents-docs-clause-opens c =
+pub returns-then-documents-fewest_scanned-clause-opens : goal.returns-then-documents-fewest_scanned-clause-opens
+returns-then-documents-fewest_scanned-clause-opens c =
     let listed = c.in_ok-listed.ensures in
     let documents = c.in_ok-listed.listed in
     let lists = lists_in_range c.args.lists in
@@ -46,7 +46,7 @@ returns-then-documents-docs-clause-opens c =
     both_of c.listed.result _ _ _ (λ (t : TreeValue) remaining counts.
     let n : length t.remaining ≡ c.args.documents = ap length remaining ∙ size in
     let told : c.min.result ≡ min c.in_ok-listed.opened (length t.remaining) = c.min.ensures ∙ ap (min c.in_ok-listed.opened) (sym n) in
-    opens_lists c.args.docs c.in_ok-listed.opened t.standing (omega (arith, n, c.if-documents-docs.true)) (omega (arith, many, n, size)) (counts.0 ∙ told)
+    opens_lists c.args.docs c.in_ok-listed.opened t.standing (omega (arith, n, c.if-documents-fewest_scanned.true, c.fewest_scanned.ensures)) (omega (arith, many, n, size)) (counts.0 ∙ told)
     (counts.1 ∙ ap at_most told))
     c.listed.ensures.remaining c.listed.ensures.counts
 
@@ -58,5 +58,5 @@ returns-clause-opens c =
     ap length (c.new.ensures ∙ c.in_ok-with.ensures.kept ∙ ap (filter test) c.every-set.ensures) ∙ ap (λ n. length (passing test 0 n)) (sym c.requires.size)
     ∙ count-within c.args.low c.args.high column ∙ sym c.requires.documents in
     both_of c.scan.result _ _ _ (λ (t : TreeValue) remaining counts. opens_column c.args.docs t.standing
-    (omega (arith, ap length remaining, size, c.if-documents-docs.false)) counts.1)
+    (omega (arith, ap length remaining, size, c.if-documents-fewest_scanned.false, c.fewest_scanned.ensures)) counts.1)
     c.scan.ensures.remaining c.scan.ensures.counts

@@ -1,5 +1,4 @@
 -- One cursor more.
-use Rattle.std.proofs.Common.{ℕ, List}
 use Rattle.fts_pack.specs.ListRef.{listed}
 use Rattle.fts_pack.specs.declared.list_ref.ListRef.{ListRef}
 use Rattle.fts_cursor.specs.Leading.{IsOver}

@@ -2,6 +2,10 @@
 use Rattle.std.proofs.Common.{ap, ◌∙◌, arith}
 use Rattle.fts_pack.specs.ListRef.{listed}
 use Rattle.fts_postings.specs.Bounds.{Bound, most_at}
+use Rattle.fts_postings.specs.Conjoined.{common_of}
+use Rattle.fts_postings.specs.Sets.{has}
+use Rattle.fts_sets.specs.Leaves.{in_each}
+use Rattle.fts_sets.proofs.SetLemmas.{filter-agree}
 use Rattle.fts_cursor.specs.TreeValues.{TreeValue}
 use Rattle.fts_cursor.proofs.LeadingLemmas.{conjoined_over, fresh_others, lists_of}
 use Rattle.fts_cursor.proofs.SplitLemmas.{FindsAll-cut, all_three}
@@ -22,7 +26,8 @@ returns c =
     let m = conjoined_over (listed c.args.shortest) c.args.rest.now c.cursor_over-lead.result c.in_ok-others.others.items c.new.result c.cursor_over-lead.ensures
     c.in_ok-others.ensures c.new.ensures.follows c.new.ensures.remaining in
     all_three c.filter.result _ _ _ _ (λ (t : TreeValue) remaining openings bound lists split.
-    FindsAll-cut (listed c.args.shortest) lists c.args.bits.items (lists_of c.args.rest.now) c.args.opened c.requires split c.new.result t.standing m
-    (remaining ∙ c.new-filter.ensures.remaining) (omega (arith, openings, c.new-filter.ensures.openings))
+    FindsAll-cut (listed c.args.shortest) lists c.args.bits.items (lists_of c.args.rest.now) c.args.opened c.requires.rises split c.new.result t.standing m
+    (remaining ∙ c.new-filter.ensures.remaining ∙ filter-agree (has c.in_ok-set.set) (in_each c.args.bits.items) (common_of c.new.result)
+    (λ d. c.in_ok-set.ensures d ∙ ap (λ bs. in_each bs d) c.deref.ensures.value)) (omega (arith, openings, c.new-filter.ensures.openings))
     (λ doc. ap (λ (b : Bound). most_at b doc) bound ∙ c.new-filter.ensures.bound doc)) c.filter.ensures.remaining c.filter.ensures.openings
     c.filter.ensures.bound

@@ -1,11 +1,10 @@
 -- The terms are those they were, later on.
-use Rattle.std.proofs.Common.{subst, sym, ◌≡◌, ap, ◌∙◌}
+use Rattle.std.proofs.Common.{subst, sym}
 use Rattle.std.specs.List.{filter}
 use Rattle.fts_postings.proofs.ConjoinedLemmas.{AllFollow-trans}
 use Rattle.fts_postings.specs.Conjoined.{common_of}
-use Rattle.fts_postings.specs.Sets.{FirstPasses}
 use Rattle.fts_postings.specs.Takes.{Takes}
-use Rattle.fts_sets.specs.Leaves.{in_each}
+use Rattle.fts_postings.specs.Sets.{has}
 use Rattle.fts_cursor.specs.Standing.{Standing}
 use Rattle.fts_cursor.proofs.FilterLemmas.{filter-continues}
 use Rattle.fts_cursor.proofs.TermsLemmas.{terms-continue}
@@ -15,7 +14,7 @@ pub invariant_of-self : goal.invariant_of-self
 invariant_of-self c =
     let s = c.self.inside in
     let follows = AllFollow-trans s.terms c.take_kept-taken.new.terms c.settle.new.terms c.take_kept-taken.ensures.follows c.settle.ensures.follows in
-    let settled = subst (λ bits. FirstPasses (in_each bits) (common_of c.settle.new.terms)) c.deref-2.ensures.value c.settle.ensures.settled in
+    let settled = c.settle.ensures.settled in
     record { settled = settled; tied = (terms-continue s.terms c.settle.new.terms follows c.self.invariant.tied).1 }
 
 pub returns-clause-walked : goal.returns-clause-walked
@@ -27,11 +26,9 @@ returns-clause-walked c =
 pub returns-clause-taken : goal.returns-clause-taken
 returns-clause-taken c =
     let s = c.self.inside in
-    let same = subst (λ bits. filter (in_each bits) (common_of c.settle.new.terms) ≡ filter (in_each bits) (common_of c.take_kept-taken.new.terms))
-    c.deref-2.ensures.value c.settle.ensures.same in
-    let taken = subst (λ bits. Takes (filter (in_each bits) (common_of s.terms)) (filter (in_each bits) (common_of c.take_kept-taken.new.terms))
-    c.take_kept-taken.new.out c.take_kept-taken.result) c.deref.ensures.value c.take_kept-taken.ensures.taken in
-    let next = subst (λ left. Takes (filter (in_each s.bits.items) (common_of s.terms)) left c.take_kept-taken.new.out c.take_kept-taken.result) (sym same)
+    let same = c.settle.ensures.same in
+    let taken = c.take_kept-taken.ensures.taken in
+    let next = subst (λ left. Takes (filter (has s.set) (common_of s.terms)) left c.take_kept-taken.new.out c.take_kept-taken.result) (sym same)
     taken in
-    subst (λ (t : Standing). Takes t.remaining (filter (in_each s.bits.items) (common_of c.settle.new.terms)) c.take_kept-taken.new.out
+    subst (λ (t : Standing). Takes t.remaining (filter (has s.set) (common_of c.settle.new.terms)) c.take_kept-taken.new.out
     c.take_kept-taken.result) c.self.view_is next

@@ -3,7 +3,8 @@ use Rattle.std.proofs.Common.{◌+◌, get_or, take, ap, arith}
 use Rattle.std.proofs.lemmas.List.{get_or_default, length-take-le}
 use Rattle.fts_postings.proofs.CostLemmas.{length-filter-le}
 use Rattle.fts_cursor.specs.Hits.{is_live}
-use Rattle.fts_cursor.proofs.LiveLemmas.{byte_few, live_more}
+use Rattle.fts_sets.proofs.KeptLemmas.{byte_few}
+use Rattle.fts_cursor.proofs.LiveLemmas.{live_more}
 use Rattle.fts_cursor.proofs.tree.live.count_among.Goals as goal
 
 pub overflow_add-count : goal.overflow_add-count
