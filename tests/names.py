@@ -40,7 +40,7 @@ OF_A_SUBJECT = {
     "fts_scan": {"answers", "matcher", "operations", "terms"},
     "fts_script": {"session/commands", "session/group_search", "streams"},
     "fts_segment": {"binary_search", "dictionary_merge", "segment_join", "term_merge", "token_log"},
-    "fts_sets": {"rows"},
+    "fts_sets": {"retain", "rows"},
     "fts_snapshots": {"entries/ids"},
     "fts_text": {"case_fold", "characters", "tokenizer"},
 }
