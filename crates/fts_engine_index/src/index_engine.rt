@@ -13,7 +13,7 @@ use fts_engine::{Engine, EngineOver, Merge, Options};
 use fts_index::{CommitSeen, Reader, Searcher, SegmentInfo, Writer};
 use fts_model::{Answer, Op, Query, Refusal, Request, Schema, Stamp};
 use fts_pool::Open;
-use fts_snapshots::{MergePolicy, merge_all, merge_planned};
+use fts_snapshots::{MergePolicy, merge_all};
 use std::alloc::Global;
 use std::marker::Model;
 use std::sync::Wait;
@@ -212,7 +212,10 @@ impl<R: AllocGlobal + Threads + Wait + Sync> EngineOver<R> for IndexEngine {
             options,
         )?;
         self.count = 0;
-        let merged = merge_planned(rt, alloc, &mut self.writer, policy_after(options.merge));
+        let policy = policy_after(options.merge);
+        let merged = self
+            .writer
+            .merge_planned(rt, alloc, policy, options.workers, &Open);
         self.is_merged = merged.is_ok();
         tell(&mut self.reader, &committed.seen);
         look(&self.writer, &mut self.reader);

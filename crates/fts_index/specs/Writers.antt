@@ -97,7 +97,7 @@ with_end m w = record {
 abbrev pub with_merge : List ℕ → WriterValue → WriterValue
 with_merge ids w = with_end (merged_of (entries_at w.front.snapshot.entries ids)) w
 
--- a writer has the commit stamp, the readers, the number of rounds and the open round that it had
+-- a writer keeps its commit stamp, its readers and its rounds
 pub record KeepsRounds (old new : WriterValue) : Type 0 where
   pub stamp : new.front.stamp ≡ old.front.stamp
   pub of : new.front.seen.of ≡ old.front.seen.of

@@ -5,6 +5,8 @@
 //!
 //! - A [`Writer`] opens rounds, commits their batches, and merges segments. It holds the newest snapshot, counts rounds
 //!   and stamps, and refuses a batch that isn't of the open round.
+//! - After a commit, [`Writer::merge_planned`] merges what a policy says: several threads make the segments side by
+//!   side.
 //! - A merge can end later: [`Writer::begin_merge`] gives a [`MergeJob`], which any thread may run beside the writer,
 //!   and [`Writer::end_merge`] puts the [`MergedSegment`] in place of its sources, with the live bits that these have
 //!   by then.
@@ -33,6 +35,7 @@
 #![tactic(auto)]
 
 mod commit;
+mod merges;
 pub mod publications;
 mod searches;
 mod writer;
@@ -40,7 +43,8 @@ mod writer;
 pub use fts_model::Cut;
 pub use fts_rounds::{Batch, Lane, LaneEnd, Round, RoundLimits};
 pub use fts_snapshots::{
-    CommitJob, Entry, EntryIter, EntryList, MergeJob, MergedSegment, SegmentInfo, Snapshot,
+    CommitJob, Entry, EntryIter, EntryList, MergeJob, MergePolicy, MergedSegment, SegmentInfo,
+    Snapshot,
 };
 pub use publications::{CommitSeen, Publisher, Reader, Searcher};
 pub use searches::Found;

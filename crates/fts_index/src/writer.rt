@@ -1,10 +1,14 @@
 // The writer of an index: it opens rounds, commits their batches, merges segments, and publishes what these leave.
 ghost use Rattle.std.specs.Prelude.{◌≡◌, ◌+◌, ◌*◌, ◌^◌, ◌<◌, ◌≤◌, ◌⊎◌, ◌↔◌, ◌++◌, [], ◌∷◌, List, IsTrue, Some};
-ghost use Rattle.std.specs.Prelude.{None, Ok, Err, IfOk, IfErr, IfSome, OnOk, OnErr, IsOkUnless, map, length};
+ghost use Rattle.std.specs.Prelude.{None, Ok, Err, IfOk, IfErr, IfSome, OnOk, OnErr, IsOkUnless, is_ok, map, length};
 ghost use Rattle.std.specs.Prelude.{option_map};
 ghost use Rattle.std.specs.List.{range_with_len};
+ghost use Rattle.fts_model.specs.Limits.{most_merged};
 ghost use Rattle.fts_model.specs.Operations.{alive, adds};
 ghost use Rattle.fts_rounds.specs.Rounds.{fresh};
+ghost use Rattle.fts_snapshots.specs.Candidates.{MergesDue};
+ghost use Rattle.fts_snapshots.specs.Changes.{Merges};
+ghost use Rattle.fts_snapshots.specs.CountedSnapshots.{candidates_after};
 ghost use Rattle.fts_snapshots.specs.Cuts.{IsCut};
 ghost use Rattle.fts_snapshots.specs.Commits.{misfit};
 ghost use Rattle.fts_snapshots.specs.Infos.{info_of, infos_after_merge, candidate_ids};
@@ -13,15 +17,19 @@ ghost use Rattle.fts_snapshots.specs.Merges.{entries_at, names_fault};
 ghost use Rattle.fts_snapshots.specs.MergedSegments.{merged_of};
 ghost use Rattle.fts_snapshots.specs.Successors.{Follows, Fits};
 ghost use Rattle.fts_index.specs.Publications.{opening, schema_of, IsFront, IsOneCommit};
-ghost use Rattle.fts_index.specs.Writers.{IsRefusedFor, next_round, with_round, without_round, round_fault, is_of};
-ghost use Rattle.fts_index.specs.Writers.{batch_fault, stamp_behind, with_commit, with_merge, late_fault, with_end};
+ghost use Rattle.fts_index.specs.Writers.{IsRefusedFor, KeepsRounds, next_round, with_round, without_round};
+ghost use Rattle.fts_index.specs.Writers.{round_fault, is_of, batch_fault, stamp_behind, with_commit, with_merge};
+ghost use Rattle.fts_index.specs.Writers.{late_fault, with_end};
 
 use crate::commit::commit;
+use crate::merges::merge_by;
 use crate::publications::{CommitSeen, Publisher, Reader, Searcher};
 use fts_model::{Cut, Op, Refusal, Schema, Stamp, Stamped};
 use fts_pool::Gate;
 use fts_rounds::{Batch, Lane, Round, RoundLimits, open_round};
-use fts_snapshots::{ID_LIMIT, MergeJob, Mergeable, MergedSegment, SegmentInfo, Snapshot};
+use fts_snapshots::{
+    ID_LIMIT, LateMergeable, MergeJob, MergePolicy, Mergeable, MergedSegment, SegmentInfo, Snapshot,
+};
 use std::alloc::Global;
 use std::marker::Model;
 use std::sync::Wait;
@@ -273,6 +281,37 @@ impl Writer {
         Ok(())
     }
 
+    /// Merges what a policy says of the last commit, if there is a policy, up to the first candidate of one segment. Up
+    /// to this many threads, 1 to 64, the calling one among them, make the segments of several candidates side by side;
+    /// the gate is called around each. All of these segments are held until the last has been made, and then they
+    /// replace their sources in the order of the candidates. With one thread or one candidate due, each segment
+    /// replaces its sources before the next is made.
+    ///
+    /// `Memory` if memory ran out for a candidate, also when it was tried alone: it stays until a later commit, and the
+    /// others are merged. A candidate that can't be merged stays.
+    pub fn merge_planned<R: Threads + Wait + Sync, G: Gate>(
+        &mut self,
+        rt: &R,
+        alloc: Global,
+        policy: Option<MergePolicy>,
+        workers: usize,
+        gate: &G,
+    ) -> Result<(), Refusal>
+        requires workers { (1 ≤ workers) × (workers ≤ 64) }
+        requires floor { IfSome policy (λ p. p.floor ≤ most_merged) }
+        requires most { IfSome policy (λ p. p.most ≤ most_merged) }
+        ensures planned { MergesDue (candidates_after policy self.old.front.snapshot)
+            self.old.front.snapshot self.new.front.snapshot (is_ok result) }
+        ensures merges { Merges 1 self.old.front.snapshot self.new.front.snapshot }
+        ensures keeps { KeepsRounds self.old self.new }
+        ensures memory { IsOkUnless result Refusal.Memory }
+    {
+        match policy {
+            None => Ok(()),
+            Some(policy) => merge_by(rt, alloc, self, &policy, workers, gate),
+        }
+    }
+
     /// Starts a merge of the segments of these numbers, in their order. It may be run in another thread and ended here
     /// later.
     ///
@@ -370,4 +409,20 @@ impl<R: Wait> Mergeable<R> for Writer {
       rounds = bc.rounds ∙ ab.rounds;
       round = bc.round ∙ ab.round;
     } };
+}
+
+impl<R: Wait> LateMergeable<R> for Writer {
+    fn replace_sources(
+        &mut self,
+        rt: &R,
+        alloc: Global,
+        merged: &MergedSegment,
+    ) -> Result<(), Refusal> {
+        let next = match self.publisher.snapshot().end_merge(alloc, merged) {
+            Ok(next) => next,
+            Err(refusal) => return Err(refusal),
+        };
+        self.publisher.publish_again(rt, alloc, next)?;
+        Ok(())
+    }
 }

@@ -72,13 +72,13 @@ Tried all left old now refused =
     (n : ℕ) (new : SnapshotValue) → MergesAllBut n (due left) now new → MergesAllBut (n + refused) (due all) old new
 
 -- the first of the candidates that are left
-due_first : {V : Type 0} (f : V → List ℕ) (vs : List V) (k : ℕ) (v : V) → k < length vs → v ≡ get_or vs k v →
+pub due_first : {V : Type 0} (f : V → List ℕ) (vs : List V) (k : ℕ) (v : V) → k < length vs → v ≡ get_or vs k v →
     due (map f (drop k vs)) ≡ due (f v ∷ map f (drop (k + 1) vs))
 due_first f vs k v within is =
     at_drop_more (λ ws. due (map f ws)) vs k v within ∙ ap (λ w. due (f w ∷ map f (drop (k + 1) vs))) (sym is)
 
 -- a candidate of several segments, followed by those after it
-due_more : {V : Type 0} (f : V → List ℕ) (vs : List V) (k : ℕ) (v : V) → k < length vs → v ≡ get_or vs k v → 2 ≤ length (f v) →
+pub due_more : {V : Type 0} (f : V → List ℕ) (vs : List V) (k : ℕ) (v : V) → k < length vs → v ≡ get_or vs k v → 2 ≤ length (f v) →
     due (map f (drop k vs)) ≡ f v ∷ due (map f (drop (k + 1) vs))
 due_more f vs k v within is several =
     let rest = map f (drop (k + 1) vs) in
@@ -86,7 +86,7 @@ due_more f vs k v within is several =
     due_first f vs k v within is ∙ ap (λ b. cond b (f v ∷ []) (f v ∷ due rest)) more
 
 -- a candidate of a single segment is the last
-due_last : {V : Type 0} (f : V → List ℕ) (vs : List V) (k : ℕ) (v : V) → k < length vs → v ≡ get_or vs k v → length (f v) < 2 →
+pub due_last : {V : Type 0} (f : V → List ℕ) (vs : List V) (k : ℕ) (v : V) → k < length vs → v ≡ get_or vs k v → length (f v) < 2 →
     due (map f (drop k vs)) ≡ f v ∷ []
 due_last f vs k v within is one =
     let rest = map f (drop (k + 1) vs) in

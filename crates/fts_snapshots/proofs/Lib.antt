@@ -21,5 +21,6 @@ pub mod StampLemmas
 pub mod CountLemmas
 pub mod PreparedLemmas
 pub mod ChangeLemmas
+pub mod MadeLemmas
 pub mod MergedInfoLemmas
 pub mod CountedLemmas

@@ -11,7 +11,7 @@ id_at-within [] k e l h = absurd (omega (arith, l))
 id_at-within (x ∷ es) zero e l h = ap (λ (f : EntryValue). f.id) (sym h)
 id_at-within (x ∷ es) (suc k) e l h = id_at-within es k e (omega (arith, l)) h
 
-all_parts : {X : Type 0} (P : X → Type 0) (xs ys : List X) → AllByRecursion P (xs ++ ys) → AllByRecursion P xs × AllByRecursion P ys
+pub all_parts : {X : Type 0} (P : X → Type 0) (xs ys : List X) → AllByRecursion P (xs ++ ys) → AllByRecursion P xs × AllByRecursion P ys
 all_parts P [] ys a = (tt, a)
 all_parts P (x ∷ xs) ys a = let rest = all_parts P xs ys a.1 in ((a.0, rest.0), rest.1)
 

@@ -17,5 +17,6 @@ pub mod Lookups
 pub mod LateMerges
 pub mod Changes
 pub mod Candidates
+pub mod MadeMerges
 pub mod CountedSnapshots
 pub mod LaterCommits

@@ -10,6 +10,8 @@
 //! - A merge can end later: [`Snapshot::begin_merge`] gives a [`MergeJob`], which any thread may run, and
 //!   [`Snapshot::end_merge`] replaces the sources by the [`MergedSegment`], with the live bits that they have in the
 //!   snapshot in which it ends. It may end in every snapshot that follows the one in which it began ([`laws`]).
+//! - The merges of several candidates can be run side by side: [`due_tasks`] starts them as jobs of a pool, and
+//!   [`end_due`] ends them one after the other.
 //!
 //! This crate starts no thread, waits for none and publishes nothing: the crates above do.
 //!
@@ -26,6 +28,7 @@ mod commit_point;
 mod commits;
 mod entries;
 pub mod laws;
+mod made_merges;
 mod mergeable;
 mod merges;
 mod snapshot;
@@ -35,6 +38,7 @@ pub use commits::{CommitJob, PreparedCommit, push_live};
 pub use entries::{Entry, EntryIter, EntryList, ID_LIMIT, SegmentInfo};
 pub use fts_merge::MergePolicy;
 pub use fts_model::Cut;
-pub use mergeable::{Mergeable, merge_all, merge_planned};
-pub use merges::{MergeJob, MergedSegment};
+pub use made_merges::{LateMergeable, end_due};
+pub use mergeable::{Mergeable, merge_all, merge_due, merge_planned};
+pub use merges::{MergeJob, MergeTask, MergedSegment, due_tasks};
 pub use snapshot::Snapshot;

@@ -160,7 +160,12 @@ fn merge_candidate<R, S: Mergeable<R>>(
 }
 
 /// Merges the segments of a candidate, and returns the number of candidates for which memory ran out: 1 or 0.
-fn try_candidate<R, S: Mergeable<R>>(rt: &R, alloc: Global, index: &mut S, ids: &[u64]) -> usize
+pub(crate) fn try_candidate<R, S: Mergeable<R>>(
+    rt: &R,
+    alloc: Global,
+    index: &mut S,
+    ids: &[u64],
+) -> usize
     ensures merged { MergesAllBut result (ids.now ∷ []) (S.left index.old) (S.left index.new) }
     ensures few { result ≤ 1 }
     ensures several { 2 ≤ length ids.now → Merges 0 (S.left index.old) (S.left index.new) }
@@ -175,7 +180,7 @@ fn try_candidate<R, S: Mergeable<R>>(rt: &R, alloc: Global, index: &mut S, ids: 
 
 /// Runs candidates in order, stopping after the first single-segment one: such a merge uses up an id without freeing
 /// one, and the bound on ids allows one per commit. A candidate that runs out of memory is skipped and counted.
-fn merge_due<R, S: Mergeable<R>>(
+pub fn merge_due<R, S: Mergeable<R>>(
     rt: &R,
     alloc: Global,
     index: &mut S,

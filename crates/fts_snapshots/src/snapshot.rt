@@ -6,6 +6,7 @@ ghost use Rattle.fts_snapshots.specs.Entries.{content};
 ghost use Rattle.fts_snapshots.specs.Infos.{info_of, infos_after_merge, candidate_ids, candidate_ids_by};
 ghost use Rattle.fts_snapshots.specs.Cuts.{IsCut};
 ghost use Rattle.fts_snapshots.specs.Commits.{misfit};
+ghost use Rattle.fts_snapshots.specs.MadeMerges.{AreApart};
 ghost use Rattle.fts_snapshots.specs.Merges.{entries_at, names_fault};
 ghost use Rattle.fts_snapshots.specs.MergedSegments.{merged_of};
 ghost use Rattle.fts_snapshots.specs.PreparedCommits.{prepared};
@@ -210,6 +211,7 @@ impl Snapshot {
         requires most { policy.now.most ≤ most_merged }
         ensures candidates { IfOk result (λ found.
             map (λ c. c.items) found.items ≡ candidate_ids_by policy.now self.now.entries) }
+        ensures apart { IfOk result (λ found. AreApart (map (λ c. c.items) found.items)) }
         ensures memory { IsOkUnless result Refusal.Memory }
     {
         let entries = self.entries.to_vec(alloc)?;

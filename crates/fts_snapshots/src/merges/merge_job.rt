@@ -49,6 +49,15 @@ impl MergeJob {
         &self.entries
     }
 
+    /// Makes one segment of the live documents, in the order of the segments; the job stays as it is. It is refused as
+    /// `TooLarge` for over 1,048,576 live documents.
+    pub fn make(&self, alloc: Global) -> Result<MergedSegment, Refusal>
+        ensures { Gives (λ merged. merged) result
+            (ok_unless (size_fault (sum_by live_count self.now)) (merged_of self.now)) }
+    {
+        merged(alloc, &self.entries)
+    }
+
     /// Makes one segment of the live documents, in the order of the segments. It needs no writer, and no search result
     /// changes by it.
     ///
