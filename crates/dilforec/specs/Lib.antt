@@ -18,13 +18,17 @@ pub use Rattle.fts_query.specs.Outcomes
 pub use Rattle.fts_rounds.specs.Rounds
 pub use Rattle.fts_rounds.specs.RoundsDrawn
 pub use Rattle.fts_rounds.specs.Shuffles
+pub use Rattle.fts_snapshots.specs.Candidates
+pub use Rattle.fts_snapshots.specs.Changes
 pub use Rattle.fts_snapshots.specs.Commits
+pub use Rattle.fts_snapshots.specs.CountedSnapshots
 pub use Rattle.fts_snapshots.specs.Cuts
 pub use Rattle.fts_snapshots.specs.Entries
 pub use Rattle.fts_snapshots.specs.EntryLists
 pub use Rattle.fts_snapshots.specs.Infos
 pub use Rattle.fts_snapshots.specs.Jobs
 pub use Rattle.fts_snapshots.specs.LateMerges
+pub use Rattle.fts_snapshots.specs.MadeMerges
 pub use Rattle.fts_snapshots.specs.MergedSegments
 pub use Rattle.fts_snapshots.specs.Merges
 pub use Rattle.fts_snapshots.specs.PreparedCommits
