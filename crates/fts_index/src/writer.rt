@@ -283,9 +283,9 @@ impl Writer {
 
     /// Merges what a policy says of the last commit, if there is a policy, up to the first candidate of one segment. Up
     /// to this many threads, 1 to 64, the calling one among them, make the segments of several candidates side by side;
-    /// the gate is called around each. All of these segments are held until the last has been made, and then they
-    /// replace their sources in the order of the candidates. With one thread or one candidate due, each segment
-    /// replaces its sources before the next is made.
+    /// the gate is called around each. All of these segments are held in memory until the last has been made; then they
+    /// replace their sources in the order of the candidates. With one thread, or if one candidate alone is due, each
+    /// segment replaces its sources before the next is made.
     ///
     /// `Memory` if memory ran out for a candidate, also when it was tried alone: it stays until a later commit, and the
     /// others are merged. A candidate that can't be merged stays.
