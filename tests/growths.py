@@ -22,7 +22,7 @@ AGAIN = {
     "tests_pool": ["refusal"],
     "tests_rounds": ["a_batch_is_in_the_order", "a_full_lane", "a_lane_is_missing"],
     "tests_merges": ["growths::"],
-    "tests_index": ["growths::"],
+    "tests_index": ["growths::", "merges::a_refused"],
 }
 # A new thread needs memory too.
 OUT_OF_MEMORY = re.compile(
