@@ -6,8 +6,8 @@ import pickle
 from collections.abc import Iterator, Mapping, Sequence
 from typing import Any, NamedTuple, Optional
 
-# The name of the handler that each worker has.
-OPERATION = "dilforec_answer"
+# The names of the handlers that each worker has: one answers, one tells where else it may be asked.
+OPERATION, LISTENER = "dilforec_answer", "dilforec_listener"
 # How many workers one asks: up to that many the client asks itself, more than that are asked by a tree of workers.
 FAN_OUT = 16
 
