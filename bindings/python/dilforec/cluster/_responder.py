@@ -4,7 +4,6 @@
 from __future__ import annotations
 
 import asyncio
-import json
 import math
 import pickle
 from collections.abc import Sequence
@@ -24,6 +23,7 @@ from dilforec.cluster._requests import (
     ABSENT, CHANGED, FAILED, LISTENER, LOST, OPERATION, UNMADE, Asked, Missing, Reply, Request, Wanted, read_wanted,
 )
 from dilforec.index import channel_of
+from dilforec.library import Asking
 
 T = TypeVar("T")
 
@@ -32,11 +32,10 @@ REQUESTS = 4
 
 
 class Found(NamedTuple):
-    """A partition that is on this worker, and the name of its source as JSON."""
+    """A partition that is on this worker, and its place among all."""
 
     rank: int
     built: Built
-    source: bytes
 
 
 class ResponderPlugin(WorkerPlugin):  # type: ignore[misc]
@@ -124,7 +123,7 @@ class Responder:
             return Missing(wanted.rank, ABSENT)
         built = partition.built_before()
         if built is not None:
-            return _found(wanted, partition, built)
+            return _found(wanted, built)
         return partition if wanted.make else Missing(wanted.rank, UNMADE)
 
     async def _made(self, wanted: Wanted, partition: Partition) -> Found | Missing:
@@ -132,7 +131,7 @@ class Responder:
             built = await asyncio.get_running_loop().run_in_executor(self._making, partition.built)
         except Exception as error:
             return Missing(wanted.rank, FAILED, pickled(error))
-        return _found(wanted, partition, built)
+        return _found(wanted, built)
 
     def close(self) -> None:
         self.listener.close()
@@ -159,27 +158,22 @@ def search(found: Sequence[Found], searches: Sequence[Asked]) -> list[Partial]:
     """The answers of some partitions to some searches, joined."""
     joinings = [Joining(asked.k, asked.is_falling) for asked in searches]
     for each in found:
-        with each.built.index.searcher() as searcher:
+        with each.built.searcher() as searcher:
+            channel = channel_of(searcher)
             for asked, joining in zip(searches, joinings):
                 if asked.only is None or each.rank in asked.only:
-                    _add_reply(joining, searcher, asked, each)
+                    try:
+                        joining.add(_reply(channel, asked), each.rank, each.built.source)
+                    except Exception as error:
+                        joining.fault = pickled(error)
     return [joining.answer() for joining in joinings]
 
 
-def _add_reply(joining: Joining, searcher: Any, asked: Asked, found: Found) -> None:
-    try:
-        joining.add(_reply(searcher, asked), found.rank, found.source)
-    except Exception as error:
-        joining.fault = pickled(error)
-
-
-def _reply(searcher: Any, asked: Asked) -> bytes:
+def _reply(channel: Asking, asked: Asked) -> bytes:
     """A partition's own reply."""
-    reply: bytes
     if asked.names is None:
-        reply = channel_of(searcher).ask(asked.line)
-    else:
-        (reply,) = channel_of(searcher).ask_each([asked.line], asked.names)
+        return channel.ask(asked.line)
+    (reply,) = channel.ask_each([asked.line], asked.names)
     return reply
 
 
@@ -213,11 +207,11 @@ def pickled(error: BaseException) -> bytes:
     return data
 
 
-def _found(wanted: Wanted, partition: Partition, built: Built) -> Found | Missing:
+def _found(wanted: Wanted, built: Built) -> Found | Missing:
     """A partition, if it was made of the lines that it has to be made of."""
     if wanted.digest not in (None, built.summary.digest):
         return Missing(wanted.rank, CHANGED)
-    return Found(wanted.rank, built, json.dumps(partition.source.name, ensure_ascii=False).encode())
+    return Found(wanted.rank, built)
 
 
 # What is asked of a partition besides searches.
