@@ -10,7 +10,7 @@ from dilforec.cluster._frames import Frames
 class Connection(Frames):
     """Requests to a worker's Listener, several of which may be under way at once.
 
-    What the worker doesn't read is kept, so who asks limits how much is under way.
+    What the worker hasn't read is kept in memory: the caller limits how much is under way.
     """
 
     def __init__(self, token: bytes) -> None:

@@ -53,6 +53,7 @@ class Frames(asyncio.Protocol):
         self._transport.writelines([HEAD.pack(number, len(data)), data])
 
     def received(self, number: int, data: memoryview) -> None:
+        """Takes a frame."""
         raise NotImplementedError
 
     def data_received(self, data: bytes) -> None:
@@ -60,7 +61,7 @@ class Frames(asyncio.Protocol):
         self._size += len(data)
         if self._size >= self._wanted:
             rest = self._take(memoryview(b"".join(self._chunks)))
-            self._chunks, self._size = [bytes(rest)], len(rest)
+            self._chunks, self._size = [bytes(rest)] if rest else [], len(rest)
 
     def _take(self, data: memoryview) -> memoryview:
         """Takes the frames that are whole, and returns what comes after them."""

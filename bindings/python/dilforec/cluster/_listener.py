@@ -14,17 +14,17 @@ from distributed.comm.addressing import parse_address, parse_host_port
 from dilforec.cluster._connections import tls
 from dilforec.cluster._frames import LONGEST, Frames
 
-# Bytes of the token that a client sends first, and the seconds that it has for that.
+# Bytes of the token, and the seconds that a client has to send it.
 TOKEN, PATIENCE = 32, 10.0
 
 Answer = Callable[[Union[bytes, memoryview]], Awaitable[bytes]]
 
 
 class Listener:
-    """A socket beside a worker's own. Who has the token, which is told by rpc alone, gets requests answered there.
+    """A socket beside a worker's own, opened when a client first asks for it. It answers who sends the token first.
 
-    It is opened when the first client asks for it. An empty frame is the reply to what has to be asked by rpc: one that
-    failed, so that its exception is raised, and one with a reply that is too long.
+    The token is told by rpc alone. The reply to a request that has to be sent by rpc is an empty frame: to one that
+    failed, whose exception rpc raises, and to one whose reply is too long.
     """
 
     def __init__(self, worker: Any, answer: Answer) -> None:
@@ -49,7 +49,8 @@ class Listener:
         scheme, place = parse_address(self._worker.address)
         host, _ = parse_host_port(place)
         context = tls(scheme, self._worker.security.get_listen_args("worker"))
-        return await asyncio.get_running_loop().create_server(self._accept, host, 0, ssl=context)
+        return await asyncio.get_running_loop().create_server(
+            self._accept, host, 0, ssl=context, ssl_handshake_timeout=PATIENCE if context else None)
 
     def _accept(self) -> _Accepted:
         return _Accepted(self._token, self._answer, self._accepted)

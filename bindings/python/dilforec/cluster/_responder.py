@@ -49,7 +49,8 @@ class ResponderPlugin(WorkerPlugin):  # type: ignore[misc]
             worker.handlers.update({OPERATION: responder.answer, LISTENER: responder.listener.tell})
 
     def teardown(self, worker: Any) -> None:
-        if worker.status == Status.closing:
+        # This is also called when another plugin takes the place of this one.
+        if worker.status == Status.closing and OPERATION in worker.handlers:
             worker.handlers[OPERATION].__self__.close()
 
 
@@ -66,7 +67,7 @@ class Responder:
         self._making = ThreadPoolExecutor(self._threads, "dilforec-make")
 
     async def answer(self, comm: Any, request: bytes) -> bytes:
-        """A handler of Dask's, beside the listener."""
+        """A handler of Dask's, for what doesn't come through the listener."""
         return await self.reply_to(request)
 
     async def reply_to(self, request: Union[bytes, memoryview]) -> bytes:
@@ -134,6 +135,7 @@ class Responder:
         return _found(wanted, built)
 
     def close(self) -> None:
+        """Ends the connections, those that others made and those to others."""
         self.listener.close()
         self._connections.close()
 
