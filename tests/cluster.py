@@ -153,7 +153,7 @@ from distributed import Client
 import dilforec
 from dilforec.cluster import Cluster
 
-with Client(sys.argv[1], security=security) as client, Cluster(
+with Client(sys.argv[1], security=security, set_as_default=False) as client, Cluster(
     client, [dilforec.keyword("level")], sorted(pathlib.Path("logs").glob("*.jsonl")), progress=False,
 ) as logs:
     connections = logs._connections._connections

@@ -94,6 +94,7 @@ class Cluster(Searching):
         endings = client._periodic_callbacks.setdefault("dilforec-connections", _Endings())
         endings.open.add(self._connections)
         self._end_connections = weakref.finalize(self, endings.end, self._connections)
+        self._end_connections.atexit = False
         # It is held by what puts another channel in the place of this one, or closes it.
         self._lock = threading.Lock()
         _register(client)
@@ -197,7 +198,9 @@ class Cluster(Searching):
         ]
         if self._progress and futures:
             _show_progress(futures)
-        distributed.wait(futures)
+        # The client needn't be Dask's default.
+        with self._client.as_current():
+            distributed.wait(futures)
         for future in futures:
             if future.status == "error":
                 future.result()
@@ -207,7 +210,7 @@ class Cluster(Searching):
 
 
 class _Endings:
-    """Connections that end with their client: as it closes, Dask stops what is among its periodic callbacks."""
+    """Ends the connections of a client as it closes: Dask stops it then, as one of the client's periodic callbacks."""
 
     def __init__(self) -> None:
         self.open: set[Connections] = set()
