@@ -594,10 +594,12 @@ class Paths(unittest.TestCase):
                     with_connections(many)
                     with mock.patch.object(client, "rpc", None), mock.patch.object(many._connections, "_rpc", None):
                         self.assertEqual(many.search("*", groups="price").count, 400)
-                self.assertEqual(sum(CLIENT.run(_accepted).values()), 4)
+                opened = len(many._connections._connections)
+                self.assertEqual(sum(CLIENT.run(_accepted).values()), opened)
+                self.assertGreater(opened, 0)
                 (many if close == "cluster" else client).close()
                 wait_until(lambda: not any(CLIENT.run(_accepted).values()))
-            self.assertFalse(CLIENT._periodic_callbacks["dilforec-connections"].open)
+            self.assertFalse(client._periodic_callbacks["dilforec-connections"].open)
 
     def test_broken_connections(self):
         """Connections that end, or whose workers die, while they are asked: others answer, or rpc does."""
