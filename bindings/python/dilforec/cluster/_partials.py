@@ -60,13 +60,10 @@ class Joining:
         if not reply.startswith(_COUNT):
             self._other = reply
             return
-        if b"," not in reply:
-            self._documents += int(reply[len(_COUNT):-2])
-            return
-        top = reply.find(_TOP)
-        answer = json.loads((reply if top < 0 else reply[:top] + b"}").decode())
-        self._documents += answer["count"]
-        if "groups" in answer:
+        comma, top = reply.find(b","), reply.find(_TOP)
+        self._documents += int(reply[len(_COUNT):comma if comma >= 0 else -2])
+        if comma != top:
+            answer = json.loads((reply if top < 0 else reply[:top] + b"}").decode())
             self._add_groups(answer["groups"])
         if top >= 0:
             self._add_hits(_texts(reply, top + len(_TOP), b',"source":' + source), rank)
