@@ -65,9 +65,9 @@ def with_distributed():
     return (sys.executable, [folder]) if imports_distributed(sys.executable, folder) else None
 
 
-def unittests(name, python, *paths):
+def unittests(name, python, *paths, options=()):
     """Counts the tests of a module of bindings/python/tests; what they print goes on."""
-    done = run_tests(python, "-m", "unittest", name, env=environment(PACKAGE, PACKAGE / "tests", *paths), seconds=480)
+    done = run_tests(python, *options, "-m", "unittest", name, env=environment(PACKAGE, PACKAGE / "tests", *paths), seconds=480)
     print("".join(line + "\n" for line in done.said.splitlines() if line.startswith("cluster: ")), end="")
     counts.add(name, done.passed, done.failed, done.said)
     if done.skipped:
@@ -146,6 +146,25 @@ def the_example(python, paths):
             runs_as_told("the example with dask-scheduler and dask-worker", told, python, folder, env, address)
 
 
+# Searches until each connection to a worker is there, and prints the TLS of each.
+CONNECTIONS = """
+import pathlib, sys, time
+from distributed import Client
+import dilforec
+from dilforec.cluster import Cluster
+
+with Client(sys.argv[1], security=security, set_as_default=False) as client, Cluster(
+    client, [dilforec.keyword("level")], sorted(pathlib.Path("logs").glob("*.jsonl")), progress=False,
+) as logs:
+    connections = logs._connections._connections
+    while not connections or not all(each.is_open for each in connections.values()):
+        logs.search("*")
+        time.sleep(0.05)
+    logs.search("*")
+    print([each._transport.get_extra_info("cipher") for each in connections.values()])
+"""
+
+
 def with_tls(python, paths):
     """The example over TLS, with the page's certificates and options; a client without a certificate is kept out."""
     env = environment(PACKAGE, *paths)
@@ -164,10 +183,14 @@ def with_tls(python, paths):
         program = (folder / "logs.py").read_text().replace("*sys.argv[1:] or [LocalCluster(threads_per_worker=1)]",
                                                            "sys.argv[1], security=security")
         (folder / "logs.py").write_text(security + program)
+        (folder / "connections.py").write_text(security + CONNECTIONS)
         with commands(python, folder, env, "--protocol", "tls", *options) as address:
             good = address.startswith("tls://")
             counts.check("an address of TLS", good, address)
             runs_as_told("the example over TLS", expected, python, folder, env, address)
+            done = run(python, "-X", "dev", "connections.py", address, cwd=folder, env=env, seconds=60)
+            good = done.status == 0 and "TLSv1" in done.said
+            counts.check("connections over TLS", good, done.said)
             for stranger in address, address.replace("tls:", "tcp:"):
                 program = f"from distributed import Client; Client({stranger!r}, timeout=3)"
                 refused = run(python, "-c", program, cwd=folder, env=env, seconds=60).status not in (0, None)
@@ -200,10 +223,11 @@ def main():
     if not SHARED.is_file():
         counts.check("the shared object", False, f"{SHARED} isn't there: bindings/python/link.py makes it")
     elif found is None:
-        for name in ("test_cluster", "the example of docs/SCALE.md", "the example over TLS", "the example from the wheel"):
+        for name in ("test_connections", "test_cluster", "the example of docs/SCALE.md", "the example over TLS", "the example from the wheel"):
             counts.skip(name, "no Python here has distributed")
     else:
         python, paths = found
+        unittests("test_connections", python, *paths, options=["-X", "dev"])
         unittests("test_cluster", python, *paths)
         the_example(python, paths)
         if shutil.which("openssl"):

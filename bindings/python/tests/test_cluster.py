@@ -32,8 +32,8 @@ import dilforec
 import machines
 from dilforec import joins
 from dilforec.cluster import (
-    Cluster, Documents, JsonLines, Refusal, Script, Search, SourceChanged, SourceRefused, SourceUnreadable, _gathering,
-    _requests, _responder, _rounds, _sources,
+    Cluster, Documents, JsonLines, Refusal, Script, Search, SourceChanged, SourceRefused, SourceUnreadable, _connections,
+    _gathering, _requests, _responder, _rounds, _sources,
 )
 
 ROOT = pathlib.Path(__file__).resolve().parents[3]
@@ -556,7 +556,7 @@ class Paths(unittest.TestCase):
         """Each worker is in a tree once, and none asks more than 16 others."""
         for count in (1, 16, 17, 18, 100, 400):
             wanted = {f"{place}": [_requests.Wanted(place, f"key {place}", None)] for place in range(count)}
-            nodes = _requests.trees(wanted, count // 2)
+            nodes = _requests.trees({address: pickle.dumps(each) for address, each in wanted.items()}, count // 2)
             self.assertEqual(len(nodes), count if count <= 16 else 1)
             held = [each for node in nodes for each in node.holders()]
             self.assertEqual(sorted(held), sorted((each, address) for address, (each,) in wanted.items()))
@@ -582,6 +582,41 @@ class Paths(unittest.TestCase):
             patch = mock.patch.object(_gathering.Gathering, "_send_directly", fails)
             patch.start()
             self.addCleanup(patch.stop)
+
+    def test_connections(self):
+        """Once there are connections nothing goes by rpc, until they end with the cluster, or with its client."""
+        with contextlib.ExitStack() as stack:
+            client = Client(scheduler_file=str(MACHINES.file), set_as_default=False)
+            stack.callback(client.close)
+            for close in "cluster", "client":
+                many = Cluster(client, SCHEMA, [source(first, first + 50) for first in range(0, 400, 50)], progress=False)
+                with self.same(many):
+                    with_connections(many)
+                    with mock.patch.object(client, "rpc", None), mock.patch.object(many._connections, "_rpc", None):
+                        self.assertEqual(many.search("*", groups="price").count, 400)
+                opened = len(many._connections._connections)
+                self.assertEqual(sum(CLIENT.run(_accepted).values()), opened)
+                self.assertGreater(opened, 0)
+                (many if close == "cluster" else client).close()
+                wait_until(lambda: not any(CLIENT.run(_accepted).values()))
+            self.assertFalse(client._periodic_callbacks["dilforec-connections"].open)
+
+    def test_broken_connections(self):
+        """Connections that end, or whose workers die, while they are asked: others answer, or rpc does."""
+        with cluster(source(first, first + 50) for first in range(0, 400, 50)) as many:
+            expected = many.search("*", groups="price")
+            for breaking in (
+                lambda: CLIENT.run(_break), lambda: MACHINES.kill(MACHINES.with_partitions("has_what")[:1]),
+                lambda: MACHINES.kill(MACHINES.with_partitions("has_what")),
+            ):
+                with_connections(many)
+                with slow_answers(1.5), ThreadPoolExecutor(1) as thread:
+                    answer = thread.submit(many.search, "*", groups="price")
+                    time.sleep(0.5)
+                    breaking()
+                    MACHINES.four()
+                    self.assertEqual(answer.result(), expected)
+                self.assertEqual(many.search("*", groups="price"), expected)
 
     def test_shared_rounds(self):
         """Searches that wait while a round is under way go together in the next."""
@@ -659,6 +694,26 @@ class Paths(unittest.TestCase):
         self.assertRaises(dilforec.Closed, many.add_source, source(0, 10))
 
 
+def with_connections(many):
+    """Has searches go over connections: they are made beside the first, and again some time after they broke."""
+    with mock.patch.object(_connections, "BETWEEN", 0):
+        many._connections._next_try.clear()
+
+        def are_open():
+            many.search("*")
+            places = many._places._known.values()
+            return all(many._connections._connections[address].is_open for (address, *_) in places)
+
+        wait_until(are_open)
+
+
+def wait_until(good):
+    deadline = time.monotonic() + 60
+    while not good():
+        assert time.monotonic() < deadline
+        time.sleep(0.02)
+
+
 class _Same:
     """What is checked at the end of a block."""
 
@@ -700,6 +755,18 @@ def _give_up(key, dask_worker):
 
 def _lose(key, dask_worker):
     dask_worker.data.pop(key, None)
+
+
+def _listener(dask_worker):
+    return dask_worker.handlers[_requests.OPERATION].__self__.listener
+
+
+def _accepted(dask_worker):
+    return len(_listener(dask_worker)._accepted)
+
+
+def _break(dask_worker):
+    dask_worker.loop.add_callback(lambda: [each.close() for each in _listener(dask_worker)._accepted])
 
 
 def _has(key, dask_worker):

@@ -12,9 +12,10 @@ It needs Dask: `pip install dilforec[cluster]`. Dask says where partitions are m
 again on another from their sources. Searches go to the workers themselves; docs/SCALE.md has the whole of it.
 
 From the top down: `_cluster` is what callers see; `_searches` makes one reply of the answers to a line; `_rounds` sends
-the searches of many threads together; `_gathering` sees to it that each partition answers once, by the addresses of
-`_places`; `_requests` is what goes over the network; `_responder` answers on a worker; `_partials` joins; `_partitions`
-makes the index of a source, and `_sources` reads it.
+the searches of many threads together; `_gathering` sees to it that each partition answers once; `_plan` has which
+worker is asked for which, by the addresses of `_places`; `_connections` has the ways to workers, each a `_connection`
+of `_frames` to a `_listener`, or Dask's rpc; `_requests` is what goes there; `_responder` answers on a worker;
+`_partials` joins; `_partitions` makes the index of a source, and `_sources` reads it.
 """
 from dilforec.cluster._cluster import Cluster, Counts, Search
 from dilforec.cluster._partitions import Refusal, SourceChanged, SourceRefused, SourceUnreadable

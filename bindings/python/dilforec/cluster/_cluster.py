@@ -10,12 +10,14 @@ import sys
 import threading
 import time
 import uuid
+import weakref
 from collections.abc import Iterable, Sequence
 from dataclasses import dataclass
 from typing import Any, NamedTuple, Optional, Union, overload
 
 import distributed
 
+from dilforec.cluster._connections import Connections
 from dilforec.cluster._partitions import Refusal, make
 from dilforec.cluster._places import Part, Places
 from dilforec.cluster._responder import ResponderPlugin
@@ -88,6 +90,11 @@ class Cluster(Searching):
         self._client, self._schema = client, tuple(schema)
         self._strict, self._progress = strict, progress
         self._places = Places(client)
+        self._connections = Connections(client.rpc, client.loop.asyncio_loop)
+        endings = client._periodic_callbacks.setdefault("dilforec-connections", _Endings())
+        endings.open.add(self._connections)
+        self._end_connections = weakref.finalize(self, endings.end, self._connections)
+        self._end_connections.atexit = False
         # It is held by what puts another channel in the place of this one, or closes it.
         self._lock = threading.Lock()
         _register(client)
@@ -114,6 +121,7 @@ class Cluster(Searching):
     def close(self) -> None:
         with self._lock:
             self._channel.close()
+        self._end_connections()
 
     def _check_open(self) -> None:
         if not self._channel.is_open:
@@ -127,7 +135,10 @@ class Cluster(Searching):
         self._places.forget(part.future.key for part in before.values() if part.future.key not in here)
 
     def _joined(self, parts: dict[str, Part]) -> Joined:
-        return Joined(Rounds(self._client, self._places, list(parts.values())))
+        return Joined(self._rounds(list(parts.values())))
+
+    def _rounds(self, parts: Sequence[Part]) -> Rounds:
+        return Rounds(self._client, self._connections, self._places, parts)
 
     def counts(self) -> dict[str, Counts]:
         """Documents and refused lines of each partition, by the name of its source, in the order of the sources."""
@@ -187,13 +198,30 @@ class Cluster(Searching):
         ]
         if self._progress and futures:
             _show_progress(futures)
-        distributed.wait(futures)
+        # The client needn't be Dask's default.
+        with self._client.as_current():
+            distributed.wait(futures)
         for future in futures:
             if future.status == "error":
                 future.result()
         parts = list(map(Part, names, futures))
-        summaries = Rounds(self._client, self._places, parts).summaries()
+        summaries = self._rounds(parts).summaries()
         return {part.source: part._replace(summary=summary) for part, summary in zip(parts, summaries)}
+
+
+class _Endings:
+    """Ends the connections of a client as it closes: Dask stops it then, as one of the client's periodic callbacks."""
+
+    def __init__(self) -> None:
+        self.open: set[Connections] = set()
+
+    def end(self, connections: Connections) -> None:
+        self.open.discard(connections)
+        connections.end()
+
+    def stop(self) -> None:
+        for connections in list(self.open):
+            self.end(connections)
 
 
 def _checked(timeout: Optional[float]) -> Optional[float]:

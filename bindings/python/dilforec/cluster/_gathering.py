@@ -7,14 +7,16 @@ import asyncio
 import collections
 import pickle
 from collections.abc import Sequence
-from typing import Any, NoReturn, Optional
+from typing import Any, NoReturn, Optional, Union
 
 import distributed
 from distributed.protocol.pickle import loads
 from distributed.scheduler import KilledWorker
 
+from dilforec.cluster._connections import Connections
 from dilforec.cluster._partitions import SourceChanged, SourceUnreadable
-from dilforec.cluster._places import Part, Places
+from dilforec.cluster._places import Part
+from dilforec.cluster._plan import Plan
 from dilforec.cluster._requests import (
     CHANGED, FAILED, LOST, OPERATION, UNMADE, Asked, Missing, Node, Reply, Request, Wanted, trees,
 )
@@ -30,16 +32,16 @@ LONG = 65_536
 
 
 class Gathering:
-    """One request to all of some partitions. It runs in the client's event loop.
+    """One request to all partitions of a plan. It runs in the client's event loop.
 
     Each worker is asked once for all its partitions. Those that didn't reply are looked up again, and asked again. A
     lost partition is Dask's to make again; those that wait for it wait for its future.
     """
 
-    def __init__(self, client: distributed.Client, places: Places, parts: Sequence[Part], turn: int) -> None:
-        self._client, self._places, self._turn = client, places, turn
-        self._parts = parts
-        self._left = dict(enumerate(parts))
+    def __init__(self, client: distributed.Client, connections: Connections, plan: Plan, turn: int) -> None:
+        self._client, self._connections, self._plan, self._turn = client, connections, plan, turn
+        self._parts, self._places = plan.parts, plan.places
+        self._left = list(range(len(self._parts)))
         # The workers that have the source of a partition alone.
         self._unmade: dict[int, set[str]] = collections.defaultdict(set)
         self._tries: collections.Counter[int] = collections.Counter()
@@ -52,40 +54,32 @@ class Gathering:
         fault of its source.
         """
         pause = FIRST_PAUSE
+        sent = pickle.dumps(searches, protocol=5)
         if searches and all(search.only is not None for search in searches):
-            ranks = {rank for search in searches for rank in search.only or ()}
-            self._left = {rank: self._parts[rank] for rank in sorted(ranks)}
+            self._left = sorted({rank for search in searches for rank in search.only or ()})
         while self._left:
             before = len(self._left)
-            nodes = self._nodes(await self._wanted())
-            for node, reply in zip(nodes, await self._replies(nodes, task, searches)):
-                await self._take(node, reply)
+            nodes, lacking = await self._nodes()
+            for node, reply in zip(nodes, await self._replies(nodes, task, sent)):
+                lacking += await self._take(node, reply)
+            self._left = sorted(lacking)
             if len(self._left) == before:
                 await asyncio.sleep(pause)
                 pause = min(2 * pause, LONGEST_PAUSE)
         return self._results
 
-    async def _wanted(self) -> dict[str, list[Wanted]]:
-        """What to ask of each worker now. If no worker has any of the partitions, this waits until they are made."""
-        holders = await self._places.find(self._left.values())
-        wanted: dict[str, list[Wanted]] = collections.defaultdict(list)
-        for rank, part in self._left.items():
-            addresses = holders[part.future.key]
-            if addresses:
-                makers = [address for address in addresses if address not in self._unmade[rank]]
-                digest = part.summary.digest if part.summary else None
-                address, make = (makers[0], False) if makers else (addresses[0], True)
-                wanted[address].append(Wanted(rank, part.future.key, digest, make))
-        if not wanted:
-            await asyncio.gather(*(self._await_made(rank, part) for rank, part in self._left.items()))
-        return wanted
+    async def _nodes(self) -> tuple[list[Node], list[int]]:
+        """The workers to ask now, and the partitions that none of them has. If none has any, this waits for all.
 
-    def _nodes(self, wanted: dict[str, list[Wanted]]) -> list[Node]:
-        """The workers to ask. Those that are asked through the scheduler have a tree of their own."""
+        Those that are asked through the scheduler have a tree of their own.
+        """
+        wanted, homeless = await self._plan.wanted(self._left, self._unmade)
+        if not wanted:
+            await asyncio.gather(*(self._await_made(rank, self._parts[rank]) for rank in homeless))
         self._turn += 1
         far = {address: each for address, each in wanted.items() if self._places.is_far(address)}
         near = {address: each for address, each in wanted.items() if address not in far}
-        return trees(near, self._turn) + trees(far, self._turn)
+        return trees(near, self._turn) + trees(far, self._turn), homeless
 
     async def _await_made(self, rank: int, part: Part) -> None:
         error = await part.future.exception()
@@ -109,7 +103,7 @@ class Gathering:
             raise error
         raise SourceChanged(part.source) from error
 
-    async def _replies(self, nodes: Sequence[Node], task: str, searches: Sequence[Asked]) -> list[Optional[Reply]]:
+    async def _replies(self, nodes: Sequence[Node], task: str, searches: bytes) -> list[Optional[Reply]]:
         """What each worker, with those below it, replies; None if it is lost."""
         sent = [asyncio.ensure_future(self._send(node, Request(task, node, searches))) for node in nodes]
         try:
@@ -123,12 +117,9 @@ class Gathering:
         return [None if reply.cancelled() else reply.result() for reply in sent]
 
     async def _send(self, node: Node, request: Request) -> Optional[Reply]:
-        sent = {"op": OPERATION, "request": request.pickled()}
+        send = self._send_through_scheduler if self._places.is_far(node.address) else self._send_directly
         try:
-            if self._places.is_far(node.address):
-                reply = await self._client.scheduler.proxy(msg=sent, worker=node.address)
-            else:
-                reply = await self._send_directly(node.address, sent)
+            reply = await send(node.address, request.pickled())
         except OSError:
             return None
         if reply is None:
@@ -137,28 +128,33 @@ class Gathering:
             return _read(reply)
         return await asyncio.get_running_loop().run_in_executor(None, _read, reply)
 
-    async def _send_directly(self, address: str, sent: dict[str, Any]) -> Any:
-        return await getattr(self._client.rpc(address), OPERATION)(request=sent["request"])
+    async def _send_directly(self, address: str, request: bytes) -> Optional[Union[bytes, memoryview]]:
+        return await self._connections.ask(address, request)
+
+    async def _send_through_scheduler(self, address: str, request: bytes) -> Optional[Union[bytes, memoryview]]:
+        sent = {"op": OPERATION, "request": request}
+        reply: Optional[bytes] = await self._client.scheduler.proxy(msg=sent, worker=address)
+        return reply
 
     async def _is_there(self, node: Node) -> bool:
         """Whether the scheduler still has the partitions that a worker, with those below it, is asked for."""
         holders = [(wanted.key, address) for wanted, address in node.holders()]
         return await self._places.are_right(holders, [self._parts[wanted.rank] for wanted, _ in node.holders()])
 
-    async def _take(self, node: Node, reply: Optional[Reply]) -> None:
-        """Takes a worker's reply in, and what it lacks back."""
+    async def _take(self, node: Node, reply: Optional[Reply]) -> list[int]:
+        """Takes a worker's reply in, and returns the partitions that it lacks."""
         if reply is None:
             self._places.failed(node.address)
-            self._places.forget(wanted.key for wanted, _ in node.holders())
-            return
+            lost = [wanted for wanted, _ in node.holders()]
+            self._places.forget(wanted.key for wanted in lost)
+            return [wanted.rank for wanted in lost]
         self._places.reached(node.address)
         self._results.append(reply.results)
-        missing = {each.rank: each for each in reply.missing}
-        for wanted, address in node.holders():
-            if wanted.rank in missing:
-                await self._take_missing(missing[wanted.rank], wanted, address)
-            else:
-                del self._left[wanted.rank]
+        if reply.missing:
+            holders = {wanted.rank: (wanted, address) for wanted, address in node.holders()}
+            for missing in reply.missing:
+                await self._take_missing(missing, *holders[missing.rank])
+        return [missing.rank for missing in reply.missing]
 
     async def _take_missing(self, missing: Missing, wanted: Wanted, address: str) -> None:
         part = self._parts[missing.rank]
@@ -177,6 +173,6 @@ class Gathering:
             self._places.forget([wanted.key])
 
 
-def _read(reply: bytes) -> Reply:
+def _read(reply: Union[bytes, memoryview]) -> Reply:
     read: Reply = pickle.loads(reply)
     return read

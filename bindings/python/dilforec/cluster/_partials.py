@@ -8,6 +8,7 @@ from __future__ import annotations
 import collections
 import itertools
 import json
+import math
 from collections.abc import Sequence
 from typing import Any, NamedTuple, Optional, Union
 
@@ -50,6 +51,8 @@ class Joining:
         self._documents = 0
         self._counts: Optional[dict[Any, int]] = None
         self._hits: Optional[list[Hit]] = None
+        # No value after this one is among the first k.
+        self._last: float = math.inf
         self._other: Optional[bytes] = None
 
     def add(self, reply: bytes, rank: int, source: bytes) -> None:
@@ -57,19 +60,13 @@ class Joining:
         if not reply.startswith(_COUNT):
             self._other = reply
             return
-        if b"," not in reply:
-            self._documents += int(reply[len(_COUNT):-2])
-            return
-        top = reply.find(_TOP)
-        answer = json.loads((reply if top < 0 else reply[:top] + b"}").decode())
-        self._documents += answer["count"]
-        if "groups" in answer:
+        comma, top = reply.find(b","), reply.find(_TOP)
+        self._documents += int(reply[len(_COUNT):comma if comma >= 0 else -2])
+        if comma != top:
+            answer = json.loads((reply if top < 0 else reply[:top] + b"}").decode())
             self._add_groups(answer["groups"])
         if top >= 0:
-            hits = _hits(reply, top + len(_TOP), rank, b',"source":' + source, self._is_falling)
-            if self._hits is None:
-                self._hits = []
-            self._hits += hits
+            self._add_hits(_texts(reply, top + len(_TOP), b',"source":' + source), rank)
 
     def _add_groups(self, groups: list[list[Any]]) -> None:
         if self._counts is None:
@@ -77,6 +74,21 @@ class Joining:
         counts = self._counts
         for value, count in groups:
             counts[value] += count
+
+    def _add_hits(self, texts: Sequence[bytes], rank: int) -> None:
+        """Adds those of a partition's hits, which come in order, that may be among the first k of all."""
+        if self._hits is None:
+            self._hits = []
+        sign = -1 if self._is_falling else 1
+        for text in texts:
+            _, stamp, number = text.rsplit(b":", 2)
+            value = sign * int(number)
+            if value > self._last:
+                break
+            self._hits.append((value, rank, int(stamp[:-len(_VALUE)]), text))
+        if self._k is not None and len(self._hits) >= 2 * self._k:
+            self._hits = sorted(self._hits)[:self._k]
+            self._last = self._hits[-1][0]
 
     def answer(self) -> Partial:
         """The answer over all that was added."""
@@ -90,16 +102,11 @@ def _groups(counts: dict[Any, int]) -> tuple[Sequence[Any], Sequence[int]]:
     return values, [counts[value] for value in values]
 
 
-def _hits(reply: bytes, begin: int, rank: int, mark: bytes, is_falling: bool) -> list[Hit]:
-    """The hits of a reply's top list, which begins there. The mark is put after each document."""
-    hits: list[Hit] = []
-    sign = -1 if is_falling else 1
-    if reply.startswith(_FIRST, begin):
-        texts = reply[begin + len(_FIRST):-len(_LAST)].replace(_STAMP, b"}" + mark + _STAMP[1:]).split(_NEXT)
-        for text in texts:
-            _, stamp, value = text.rsplit(b":", 2)
-            hits.append((sign * int(value), rank, int(stamp[:-len(_VALUE)]), text))
-    return hits
+def _texts(reply: bytes, begin: int, mark: bytes) -> list[bytes]:
+    """The hits of a reply's top list, which begins there, as a Hit has them. The mark is put after each document."""
+    if not reply.startswith(_FIRST, begin):
+        return []
+    return reply[begin + len(_FIRST):-len(_LAST)].replace(_STAMP, b"}" + mark + _STAMP[1:]).split(_NEXT)
 
 
 def joined(partials: Sequence[Partial], k: Optional[int]) -> Partial:

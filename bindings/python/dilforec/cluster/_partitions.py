@@ -3,17 +3,19 @@
 # mypy: allow-untyped-calls
 from __future__ import annotations
 
+import contextlib
 import hashlib
 import itertools
 import json
 import threading
-from dataclasses import dataclass
+from collections.abc import Iterator
+from dataclasses import dataclass, field
 from typing import Any, NamedTuple, Optional
 
 from dask.sizeof import sizeof
 
 from dilforec.cluster._sources import LongLine, Source, whole_lines
-from dilforec.index import LONGEST_LINE, Index, channel_of
+from dilforec.index import LONGEST_LINE, Index, Searcher, channel_of
 from dilforec.library import MEMORY, fault
 from dilforec.values import Field
 
@@ -86,11 +88,28 @@ class Summary(NamedTuple):
 
 @dataclass(frozen=True)
 class Built:
-    """What a partition has once it is made. `size` is about how many bytes are resident."""
+    """What a partition has once it is made. `source` is the name of its source as JSON, `size` about how many bytes are
+    resident."""
 
     index: Index
     summary: Summary
+    source: bytes
     size: int
+    # A searcher that nobody is at: to open one takes as long as a search of few documents.
+    _idle: list[Searcher] = field(default_factory=list)
+
+    @contextlib.contextmanager
+    def searcher(self) -> Iterator[Searcher]:
+        """A searcher that no other thread has until the end of the `with`."""
+        try:
+            searcher = self._idle.pop()
+        except IndexError:
+            searcher = self.index.searcher()
+        yield searcher
+        if self._idle:
+            searcher.close()
+        else:
+            self._idle.append(searcher)
 
 
 class Partition:
@@ -147,7 +166,8 @@ class _Building:
         self._commit()
         documents = self.index.search("*").count
         summary = Summary(self.digest.digest(), documents, self.refused, self.refusals)
-        return Built(self.index, summary, HELD * self.size)
+        name = json.dumps(self.source.name, ensure_ascii=False).encode()
+        return Built(self.index, summary, name, HELD * self.size)
 
     def _take(self, block: list[bytes]) -> None:
         self.digest.update(b"".join(block))

@@ -32,6 +32,8 @@ class Places:
     """
 
     def __init__(self, client: distributed.Client) -> None:
+        # How often something of this changed.
+        self.changes = 0
         self._client = client
         self._known: dict[str, Sequence[str]] = {}
         self._failures: collections.Counter[str] = collections.Counter()
@@ -46,6 +48,7 @@ class Places:
         unknown = [future for key, future in keys.items() if key not in self._known]
         if unknown:
             self._known.update(await self._asked(unknown))
+            self.changes += 1
         return {key: self._known.get(key, ()) for key in keys}
 
     async def are_right(self, places: Iterable[tuple[str, str]], parts: Iterable[Part]) -> bool:
@@ -63,6 +66,7 @@ class Places:
         """Has the scheduler asked for these again."""
         for key in keys:
             self._known.pop(key, None)
+        self.changes += 1
 
     def failed(self, address: str) -> None:
         """Counts a worker that couldn't be reached."""

@@ -1,15 +1,18 @@
-"""What the client and the workers send each other, pickled: Dask takes bytes as they are."""
+"""What the client and the workers send each other, pickled."""
 from __future__ import annotations
 
+import functools
 import io
 import pickle
 from collections.abc import Iterator, Mapping, Sequence
 from typing import Any, NamedTuple, Optional
 
-# The name of the handler that each worker has.
-OPERATION = "dilforec_answer"
+# The names of the handlers that each worker has: one answers, one tells where else it may be asked.
+OPERATION, LISTENER = "dilforec_answer", "dilforec_listener"
 # How many workers one asks: up to that many the client asks itself, more than that are asked by a tree of workers.
 FAN_OUT = 16
+# Lists of Wanteds that a process keeps as it read them: workers are asked for the same again and again.
+KEPT = 32
 
 # Why a reply lacks a partition. The worker hasn't it; has its source alone; made it of other lines; failed to make it;
 # or a worker that was to be asked for it didn't answer.
@@ -65,32 +68,42 @@ class Reply(NamedTuple):
 
 
 class Node(NamedTuple):
-    """A worker with the partitions that it is asked for, and the workers that it asks in turn."""
+    """A worker with the partitions that it is asked for, a pickled list of Wanteds, and the workers that it asks."""
 
     address: str
-    wanted: Sequence[Wanted]
+    wanted: bytes
     below: Sequence[Node] = ()
 
     def holders(self) -> Iterator[tuple[Wanted, str]]:
         """All partitions of this worker and those below, each with the address of its worker."""
-        for each in self.wanted:
+        for each in read_wanted(self.wanted):
             yield each, self.address
         for node in self.below:
             yield from node.holders()
 
 
 class Request(NamedTuple):
-    """What a worker is asked: `search`, `measure` or `tell`, of which partitions, and for which searches."""
+    """What a worker is asked: `search`, `measure` or `tell`, of which partitions, and for which searches.
+
+    The searches, a list of Asked, are pickled once for all workers.
+    """
 
     task: str
     node: Node
-    searches: Sequence[Asked]
+    searches: bytes
 
     def pickled(self) -> bytes:
         return pickle.dumps(self, protocol=5)
 
 
-def trees(wanted: Mapping[str, Sequence[Wanted]], turn: int) -> list[Node]:
+@functools.lru_cache(KEPT)
+def read_wanted(wanted: bytes) -> Sequence[Wanted]:
+    """The Wanteds of a Node."""
+    read: Sequence[Wanted] = pickle.loads(wanted)
+    return read
+
+
+def trees(wanted: Mapping[str, bytes], turn: int) -> list[Node]:
     """The workers that the client asks, by what each is asked for: all of them, or one that asks the others.
 
     `turn` counts the requests, so that the workers take turns at the top.

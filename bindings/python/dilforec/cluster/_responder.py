@@ -1,26 +1,29 @@
-"""What answers searches on a worker: a handler of its own, so that a search asks the scheduler for nothing."""
+"""What answers searches on a worker, beside its tasks, so that a search asks the scheduler for nothing."""
 # Dask has no types.
 # mypy: allow-untyped-calls
 from __future__ import annotations
 
 import asyncio
-import json
 import math
 import pickle
 from collections.abc import Sequence
 from concurrent.futures import ThreadPoolExecutor
-from typing import Any, Callable, NamedTuple, TypeVar
+from typing import Any, Callable, NamedTuple, TypeVar, Union
 
 from distributed import WorkerPlugin
+from distributed.core import Status
 from distributed.protocol.pickle import dumps
 from distributed.worker_state_machine import FreeKeysEvent
 
+from dilforec.cluster._connections import Connections
+from dilforec.cluster._listener import Listener
 from dilforec.cluster._partials import Joining, Partial, joined
 from dilforec.cluster._partitions import Built, Partition
 from dilforec.cluster._requests import (
-    ABSENT, CHANGED, FAILED, LOST, OPERATION, UNMADE, Asked, Missing, Reply, Request, Wanted,
+    ABSENT, CHANGED, FAILED, LISTENER, LOST, OPERATION, UNMADE, Asked, Missing, Reply, Request, Wanted, read_wanted,
 )
 from dilforec.index import channel_of
+from dilforec.library import Asking
 
 T = TypeVar("T")
 
@@ -29,11 +32,10 @@ REQUESTS = 4
 
 
 class Found(NamedTuple):
-    """A partition that is on this worker, and the name of its source as JSON."""
+    """A partition that is on this worker, and its place among all."""
 
     rank: int
     built: Built
-    source: bytes
 
 
 class ResponderPlugin(WorkerPlugin):  # type: ignore[misc]
@@ -43,24 +45,37 @@ class ResponderPlugin(WorkerPlugin):  # type: ignore[misc]
 
     def setup(self, worker: Any) -> None:
         if OPERATION not in worker.handlers:
-            worker.handlers[OPERATION] = Responder(worker).answer
+            responder = Responder(worker)
+            worker.handlers.update({OPERATION: responder.answer, LISTENER: responder.listener.tell})
+
+    def teardown(self, worker: Any) -> None:
+        # This is also called when another plugin takes the place of this one.
+        if worker.status == Status.closing and OPERATION in worker.handlers:
+            worker.handlers[OPERATION].__self__.close()
 
 
 class Responder:
     """Answers for the partitions of a worker, and asks other workers for theirs."""
 
     def __init__(self, worker: Any) -> None:
+        self.listener = Listener(worker, self.reply_to)
         self._worker = worker
+        self._connections = Connections(worker.rpc, asyncio.get_running_loop())
         self._threads = worker.state.nthreads
         # Idle threads end with the pools, which go with the worker.
         self._searching = ThreadPoolExecutor(REQUESTS * self._threads, "dilforec-search")
         self._making = ThreadPoolExecutor(self._threads, "dilforec-make")
 
     async def answer(self, comm: Any, request: bytes) -> bytes:
-        """The handler: a Reply to a Request, both pickled."""
-        task, node, searches = pickle.loads(request)
-        others = [asyncio.ensure_future(self._others(Request(task, each, searches))) for each in node.below]
-        found, missing = await self._found(node.wanted)
+        """A handler of Dask's, for what doesn't come through the listener."""
+        return await self.reply_to(request)
+
+    async def reply_to(self, request: Union[bytes, memoryview]) -> bytes:
+        """A Reply to a Request, both pickled."""
+        task, node, pickled_searches = pickle.loads(request)
+        searches = pickle.loads(pickled_searches)
+        others = [asyncio.ensure_future(self._others(Request(task, each, pickled_searches))) for each in node.below]
+        found, missing = await self._found(read_wanted(node.wanted))
         chunks, slices = self._cut(found, searches)
         if len(chunks) == len(slices) == 1 and not others:
             return await self._in_thread(_pickled_reply, task, found, searches, missing)
@@ -84,7 +99,7 @@ class Responder:
     async def _others(self, request: Request) -> Reply:
         """What another worker, with those below it, replies."""
         try:
-            reply = await getattr(self._worker.rpc(request.node.address), OPERATION)(request=request.pickled())
+            reply = await self._connections.ask(request.node.address, request.pickled())
         except OSError:
             reply = None
         if reply is None:
@@ -94,10 +109,10 @@ class Responder:
 
     async def _found(self, wanted: Sequence[Wanted]) -> tuple[list[Found], list[Missing]]:
         """The partitions that are here, made now if that is asked for, and why the others aren't."""
-        looked_up = [self._looked_up(each) for each in wanted]
-        unmade = {place: each for place, each in enumerate(looked_up) if isinstance(each, Partition)}
-        made = await asyncio.gather(*(self._made(wanted[place], each) for place, each in unmade.items()))
-        every = [*looked_up, *made]
+        every = [self._looked_up(each) for each in wanted]
+        unmade = {place: each for place, each in enumerate(every) if isinstance(each, Partition)}
+        if unmade:
+            every += await asyncio.gather(*(self._made(wanted[place], each) for place, each in unmade.items()))
         found = [each for each in every if isinstance(each, Found)]
         return found, [each for each in every if isinstance(each, Missing)]
 
@@ -109,7 +124,7 @@ class Responder:
             return Missing(wanted.rank, ABSENT)
         built = partition.built_before()
         if built is not None:
-            return _found(wanted, partition, built)
+            return _found(wanted, built)
         return partition if wanted.make else Missing(wanted.rank, UNMADE)
 
     async def _made(self, wanted: Wanted, partition: Partition) -> Found | Missing:
@@ -117,7 +132,12 @@ class Responder:
             built = await asyncio.get_running_loop().run_in_executor(self._making, partition.built)
         except Exception as error:
             return Missing(wanted.rank, FAILED, pickled(error))
-        return _found(wanted, partition, built)
+        return _found(wanted, built)
+
+    def close(self) -> None:
+        """Ends the connections, those that others made and those to others."""
+        self.listener.close()
+        self._connections.close()
 
     def _forget(self, key: str) -> None:
         """Tells Dask, if it believes that a partition is here, that it isn't. It is made again then."""
@@ -140,27 +160,22 @@ def search(found: Sequence[Found], searches: Sequence[Asked]) -> list[Partial]:
     """The answers of some partitions to some searches, joined."""
     joinings = [Joining(asked.k, asked.is_falling) for asked in searches]
     for each in found:
-        with each.built.index.searcher() as searcher:
+        with each.built.searcher() as searcher:
+            channel = channel_of(searcher)
             for asked, joining in zip(searches, joinings):
                 if asked.only is None or each.rank in asked.only:
-                    _add_reply(joining, searcher, asked, each)
+                    try:
+                        joining.add(_reply(channel, asked), each.rank, each.built.source)
+                    except Exception as error:
+                        joining.fault = pickled(error)
     return [joining.answer() for joining in joinings]
 
 
-def _add_reply(joining: Joining, searcher: Any, asked: Asked, found: Found) -> None:
-    try:
-        joining.add(_reply(searcher, asked), found.rank, found.source)
-    except Exception as error:
-        joining.fault = pickled(error)
-
-
-def _reply(searcher: Any, asked: Asked) -> bytes:
+def _reply(channel: Asking, asked: Asked) -> bytes:
     """A partition's own reply."""
-    reply: bytes
     if asked.names is None:
-        reply = channel_of(searcher).ask(asked.line)
-    else:
-        (reply,) = channel_of(searcher).ask_each([asked.line], asked.names)
+        return channel.ask(asked.line)
+    (reply,) = channel.ask_each([asked.line], asked.names)
     return reply
 
 
@@ -179,7 +194,7 @@ def _joined_replies(task: str, searches: Sequence[Asked], replies: Sequence[Repl
     return Reply(answers, [each for reply in replies for each in reply.missing]).pickled()
 
 
-def _unpickled(reply: bytes) -> Reply:
+def _unpickled(reply: Union[bytes, memoryview]) -> Reply:
     read: Reply = pickle.loads(reply)
     return read
 
@@ -194,11 +209,11 @@ def pickled(error: BaseException) -> bytes:
     return data
 
 
-def _found(wanted: Wanted, partition: Partition, built: Built) -> Found | Missing:
+def _found(wanted: Wanted, built: Built) -> Found | Missing:
     """A partition, if it was made of the lines that it has to be made of."""
     if wanted.digest not in (None, built.summary.digest):
         return Missing(wanted.rank, CHANGED)
-    return Found(wanted.rank, built, json.dumps(partition.source.name, ensure_ascii=False).encode())
+    return Found(wanted.rank, built)
 
 
 # What is asked of a partition besides searches.

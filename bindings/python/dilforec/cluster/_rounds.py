@@ -13,10 +13,12 @@ from typing import Any, Callable, Optional, TypeVar
 
 import distributed
 
+from dilforec.cluster._connections import Connections
 from dilforec.cluster._gathering import Gathering
 from dilforec.cluster._partials import Partial
 from dilforec.cluster._partitions import Summary
 from dilforec.cluster._places import Part, Places
+from dilforec.cluster._plan import Plan
 from dilforec.cluster._requests import Asked
 from dilforec.values import Stats
 
@@ -37,13 +39,18 @@ class Rounds:
     loop.
     """
 
-    def __init__(self, client: distributed.Client, places: Places, parts: Sequence[Part]) -> None:
-        self.parts = tuple(parts)
-        self._client, self._places = client, places
+    def __init__(
+        self, client: distributed.Client, connections: Connections, places: Places, parts: Sequence[Part],
+    ) -> None:
+        self._client, self._connections, self._plan = client, connections, Plan(places, parts)
         self._process = os.getpid()
         self._waiting: collections.deque[_Waiting] = collections.deque()
         self._running: set[asyncio.Task[None]] = set()
         self._turn = 0
+
+    @property
+    def parts(self) -> Sequence[Part]:
+        return self._plan.parts
 
     def search(self, searches: Sequence[Asked], timeout: Optional[float] = None) -> list[list[Partial]]:
         """The answers to each search, which together are over all partitions that it goes to.
@@ -69,7 +76,7 @@ class Rounds:
 
     def _gathering(self) -> Gathering:
         self._turn += 1
-        return Gathering(self._client, self._places, self.parts, self._turn)
+        return Gathering(self._client, self._connections, self._plan, self._turn)
 
     def _check(self) -> None:
         """Refuses a call that nobody would answer."""
