@@ -29,7 +29,7 @@ OF_A_SUBJECT = {
         "any", "filter", "hit_sets", "list_union", "phrase", "query_tree", "term_lists", "tree/live",
     },
     "fts_engine_local": {"local_policy"},
-    "fts_index": {"publications/left_right_rule", "publications/publication_log"},
+    "fts_index": {"merges", "publications/left_right_rule", "publications/publication_log"},
     "fts_merge": {"live_strike", "merge_plan", "segment_merge"},
     "fts_model": {"limits", "operation", "value"},
     "fts_pack": {"bits/signed", "bits/widths", "column/value_counts", "four_lanes", "prefix_sums"},
@@ -41,7 +41,7 @@ OF_A_SUBJECT = {
     "fts_script": {"session/commands", "session/group_search", "streams"},
     "fts_segment": {"binary_search", "dictionary_merge", "segment_join", "term_merge", "token_log"},
     "fts_sets": {"retain", "rows"},
-    "fts_snapshots": {"entries/ids"},
+    "fts_snapshots": {"entries/ids", "made_merges"},
     "fts_text": {"case_fold", "characters", "tokenizer"},
 }
 # Files whose item comes after what it is made of, types or functions that are smaller.
