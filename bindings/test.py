@@ -140,7 +140,7 @@ def in_python():
     if not step("Python, the refusals", CC, "-shared", "-fPIC", "-O1", "-o", refuse, HERE / "refuse.c", "-ldl"):
         return
     for path in sorted((HERE / "python/tests").glob("test_*.py")):
-        if path.stem.startswith(("test_service", "test_cluster")):
+        if path.stem.startswith(("test_service", "test_cluster", "test_connections")):
             continue  # tests/service.py and tests/cluster.py run these.
         more = {"LD_PRELOAD": str(refuse)} if path.stem == "test_memory" else {}
         done = processes.run_tests(sys.executable, path, env={**environment, **more}, seconds=SECONDS)

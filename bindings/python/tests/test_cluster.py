@@ -599,7 +599,7 @@ class Paths(unittest.TestCase):
                 self.assertGreater(opened, 0)
                 (many if close == "cluster" else client).close()
                 wait_until(lambda: not any(CLIENT.run(_accepted).values()))
-            self.assertFalse(client._periodic_callbacks["dilforec-connections"].open)
+            self.assertFalse([each.open for each in client.preloads if each.open])
 
     def test_broken_connections(self):
         """Connections that end, or whose workers die, while they are asked: others answer, or rpc does."""

@@ -91,7 +91,7 @@ class Cluster(Searching):
         self._strict, self._progress = strict, progress
         self._places = Places(client)
         self._connections = Connections(client.rpc, client.loop.asyncio_loop)
-        endings = client._periodic_callbacks.setdefault("dilforec-connections", _Endings())
+        endings = _endings_of(client)
         endings.open.add(self._connections)
         self._end_connections = weakref.finalize(self, endings.end, self._connections)
         self._end_connections.atexit = False
@@ -210,7 +210,7 @@ class Cluster(Searching):
 
 
 class _Endings:
-    """Ends the connections of a client as it closes: Dask stops it then, as one of the client's periodic callbacks."""
+    """Ends the connections of a client as it closes: Dask tears it down then, as one of the client's preloads."""
 
     def __init__(self) -> None:
         self.open: set[Connections] = set()
@@ -219,9 +219,24 @@ class _Endings:
         self.open.discard(connections)
         connections.end()
 
-    def stop(self) -> None:
+    async def start(self) -> None:
+        """Does nothing: a client that starts has no connections."""
+
+    async def teardown(self) -> None:
         for connections in list(self.open):
             self.end(connections)
+
+
+def _endings_of(client: distributed.Client) -> _Endings:
+    """What ends the connections of a client."""
+    for each in client.preloads:
+        if isinstance(each, _Endings):
+            return each
+    endings = _Endings()
+    # Later versions of Dask have no list of them. There the connections end with their Cluster.
+    if isinstance(client.preloads, list):
+        client.preloads.append(endings)
+    return endings
 
 
 def _checked(timeout: Optional[float]) -> Optional[float]:
