@@ -18,6 +18,10 @@ from dilforec import joins
 # quote within a text is escaped, so nothing else in a reply looks like these.
 _TOP, _FIRST, _NEXT, _LAST = b',"top":[', b'{"doc":{', b'},{"doc":{', b'}]}\n'
 _COUNT, _STAMP, _VALUE = b'{"count":', b'},"stamp":', b',"value"'
+# What is before, between and after the groups of a reply, if their values are keywords and if they are numbers. The
+# quote keeps a keyword from looking like what is between.
+_GROUPS = b',"groups":'
+_KEYWORDS, _NUMBERS = (b'[["', b'],["', b"]]"), (b"[[", b"],[", b"]]")
 
 # A hit of a top list: its value, negated if values fall; the place of its partition among all; its stamp; its text
 # without what is around it. Sorted, hits are in the order of the list. Plain tuples are pickled in a fraction of the
@@ -49,7 +53,9 @@ class Joining:
         self.fault: Optional[bytes] = None
         self._k, self._is_falling = k, is_falling
         self._documents = 0
-        self._counts: Optional[dict[Any, int]] = None
+        # Each group as its text, and how many partitions have this text: they are read together at the end.
+        self._groups: Optional[collections.Counter[bytes]] = None
+        self._around = _KEYWORDS
         self._hits: Optional[list[Hit]] = None
         # No value after this one is among the first k.
         self._last: float = math.inf
@@ -63,17 +69,17 @@ class Joining:
         comma, top = reply.find(b","), reply.find(_TOP)
         self._documents += int(reply[len(_COUNT):comma if comma >= 0 else -2])
         if comma != top:
-            answer = json.loads((reply if top < 0 else reply[:top] + b"}").decode())
-            self._add_groups(answer["groups"])
+            self._add_groups(reply[comma + len(_GROUPS):top if top >= 0 else -2])
         if top >= 0:
             self._add_hits(_texts(reply, top + len(_TOP), b',"source":' + source), rank)
 
-    def _add_groups(self, groups: list[list[Any]]) -> None:
-        if self._counts is None:
-            self._counts = collections.defaultdict(int)
-        counts = self._counts
-        for value, count in groups:
-            counts[value] += count
+    def _add_groups(self, groups: bytes) -> None:
+        if self._groups is None:
+            self._groups = collections.Counter()
+        if groups != b"[]":
+            self._around = _KEYWORDS if groups.startswith(_KEYWORDS[0]) else _NUMBERS
+            before, between, after = self._around
+            self._groups.update(groups[len(before):-len(after)].split(between))
 
     def _add_hits(self, texts: Sequence[bytes], rank: int) -> None:
         """Adds those of a partition's hits, which come in order, that may be among the first k of all."""
@@ -92,9 +98,19 @@ class Joining:
 
     def answer(self) -> Partial:
         """The answer over all that was added."""
-        groups = None if self._counts is None else _groups(self._counts)
+        groups = None if self._groups is None else _groups(self._read_groups(self._groups))
         hits = None if self._hits is None else sorted(self._hits)[:self._k]
         return Partial(self._documents, groups, hits, self._other, self.fault)
+
+    def _read_groups(self, texts: collections.Counter[bytes]) -> dict[Any, int]:
+        """The groups of all partitions, each value with its count."""
+        if not texts:
+            return {}
+        before, between, after = self._around
+        counts: dict[Any, int] = collections.defaultdict(int)
+        for (value, count), times in zip(json.loads(before + between.join(texts) + after), texts.values()):
+            counts[value] += count * times
+        return counts
 
 
 def _groups(counts: dict[Any, int]) -> tuple[Sequence[Any], Sequence[int]]:
