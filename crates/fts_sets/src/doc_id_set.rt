@@ -73,6 +73,15 @@ impl<'a> DocIdSet<'a> {
         Ok(())
     }
 
+    /// Keeps only the documents whose bit is set, as most have it: these bits are looked at after the other tests.
+    pub fn cut(&mut self, live: &'a Bits) -> Result<(), AllocError>
+        ensures kept { IfOk result (λ _. self.new ≡ filter (is_set live.now) self.old) }
+        ensures failed { IfErr result (λ _. self.new ≡ self.old) }
+    {
+        self.all.push(Leaf::Set(live))?;
+        Ok(())
+    }
+
     /// Keeps only the documents that pass each of these.
     pub fn with_each(&mut self, leaves: &[Leaf<'a>]) -> Result<(), AllocError>
         ensures { IfOk result (λ _. self.new ≡ filter (all_have leaves.now) self.old) }

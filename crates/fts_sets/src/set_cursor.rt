@@ -6,7 +6,6 @@ ghost use Rattle.fts_postings.specs.Windows.{is_set};
 ghost use Rattle.fts_sets.specs.Rows.{AreMarked, Holds, IsFound};
 
 use crate::doc_id_set::DocIdSet;
-use crate::leaf::Leaf;
 use fts_pack::bits::Bits;
 use fts_postings::{DocSet, Window};
 use std::alloc::AllocError;
@@ -122,7 +121,7 @@ impl<'a> SetCursor<'a> {
         ensures failed { IfErr result (λ _. self.new ≡ self.old) }
     {
         let total = self.count_set(live);
-        self.set.with(Leaf::Set(live))?;
+        self.set.cut(live)?;
         self.total = total;
         self.at = begin(&self.set, &mut self.window, self.at);
         Ok(())
