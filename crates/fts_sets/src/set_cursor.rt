@@ -202,13 +202,18 @@ fn first_window(set: &DocIdSet) -> Window
 }
 
 /// The first document of a set from a number on, or `END`. If that number is above the window's last document and the
-/// set has it, no window is filled.
+/// set has it or one near it, no window is filled.
 fn find_at(set: &DocIdSet, window: &mut Window, from: usize) -> usize
     requires { Holds set.now from window.old }
     ensures { IsFound set.now from result window.new }
 {
-    if from < set.docs() && from > window.last as usize && set.has(from) {
-        return from;
+    if from < set.docs() && from > window.last as usize {
+        if set.has(from) {
+            return from;
+        }
+        if let Some(doc) = set.near(from) {
+            return doc;
+        }
     }
     find(set, window, from)
 }
