@@ -21,6 +21,7 @@ pub mod KeywordRangeLemmas
 pub mod CostLemmas
 pub mod ListedLemmas
 pub mod LiveLemmas
+pub mod ExclusionLemmas
 pub mod CutLemmas
 pub mod FilterLemmas
 pub mod SplitLemmas

@@ -27,7 +27,7 @@ Taken-live p whole next front out n kept front_is next_is written size =
       within = omega (arith, size, ap length split, length-append taken left);
     }
 
-first_kept : (p : ℕ → Bool) (n : ℕ) (xs : List ℕ) → FirstPasses p xs → 0 < n → 0 < length xs → 0 < length (filter p (take n xs))
+pub first_kept : (p : ℕ → Bool) (n : ℕ) (xs : List ℕ) → FirstPasses p xs → 0 < n → 0 < length xs → 0 < length (filter p (take n xs))
 first_kept p zero xs passes some there = absurd (omega (arith, some))
 first_kept p (suc n) [] passes some there = absurd (omega (arith, there))
 first_kept p (suc n) (x ∷ xs) passes some there =

@@ -13,12 +13,16 @@ ghost use Rattle.fts_cursor.specs.Terms.{AreTied};
 use fts_pack::ListSource;
 use fts_pack::bits::Bits;
 use fts_postings::{Conjunction, DocSet};
-use fts_sets::{DocIdSet, Leaf};
+use fts_sets::DocIdSet;
 use std::alloc::AllocError;
 use std::marker::Model;
 
+/// How many documents `take` takes at least, if so many remain. The fuller the array, the shorter are the stretches that
+/// still fit.
+const ENOUGH: usize = 64;
+
 /// A cursor over the documents that lists have in common and that are of a set. The lists' documents are taken a
-/// stretch at a time, and filtered by the bits.
+/// stretch at a time, of which those are kept that are of the set.
 #[derive(Drop)]
 pub(crate) struct FilterCursor<'a> {
     terms: Conjunction<ListSource<'a>>,
@@ -66,7 +70,7 @@ impl<'a> FilterCursor<'a> {
         ensures failed { IfErr result (λ _. self.new ≡ self.old) }
         ensures walked { Walked self.old self.new }
     {
-        self.set.with(Leaf::Set(live))?;
+        self.set.cut(live)?;
         settle(&mut self.terms, &self.set);
         Ok(())
     }
@@ -121,22 +125,22 @@ impl<'a> DocSet for FilterCursor<'a> {
     }
 }
 
-/// Takes the next documents that are of a set, 128 if so many remain: few may be left of a block, and what comes after
-/// these is passed over faster here than by steps.
+/// Takes the next documents that are of a set, `ENOUGH` if so many remain: few may be left of a block, and what comes
+/// after these is passed over faster here than by steps.
 fn take_kept(terms: &mut Conjunction<ListSource>, set: &DocIdSet, out: &mut [u32; 128]) -> usize
     ensures taken { Takes (filter (has set.now) (common_of terms.old))
         (filter (has set.now) (common_of terms.new)) out.new result }
     ensures follows { AllFollow terms.old terms.new }
 {
     let mut taken = 0;
-    while taken < 128 {
+    while taken < ENOUGH {
         let count = terms.take_stretch(out, taken);
         if count == 0 {
             return taken;
         }
         taken = set.retain(taken, taken + count, out);
     }
-    128
+    taken
 }
 
 /// Passes over documents that aren't of a set.

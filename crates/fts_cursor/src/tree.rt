@@ -24,7 +24,7 @@ use crate::filter::FilterCursor;
 use crate::list_union::ListedCursor;
 use crate::phrase::PhraseCursor;
 use buffered_union::{BufferedUnion, count_gathered, gather, refill, take_gathered};
-use exclusion::{Exclusion, settle};
+use exclusion::{Exclusion, settle, take_without};
 use fts_pack::bits::Bits;
 use fts_pack::{ListRef, ListSource};
 use fts_postings::{Conjunction, DocSet, PostingCursor, Window};
@@ -375,8 +375,10 @@ impl<'a> Tree<'a> {
 
     /// Takes some of the next documents, 1 to 128 if any remains: writes them to the front of `out`, and returns how
     /// many they are.
+    #[cycle(take)]
     pub(crate) fn take(&mut self, out: &mut [u32; 128]) -> usize
         ensures taken { Takes self.old.remaining self.new.remaining out.new result }
+        ensures rises { IsStrictlyIncreasing self.old.remaining }
         ensures walked { Walked self.old.standing self.new.standing }
     {
         let Source::Cursor(node) = &mut self.source else {
@@ -507,6 +509,7 @@ fn skip(node: &mut Node, target: u32) -> Option<u32>
 }
 
 /// Takes some of the next documents of a node that is at `doc`. Returns how many they are, and the next document.
+#[cycle(take)]
 fn take_from(node: &mut Node, doc: Option<u32>, out: &mut [u32; 128]) -> (usize, Option<u32>)
     requires { StandsAt doc node.old }
     ensures taken { Takes (tree_value node.old).remaining (tree_value node.new).remaining out.new result.0 }
@@ -539,7 +542,8 @@ fn take_from(node: &mut Node, doc: Option<u32>, out: &mut [u32; 128]) -> (usize,
             (count, phrase.doc())
         }
         Node::Or(buffered) => take_gathered(buffered, out),
-        Node::And(_) | Node::Without(_) => take_by_steps(node, doc, out),
+        Node::Without(parts) => take_without(parts, out),
+        Node::And(_) => take_by_steps(node, doc, out),
     }
 }
 

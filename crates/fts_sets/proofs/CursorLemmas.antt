@@ -1,9 +1,11 @@
 -- A cursor over a set, whose window has the documents of the set from where it is.
-use Rattle.std.proofs.Common.{◌≡◌, ℕ, ◌+◌, ◌-◌, ◌^◌, ◌<◌, ◌≤◌, ◌&&◌, ◌||◌, Bool, true, false, nat_le, nat_lt, IfSome, Option, Some, None, List, [], ◌∷◌, drop, length, get_or}
+use Rattle.std.proofs.Common.{◌≡◌, ℕ, ◌+◌, ◌-◌, ◌^◌, ◌<◌, ◌≤◌, ◌==◌, ◌&&◌, ◌||◌, Bool, true, false, nat_le, nat_lt, IfSome, Option, Some, None, List, [], ◌∷◌, drop, length, get_or}
 use Rattle.std.proofs.Common.{refl, sym, ap, ap₂, ◌∙◌, inl, inr, arith}
 use Rattle.std.specs.List.{filter, slice_get}
 use Rattle.std.proofs.Math.Bool.{and-false, or-false}
-use Rattle.std.proofs.lemmas.Bool.{cases_lt, le-leb, le-ltb, lt-leb, lt-ltb}
+use Rattle.std.proofs.lemmas.Bool.{and_parts, cases_lt, le-leb, le-ltb, leb-true, lt-leb, lt-ltb}
+use Rattle.std.proofs.lemmas.Nat.Bits.{bit_at-trailing_zeros, bit_at-zero}
+use Rattle.std.specs.Int.{bit_at, trailing_zeros, w64}
 use Rattle.fts_pack.specs.Documents.{Rises}
 use Rattle.fts_postings.specs.Remaining.{at_least}
 use Rattle.fts_postings.specs.Sets.{has}
@@ -12,7 +14,7 @@ use Rattle.fts_postings.specs.Windows.{is_set}
 use Rattle.fts_postings.specs.declared.window.Window.{Window}
 use Rattle.fts_postings.proofs.RemainingLemmas.{at_least_all, first-at_least, increasing-from_Rises}
 use Rattle.fts_postings.proofs.SetLemmas.{filter-at_least, has-at_least, has-before_first, has-first, has-none}
-use Rattle.fts_sets.specs.Rows.{AreMarked, Holds, IsFound, IsSetCursor, found}
+use Rattle.fts_sets.specs.Rows.{AreMarked, Holds, IsFound, IsNext, IsSetCursor, Tells, found}
 use Rattle.fts_sets.proofs.MarkLemmas.{found_behind, found_rises}
 use Rattle.fts_sets.proofs.SetLemmas.{at_least-same, filter-full, front_left, has-from, length-from, drop_from, first_from, Rises-from, nothing_left, some_front, takes_front}
 
@@ -28,6 +30,51 @@ end_found set at from docs w up few past over before = record {
   stands = λ low. absurd (omega (arith, low));
   holds = λ d high low. absurd (omega (arith, high, low, w.fits));
 }
+
+-- a word that tells documents from one on has the first of them as its lowest bit, or has none
+module _ (set : List ℕ) (from at word : ℕ) (tells : Tells (λ d. nat_le from d && has set d) at word)
+    (before : (d : ℕ) → from ≤ d → d < at → has set d ≡ false) where
+  told_here : (d : ℕ) → at ≤ d → d < at + 64 → (bit_at word (d - at) == 1) ≡ (nat_le from d && has set d)
+  told_here d low high = tells (d - at) (omega (arith, low, high)) ∙ ap (λ n. nat_le from n && has set n) (let e : at + (d - at) ≡ d = omega (arith, low) in e)
+
+  clear : (bits : ℕ) → bits ≤ 64 → ((j : ℕ) → j < bits → bit_at word j ≡ 0) → (d : ℕ) → from ≤ d → d < at + bits → has set d ≡ false
+  clear bits few none d low high = elim (cases_lt d at) [
+    | inl behind ↦ before d low behind
+    | inr up ↦
+        sym (ap (λ b. b && has set d) (le-leb from d low)) ∙ sym (told_here d up (omega (arith, high, few)))
+        ∙ ap (λ n. n == 1) (none (d - at) (omega (arith, up, high)))
+  ]
+
+  pub word_none : word ≡ 0 → (d : ℕ) → from ≤ d → d < at + 64 → has set d ≡ false
+  word_none is = clear 64 (omega arith) (λ j inside. ap (λ w. bit_at w j) is ∙ bit_at-zero j)
+
+  pub word_next : 0 < word → word < 2 ^ 64 → IsNext set from (at + trailing_zeros w64 word)
+  word_next some fits =
+      let lowest = bit_at-trailing_zeros w64 word some fits in
+      let place = trailing_zeros w64 word in
+      let both = and_parts (nat_le from (at + place)) (has set (at + place)) (sym (tells place lowest.0) ∙ ap (λ n. n == 1) lowest.1) in
+      record {
+        there = both.1;
+        low = leb-true from (at + place) both.0;
+        none = clear place (omega (arith, lowest.0)) lowest.2;
+      }
+
+-- what is near is found, after the window
+pub near_found : (set : List ℕ) (from doc docs : ℕ) (w : Window) → IsNext set from doc → Rises 0 set → docs ≤ 2 ^ 32 →
+    ((d : ℕ) → docs ≤ d → has set d ≡ false) → w.last < from → IsFound set from doc w
+near_found set from doc docs w next up few past over =
+    let inside : doc < docs = elim (cases_lt doc docs) [
+      | inl low ↦ low
+      | inr far ↦ absurd (let e : true ≡ false = sym next.there ∙ past doc far in cc)
+    ] in
+    record {
+      rises = up;
+      few = λ d far. past d (omega (arith, far, few));
+      same = at_least-same set from doc up next.low next.none;
+      end = omega (arith, inside, few);
+      stands = λ _. next.there;
+      holds = λ d high low. absurd (omega (arith, high, low, next.low, over));
+    }
 
 -- a window sought, and its first document
 module _ (set : List ℕ) (at : ℕ) (a b c : Window) (up : Rises 0 set) (holds : Holds set at a) (sought_last : b.last ≡ a.last)

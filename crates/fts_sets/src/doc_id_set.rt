@@ -9,7 +9,7 @@ ghost use Rattle.fts_postings.specs.Sets.{has};
 ghost use Rattle.fts_postings.specs.Windows.{is_set};
 ghost use Rattle.fts_sets.specs.Kept.{IsKept};
 ghost use Rattle.fts_sets.specs.Leaves.{all_have, leaf_has, one_has};
-ghost use Rattle.fts_sets.specs.Rows.{AreMarked, Tells};
+ghost use Rattle.fts_sets.specs.Rows.{AreMarked, IsNext, Tells};
 
 use crate::leaf::{self, Leaf};
 use crate::{retain, rows};
@@ -70,6 +70,15 @@ impl<'a> DocIdSet<'a> {
             Leaf::Set(_) => self.all.insert(0, leaf)?,
             Leaf::Within { .. } => self.all.push(leaf)?,
         }
+        Ok(())
+    }
+
+    /// Keeps only the documents whose bit is set, as most have it: these bits are looked at after the other tests.
+    pub fn cut(&mut self, live: &'a Bits) -> Result<(), AllocError>
+        ensures kept { IfOk result (λ _. self.new ≡ filter (is_set live.now) self.old) }
+        ensures failed { IfErr result (λ _. self.new ≡ self.old) }
+    {
+        self.all.push(Leaf::Set(live))?;
         Ok(())
     }
 
@@ -202,6 +211,22 @@ impl<'a> DocIdSet<'a> {
             index += 16;
         }
         count
+    }
+
+    /// The first document from one on, if it is in the word of that one or in the next.
+    pub(crate) fn near(&self, from: usize) -> Option<usize>
+        requires { from < 2 ^ 32 }
+        ensures { IfSome result (IsNext self.now from) }
+    {
+        let index = from / 64;
+        let row = self.row(index, 2, from);
+        if row[0] != 0 {
+            return Some(64 * index + row[0].trailing_zeros() as usize);
+        }
+        if row[1] != 0 {
+            return Some(64 * index + 64 + row[1].trailing_zeros() as usize);
+        }
+        None
     }
 
     /// Marks the documents from one on in a window, up to the window's last.

@@ -6,7 +6,6 @@ ghost use Rattle.fts_postings.specs.Windows.{is_set};
 ghost use Rattle.fts_sets.specs.Rows.{AreMarked, Holds, IsFound};
 
 use crate::doc_id_set::DocIdSet;
-use crate::leaf::Leaf;
 use fts_pack::bits::Bits;
 use fts_postings::{DocSet, Window};
 use std::alloc::AllocError;
@@ -122,7 +121,7 @@ impl<'a> SetCursor<'a> {
         ensures failed { IfErr result (λ _. self.new ≡ self.old) }
     {
         let total = self.count_set(live);
-        self.set.with(Leaf::Set(live))?;
+        self.set.cut(live)?;
         self.total = total;
         self.at = begin(&self.set, &mut self.window, self.at);
         Ok(())
@@ -203,13 +202,18 @@ fn first_window(set: &DocIdSet) -> Window
 }
 
 /// The first document of a set from a number on, or `END`. If that number is above the window's last document and the
-/// set has it, no window is filled.
+/// set has it or one near it, no window is filled.
 fn find_at(set: &DocIdSet, window: &mut Window, from: usize) -> usize
     requires { Holds set.now from window.old }
     ensures { IsFound set.now from result window.new }
 {
-    if from < set.docs() && from > window.last as usize && set.has(from) {
-        return from;
+    if from < set.docs() && from > window.last as usize {
+        if set.has(from) {
+            return from;
+        }
+        if let Some(doc) = set.near(from) {
+            return doc;
+        }
     }
     find(set, window, from)
 }

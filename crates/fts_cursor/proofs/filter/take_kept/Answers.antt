@@ -3,7 +3,7 @@ use Rattle.std.proofs.Common.{◌≢◌, length, ap, arith}
 use Rattle.std.proofs.lemmas.List.{length-drop}
 use Rattle.fts_postings.specs.Conjoined.{common_of}
 use Rattle.fts_postings.proofs.ConjoinedLemmas.{AllFollow-same, AllFollow-trans}
-use Rattle.fts_postings.proofs.TakesLemmas.{Taken-all, Taken-full, Taken-none}
+use Rattle.fts_postings.proofs.TakesLemmas.{Taken-all, Taken-none, Taken-some}
 use Rattle.fts_postings.specs.Sets.{has}
 use Rattle.fts_cursor.proofs.FilterLemmas.{Taken-ended, Taken-kept, Taken-still, ended}
 use Rattle.fts_cursor.proofs.filter.take_kept.Goals as goal
@@ -56,4 +56,4 @@ returns-then-count-eq0-clause-follows c = AllFollow-trans c.args.terms.now c.loo
 
 pub returns-clause-taken : goal.returns-clause-taken
 returns-clause-taken c =
-    Taken-full _ _ c.loop-taken.out c.loop-taken.taken c.loop-taken.invariant.front (omega (arith, c.loop-taken.invariant.room, c.loop-taken-test.false))
+    Taken-some _ _ c.loop-taken.out c.loop-taken.taken c.loop-taken.invariant.front c.loop-taken.invariant.room (λ some. omega arith)

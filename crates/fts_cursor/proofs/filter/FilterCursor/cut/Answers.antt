@@ -22,8 +22,8 @@ returns-clause-cut c =
     let s = c.self.inside in
     let test = is_live c.args.live.now in
     c.settle.ensures.same
-    ∙ filter-both (has s.set) (has c.with.new.self) test
-    (λ doc. ap (λ xs. has xs doc) c.in_ok-with.ensures.kept ∙ has-filter test s.set doc) (common_of s.terms)
+    ∙ filter-both (has s.set) (has c.cut.new.self) test
+    (λ doc. ap (λ xs. has xs doc) c.in_ok-cut.ensures.kept ∙ has-filter test s.set doc) (common_of s.terms)
     ∙ ap (λ (s : Standing). filter test s.remaining) c.self.view_is
 
 pub returns-clause-walked : goal.returns-clause-walked

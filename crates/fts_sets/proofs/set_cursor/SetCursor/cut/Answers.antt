@@ -8,12 +8,12 @@ pub invariant_of-self-2 : goal.invariant_of-self-2
 invariant_of-self-2 c =
     let s = c.self.inside in
     let b = c.begin-self-inside in
-    let left = cut_left s.set c.with.new.self c.args.self.now c.args.live.now s.at b.result c.self.view_is c.in_ok-with.ensures.kept b.ensures.same in
-    IsSetCursor-found c.with.new.self s.at b.result c.count_set-total.result b.new.window b.ensures
+    let left = cut_left s.set c.cut.new.self c.args.self.now c.args.live.now s.at b.result c.self.view_is c.in_ok-cut.ensures.kept b.ensures.same in
+    IsSetCursor-found c.cut.new.self s.at b.result c.count_set-total.result b.new.window b.ensures
     (subst (λ (xs : List ℕ). IfSome c.count_set-total.result (λ n. n ≡ length xs)) (sym left) c.count_set-total.ensures)
 
 pub returns-clause-cut : goal.returns-clause-cut
 returns-clause-cut c =
     let s = c.self.inside in
     let b = c.begin-self-inside in
-    cut_left s.set c.with.new.self c.args.self.now c.args.live.now s.at b.result c.self.view_is c.in_ok-with.ensures.kept b.ensures.same
+    cut_left s.set c.cut.new.self c.args.self.now c.args.live.now s.at b.result c.self.view_is c.in_ok-cut.ensures.kept b.ensures.same
