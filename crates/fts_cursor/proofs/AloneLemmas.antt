@@ -99,9 +99,11 @@ node_left : (doc : Option ℕ) (node : Node) → PartsStand doc node → IsTiedN
 node_left doc (Scan s opened) parts tied documents is = absurd (cc)
 node_left doc (Listed s opened) parts tied documents is = absurd (cc)
 node_left doc (Postings p) parts tied documents is =
-    let same : members_of p ≡ documents = cc in
-    (λ d. true, alone_left p tied.1.rises ∙ ap (λ xs. left_at xs (slice_get (remaining_of p) 0)) same
-    ∙ sym (filter-every (left_at documents (slice_get (remaining_of p) 0))))
+    let same : members_of p ≡ documents = cc in (
+      λ d. true,
+      alone_left p tied.1.rises ∙ ap (λ xs. left_at xs (slice_get (remaining_of p) 0)) same
+          ∙ sym (filter-every (left_at documents (slice_get (remaining_of p) 0))),
+    )
 node_left doc (Terms c) parts tied documents is = absurd (cc)
 node_left doc (Filter s) parts tied documents is = absurd (cc)
 node_left doc (Phrase s) parts tied documents is = absurd (cc)
@@ -110,9 +112,11 @@ node_left doc (Or buffered) parts tied documents is = absurd (cc)
 node_left doc (Without differing) parts tied documents is = absurd (cc)
 node_left doc (Filtered f) parts tied documents is =
     let test = has f.set in
-    let left = tied documents is in
-    (λ d. left.0 d && test d, ap (filter test) left.1 ∙ filter-and test left.0 (left_at documents (slice_get f.tree.value.remaining 0))
-    ∙ ap (λ first. filter (λ d. left.0 d && test d) (left_at documents first)) (filter-first test f.tree.value.remaining parts))
+    let left = tied documents is in (
+      λ d. left.0 d && test d,
+      ap (filter test) left.1 ∙ filter-and test left.0 (left_at documents (slice_get f.tree.value.remaining 0))
+          ∙ ap (λ first. filter (λ d. left.0 d && test d) (left_at documents first)) (filter-first test f.tree.value.remaining parts),
+    )
 
 pub source_left : (doc : Option ℕ) (source : Source) → Stands doc source → LeavesList (value_of source)
 source_left doc sources.Nothing stands documents is = (λ d. true, refl)
@@ -144,7 +148,7 @@ begins_there p test (x ∷ all) some is at = elim (cases_Bool (p x)) [
       ∙ sym (has-filter p (x ∷ all) x)
       ∙ ap (λ xs. has xs x) (sym is)
       ∙ (and_parts (has some x) (test x) (sym (has-filter test some x) ∙ has-first (filter test some) x (sym at))).0
-    ))
+      ))
 ]
 
 -- where the list's first document from the target on passes, nothing more is passed
