@@ -1,10 +1,9 @@
 -- A cursor over one list alone: what is left of the list, and its blocks up to there.
-use Rattle.std.proofs.Common.{◌≡◌, ℕ, suc, ◌+◌, ◌-◌, ◌*◌, ◌<◌, ◌≤◌, nat_le, Bool, true, cond, Option, Some, List, [], ◌∷◌, ◌++◌, length, min, drop, get_or, refl}
+use Rattle.std.proofs.Common.{◌≡◌, ◌&&◌, ℕ, suc, ◌+◌, ◌-◌, ◌*◌, ◌<◌, ◌≤◌, nat_le, Bool, true, cond, Option, Some, List, [], ◌∷◌, ◌++◌, length, min, drop, get_or, refl}
 use Rattle.std.proofs.Common.{sym, ap, subst, ◌∙◌, inl, inr, arith}
-use Rattle.std.specs.Borrow.{Bor}
 use Rattle.std.specs.List.{filter, flat_map, slice_get}
 use Rattle.std.specs.List.Sorted.{IsStrictlyIncreasing}
-use Rattle.std.proofs.lemmas.Bool.{cases_Bool, cases_lt, le-leb, lt-leb}
+use Rattle.std.proofs.lemmas.Bool.{and_parts, and_right, cases_Bool, cases_lt, false≢true, le-leb, lt-leb}
 use Rattle.std.proofs.lemmas.List.{length-append, length-drop}
 use Rattle.fts_pack.specs.Documents.{Rises, block_count, blocks_of}
 use Rattle.fts_pack.specs.SourceLaws.{length-blocks_of}
@@ -14,16 +13,15 @@ use Rattle.fts_postings.specs.Posting.{Follows, Posting, blocks_reached, here, m
 use Rattle.fts_postings.specs.Remaining.{at_least}
 use Rattle.fts_postings.proofs.PostingLemmas.{members-split, place_in_list, stands_within}
 use Rattle.fts_postings.proofs.RemainingLemmas.{at_least_all}
-use Rattle.fts_postings.proofs.SetLemmas.{filter-first}
-use Rattle.fts_postings.specs.Sets.{FirstPasses}
-use Rattle.fts_cursor.specs.Hits.{is_live}
-use Rattle.fts_cursor.specs.Live.{IsSettled, of_live}
+use Rattle.fts_postings.proofs.SetLemmas.{filter-at_least, filter-first, has-first}
+use Rattle.fts_postings.specs.Sets.{FirstPasses, has}
+use Rattle.fts_sets.proofs.SetLemmas.{filter-and, filter-every, has-filter}
 use Rattle.fts_cursor.specs.Standing.{OpensOnce, at_most, blocks_to, left_at}
 use Rattle.fts_cursor.specs.Terms.{AreBlocks, IsAlone}
-use Rattle.fts_cursor.specs.TreeValues.{LeavesList, OpensOne, TreeContinues, TreeValue}
-use Rattle.fts_cursor.specs.Trees.{IsTiedNode, Stands, tree_value, value_of}
+use Rattle.fts_cursor.specs.TreeValues.{LeavesList, TreeContinues, TreeValue, above}
+use Rattle.fts_cursor.specs.Trees.{IsTiedNode, PartsStand, Stands, tree_value, value_of}
 use Rattle.fts_cursor.specs.declared.tree.Node.{Node}
-use Rattle.fts_cursor.specs.declared.tree.Node.TheVariants.{Scan, Listed, Postings, Terms, Filter, Phrase, And, Or, Without}
+use Rattle.fts_cursor.specs.declared.tree.Node.TheVariants.{Scan, Listed, Postings, Terms, Filter, Filtered, Phrase, And, Or, Without}
 use Rattle.fts_cursor.specs.declared.tree.Source.{Source}
 use Rattle.fts_cursor.specs.declared.tree.Source.TheVariants as sources
 
@@ -97,22 +95,32 @@ pub AreBlocks-of : (blocks : List (List ℕ)) (documents : List ℕ) → blocks 
 AreBlocks-of blocks documents is joined rises = record { cut = is ∙ ap blocks_of (sym joined); rises = subst IsStrictlyIncreasing (sym joined) rises }
 
 -- what remains of a cursor over a list alone
-node_left : (node : Node) → IsTiedNode node → LeavesList (tree_value node)
-node_left (Scan s opened) tied documents is = absurd (cc)
-node_left (Listed s opened) tied documents is = absurd (cc)
-node_left (Postings p) tied documents is =
-    let same : members_of p ≡ documents = cc in
-    alone_left p tied.1.rises ∙ ap (λ xs. left_at xs (slice_get (remaining_of p) 0)) same
-node_left (Terms c) tied documents is = absurd (cc)
-node_left (Filter s) tied documents is = absurd (cc)
-node_left (Phrase s) tied documents is = absurd (cc)
-node_left (And parts) tied documents is = absurd (cc)
-node_left (Or buffered) tied documents is = absurd (cc)
-node_left (Without parts) tied documents is = absurd (cc)
+node_left : (doc : Option ℕ) (node : Node) → PartsStand doc node → IsTiedNode node → LeavesList (tree_value node)
+node_left doc (Scan s opened) parts tied documents is = absurd (cc)
+node_left doc (Listed s opened) parts tied documents is = absurd (cc)
+node_left doc (Postings p) parts tied documents is =
+    let same : members_of p ≡ documents = cc in (
+      λ d. true,
+      alone_left p tied.1.rises ∙ ap (λ xs. left_at xs (slice_get (remaining_of p) 0)) same
+          ∙ sym (filter-every (left_at documents (slice_get (remaining_of p) 0))),
+    )
+node_left doc (Terms c) parts tied documents is = absurd (cc)
+node_left doc (Filter s) parts tied documents is = absurd (cc)
+node_left doc (Phrase s) parts tied documents is = absurd (cc)
+node_left doc (And meeting) parts tied documents is = absurd (cc)
+node_left doc (Or buffered) parts tied documents is = absurd (cc)
+node_left doc (Without differing) parts tied documents is = absurd (cc)
+node_left doc (Filtered f) parts tied documents is =
+    let test = has f.set in
+    let left = tied documents is in (
+      λ d. left.0 d && test d,
+      ap (filter test) left.1 ∙ filter-and test left.0 (left_at documents (slice_get f.tree.value.remaining 0))
+          ∙ ap (λ first. filter (λ d. left.0 d && test d) (left_at documents first)) (filter-first test f.tree.value.remaining parts),
+    )
 
 pub source_left : (doc : Option ℕ) (source : Source) → Stands doc source → LeavesList (value_of source)
-source_left doc sources.Nothing stands documents is = refl
-source_left doc (sources.Cursor node) stands documents is = node_left node.value stands.tied documents is
+source_left doc sources.Nothing stands documents is = (λ d. true, refl)
+source_left doc (sources.Cursor node) stands documents is = node_left doc node.value stands.parts stands.tied documents is
 
 -- what a filter begins with passes
 filter_begins : (p : ℕ → Bool) (xs : List ℕ) (x : ℕ) → slice_get (filter p xs) 0 ≡ Some x → p x ≡ true
@@ -129,18 +137,35 @@ first_passes : (p : ℕ → Bool) (xs : List ℕ) → slice_get (filter p xs) 0 
 first_passes p [] same = tt
 first_passes p (x ∷ xs) same = filter_begins p (x ∷ xs) x same
 
--- where the list's first document from the target on is live, nothing more is passed
-pub once_live : (target : ℕ) (bits : Bor (List Bool)) (old sought new : TreeValue) → IsSettled (Some bits) old.standing →
-    LeavesList old → OpensOne old sought → sought.remaining ≡ at_least target old.remaining →
-    filter (is_live bits.now) new.remaining ≡ filter (is_live bits.now) sought.remaining → (FirstPasses (is_live bits.now) sought.remaining → new ≡ sought) →
-    OpensOnce target (of_live (Some bits) old.standing) (of_live (Some bits) new.standing)
-once_live target bits old sought new settled left once is same still documents list at =
-    let test = is_live bits.now in
+-- what passes another test too and begins with the first of all is at that one
+begins_there : (p test : ℕ → Bool) (all some : List ℕ) → some ≡ filter p all → slice_get (filter test some) 0 ≡ slice_get all 0 →
+    slice_get some 0 ≡ slice_get all 0
+begins_there p test [] some is at = ap (λ xs. slice_get xs 0) is
+begins_there p test (x ∷ all) some is at = elim (cases_Bool (p x)) [
+  | inl passes ↦ ap (λ xs. slice_get xs 0) is ∙ ap (λ b. slice_get (cond b (x ∷ filter p all) (filter p all)) 0) passes
+  | inr fails ↦ absurd (false≢true (
+      sym (and_right (has (x ∷ all) x) (p x) fails)
+      ∙ sym (has-filter p (x ∷ all) x)
+      ∙ ap (λ xs. has xs x) (sym is)
+      ∙ (and_parts (has some x) (test x) (sym (has-filter test some x) ∙ has-first (filter test some) x (sym at))).0
+      ))
+]
+
+-- where the list's first document from the target on passes, nothing more is passed
+pub once_kept : (target : ℕ) (test : ℕ → Bool) (old sought new : TreeValue) → FirstPasses test old.remaining →
+    LeavesList old → OpensOnce target old.standing sought.standing → sought.remaining ≡ at_least target old.remaining →
+    filter test new.remaining ≡ filter test sought.remaining → (FirstPasses test sought.remaining → new ≡ sought) →
+    OpensOnce target (above old (filter test old.remaining)).standing (above new (filter test new.remaining)).standing
+once_kept target test old sought new settled left once is same still documents list at =
     let first : slice_get old.remaining 0 ≡ slice_get (filter test old.remaining) 0 = filter-first test old.remaining settled in
-    let stands : slice_get (filter test sought.remaining) 0 ≡ slice_get sought.remaining 0 =
-    ap (λ xs. slice_get xs 0) (sym same) ∙ at ∙ ap (λ doc. slice_get (at_least target (left_at documents doc)) 0) (sym first)
-    ∙ ap (λ xs. slice_get (at_least target xs) 0) (sym (left documents list)) ∙ ap (λ xs. slice_get xs 0) (sym is) in
-    subst (λ (s : TreeValue). s.openings ≤ suc old.openings) (sym (still (first_passes test sought.remaining stands))) (once documents list)
+    let of_list = left documents list in
+    let whole = left_at documents (slice_get old.remaining 0) in
+    let found : sought.remaining ≡ filter of_list.0 (at_least target whole) = is ∙ ap (at_least target) of_list.1
+    ∙ sym (filter-at_least target of_list.0 whole) in
+    let begins : slice_get (filter test sought.remaining) 0 ≡ slice_get (at_least target whole) 0 =
+    ap (λ xs. slice_get xs 0) (sym same) ∙ at ∙ ap (λ doc. slice_get (at_least target (left_at documents doc)) 0) (sym first) in
+    let there = begins_there of_list.0 test (at_least target whole) sought.remaining found begins in
+    subst (λ (s : TreeValue). s.openings ≤ suc old.openings) (sym (still (first_passes test sought.remaining (begins ∙ sym there)))) (once documents list there)
 
 -- a cursor over one list alone still goes over that list later on
 pub alone-follows : (p q : Posting) → Follows p q → IsAlone p → IsAlone q

@@ -48,7 +48,7 @@ musts_kept segment [] should d some = absurd (omega (arith, some))
 musts_kept segment (q ∷ qs) should d some = refl
 
 -- what all have one has
-one_of_them : (segment : SegmentValue) (must : List Query) (k : ℕ) (q : Query) (d : ℕ) → k < length must → q ≡ get_or must k q →
+pub one_of_them : (segment : SegmentValue) (must : List Query) (k : ℕ) (q : Query) (d : ℕ) → k < length must → q ≡ get_or must k q →
     in_all (hits_of_each segment must) d ≡ true → has (hits_of segment q) d ≡ true
 one_of_them segment [] k q d inside is all = absurd (omega (arith, inside))
 one_of_them segment (p ∷ ps) zero q d inside is all =
@@ -57,7 +57,7 @@ one_of_them segment (p ∷ ps) (suc k) q d inside is all =
     one_of_them segment ps k q d (omega (arith, inside)) is (and_parts (has (hits_of segment p) d) (in_all (hits_of_each segment ps) d) all).1
 
 -- a hit is a document
-hit_inside : (segment : SegmentValue) (q : Query) (d : ℕ) → has (hits_of segment q) d ≡ true → nat_lt d (length segment.documents) ≡ true
+pub hit_inside : (segment : SegmentValue) (q : Query) (d : ℕ) → has (hits_of segment q) d ≡ true → nat_lt d (length segment.documents) ≡ true
 hit_inside segment q d there =
     let p : Stamped DocumentValue → Bool = λ e. matches segment.schema e.value (query_value q) in
     elim (cases_lt d (length segment.documents)) [

@@ -28,3 +28,4 @@ pub mod SplitLemmas
 pub mod TestsLemmas
 pub mod ShouldsLemmas
 pub mod LeadLemmas
+pub mod MustsLemmas

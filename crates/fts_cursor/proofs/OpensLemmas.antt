@@ -194,13 +194,13 @@ keeps_terms segment must should s some terms_all is most opened = record {
   opens = opens_terms segment must should s.standing some terms_all most opened;
 }
 
-pub keeps_mixed : (segment : SegmentValue) (must should : List Query) (trees : List TreeValue) (s : TreeValue) → 0 < length must →
-    list_all (λ q. is_term (query_value q)) must ≡ false → remains trees ≡ map (hits_of segment) must →
-    ((first : TreeValue) (rest : List TreeValue) → trees ≡ first ∷ rest → s.remaining ≡ common first.remaining (remains rest)) →
-    AllZip (λ t q. Opens segment (query_value q) t.standing) trees must → most_at s.bound None ≡ all_most trees → Keeps segment must should s
-keeps_mixed segment must should trees s some mixed are is each most = record {
-  hits = must_hits segment trees must should s.remaining are some is;
-  opens = opens_mixed segment must should s.standing mixed (omega (arith, most, all_most-for segment trees must each));
+pub keeps_musts : (segment : SegmentValue) (must should : List Query) (s : TreeValue) → 0 < length must →
+    list_all (λ q. is_term (query_value q)) must ≡ false →
+    s.remaining ≡ all_hits segment must →
+    most_at s.bound None ≤ most_for_all segment (query_list (map query_value must)) → Keeps segment must should s
+keeps_musts segment must should s some mixed is most = record {
+  hits = is ∙ all_kept segment must should some;
+  opens = opens_mixed segment must should s.standing mixed most;
 }
 
 -- a Boolean query of the code, with its must-nots or without
@@ -212,6 +212,12 @@ module _ (segment : SegmentValue) (query : Query) (must must_not should : List Q
         subst (λ v. Opens segment v s.standing)
         (sym (value ∙ ap (λ qs. boolean (query_list (map query_value must)) (query_list (map query_value qs)) (query_list (map query_value should))) none))
         h.opens
+
+    pub opens_filtered : 0 < length must_not → (kept : TreeValue) → Keeps segment must should kept → most_at s.bound None ≡ most_at kept.bound None →
+        Opens segment (query_value query) s.standing
+    opens_filtered some kept keeps most =
+        opens_without segment (query_value query) (query_list (map query_value must)) (query_list (map query_value should)) must_not s.standing value some
+        (subst (λ v. most_at s.bound None ≤ most_for segment v) (sym value) (omega (arith, keeps.opens.most, most)))
 
     pub opens_apart : 0 < length must_not → (kept dropped : TreeValue) → Keeps segment must should kept →
         most_at dropped.bound None ≤ most_for_all segment (query_list (map query_value must_not)) →

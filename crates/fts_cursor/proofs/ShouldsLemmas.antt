@@ -27,7 +27,7 @@ hits_with : (segment : SegmentValue) (qs : List Query) (q : Query) (d : ℕ) →
 hits_with segment qs q d =
     ap (λ lists. in_some lists d) (map-append (hits_of segment) qs (q ∷ [])) ∙ in_some-append (map (hits_of segment) qs) (hits_of segment q) d
 
-most_with : (segment : SegmentValue) (qs : List Query) (q : Query) → most_for_all segment (query_list (map query_value (qs ++ q ∷ [])))
+pub most_with : (segment : SegmentValue) (qs : List Query) (q : Query) → most_for_all segment (query_list (map query_value (qs ++ q ∷ [])))
     ≡ most_for_all segment (query_list (map query_value qs)) + most_for segment (query_value q)
 most_with segment [] q = omega arith
 most_with segment (p ∷ ps) q = omega (arith, most_with segment ps q)

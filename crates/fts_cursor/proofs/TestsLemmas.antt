@@ -89,7 +89,7 @@ pub kept_some : (segment : SegmentValue) (must should : List Query) (set : List 
     filter (in_some (hits_of_each segment should)) set ≡ filter (is_kept (hits_of_each segment must) (hits_of_each segment should)) set
 kept_some segment must should set none = ap (λ qs. filter (is_kept (hits_of_each segment qs) (hits_of_each segment should)) set) (sym none)
 
-and_turn : (l h : Bool) → (l && h) ≡ (h && l)
+pub and_turn : (l h : Bool) → (l && h) ≡ (h && l)
 and_turn true true = refl
 and_turn true false = refl
 and_turn false true = refl

@@ -15,11 +15,12 @@ use Rattle.std.specs.Borrow.{Bor}
 use Rattle.std.proofs.lemmas.List.Kept.{IsStrictlyIncreasing-filter}
 use Rattle.fts_cursor.specs.Hits.{is_live}
 use Rattle.fts_cursor.specs.Live.{of_live}
-use Rattle.fts_cursor.specs.Trees.{IsNow, IsTiedNode, Met, PartsStand, differ, meet, tree_value}
+use Rattle.fts_cursor.specs.Trees.{IsNow, IsSettledAt, IsTiedNode, Met, PartsStand, StandsAt, differ, kept, meet, tree_value}
 use Rattle.fts_cursor.specs.declared.tree.exclusion.Exclusion.{Exclusion}
+use Rattle.fts_cursor.specs.declared.tree.filtered_tree.FilteredTree.{FilteredTree}
 use Rattle.fts_cursor.specs.declared.tree.intersection.Intersection.{Intersection}
 use Rattle.fts_cursor.specs.declared.tree.Node.{Node}
-use Rattle.fts_cursor.specs.declared.tree.Node.TheVariants.{And}
+use Rattle.fts_cursor.specs.declared.tree.Node.TheVariants.{And, Filtered}
 use Rattle.fts_postings.proofs.RemainingLemmas.{increasing-from_Rises, fewer-at_least, first-at_least, at_least_all, nothing_first}
 use Rattle.fts_postings.proofs.SetLemmas.{FirstPasses-first, filter-past, Rises-from_first, filter-ahead, filter-first, filter-none, filter-same, has-at_least}
 use Rattle.fts_postings.proofs.SetLemmas.{has-before_first, has-first, has-none, is_itself}
@@ -48,6 +49,19 @@ pub IsNow-first : (doc : Option ℕ) (node : Node) (remaining : List ℕ) → do
     IsStrictlyIncreasing (tree_value node).remaining → PartsStand doc node → IsTiedNode node → (tree_value node).remaining ≡ remaining →
     IsNow doc node remaining
 IsNow-first doc node remaining first rises parts tied is = record { is = is; stands = record { first = first; rises = rises; parts = parts; tied = tied } }
+
+-- a tree that was brought to the first of its documents that are of a set
+pub filtered_stands : (doc : Option ℕ) (filtered : FilteredTree) → IsSettledAt doc (has filtered.set) filtered.tree.value → StandsAt doc (Filtered filtered)
+filtered_stands doc filtered h = record {
+  first = h.first ∙ filter-first (has filtered.set) filtered.tree.value.remaining h.passes;
+  rises = IsStrictlyIncreasing-filter (has filtered.set) filtered.tree.value.remaining h.rises;
+  parts = h.passes;
+  tied = h.left;
+}
+
+pub filtered_now : (doc : Option ℕ) (filtered : FilteredTree) (remaining : List ℕ) → IsSettledAt doc (has filtered.set) filtered.tree.value →
+    kept filtered ≡ remaining → IsNow doc (Filtered filtered) remaining
+filtered_now doc filtered remaining h is = record { is = is; stands = filtered_stands doc filtered h }
 
 -- what leads stands at a document, and the test is as it was from there on
 module _ (before now : List ℕ) (old test : ℕ → Bool) (doc : ℕ) (h : filter old now ≡ before) (rises : IsStrictlyIncreasing now)

@@ -5,7 +5,7 @@ use Rattle.fts_cursor.specs.TreeValues.{most-heights}
 use Rattle.fts_cursor.specs.Trees.{tree_value, value_of}
 use Rattle.fts_cursor.specs.declared.tree.Node.{Node}
 use Rattle.fts_cursor.specs.declared.tree.Node.TheVariants.{Scan, Listed, Postings, Terms, Filter, Phrase, And, Or}
-use Rattle.fts_cursor.specs.declared.tree.Node.TheVariants.{Without}
+use Rattle.fts_cursor.specs.declared.tree.Node.TheVariants.{Filtered, Without}
 use Rattle.fts_cursor.specs.declared.tree.Source.{Source}
 use Rattle.fts_cursor.specs.declared.tree.Source.TheVariants as sources
 use Rattle.fts_cursor.specs.declared.tree.Tree.TheDeep.{deep-Node, deep-Source}
@@ -20,6 +20,7 @@ node_falls (Phrase s) = omega arith
 node_falls (And parts) = omega (arith, most-heights parts.others.items)
 node_falls (Or buffered) = omega (arith, most-heights buffered.parts.items)
 node_falls (Without parts) = omega arith
+node_falls (Filtered filtered) = omega arith
 
 pub source_falls : (source : Source) → max (deep-Source source) 0 ≤ (value_of source).height
 source_falls sources.Nothing = omega arith

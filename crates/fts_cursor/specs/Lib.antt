@@ -15,4 +15,5 @@ pub mod Splits
 pub mod Tests
 pub mod Most
 pub mod Shoulds
+pub mod Musts
 pub mod Told

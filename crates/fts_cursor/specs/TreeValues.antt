@@ -1,5 +1,5 @@
 -- What contracts see of a tree of cursors: what those of its cursor see, and a measure for recursions over it.
-use Rattle.std.specs.Prelude.{◌≡◌, ℕ, suc, ◌+◌, ◌≤◌, max, false, List, None, Some, [], ◌∷◌, map, slice_get}
+use Rattle.std.specs.Prelude.{◌≡◌, ℕ, suc, ◌+◌, ◌≤◌, max, Bool, false, List, None, Some, [], ◌∷◌, filter, map, slice_get}
 use Rattle.std.proofs.Common.{arith}
 use denote.Param.Weighed.{most}
 use Rattle.fts_postings.specs.Bounds.{most_at}
@@ -65,20 +65,20 @@ beside a b remaining = record {
   height = suc (max a.height b.height);
 }
 
+-- a cursor over what remains of another
+abbrev pub above : TreeValue → List ℕ → TreeValue
+above tree remaining = record { standing = record tree.standing { remaining = remaining }; height = suc tree.height }
+
 -- no cursor is deeper than the deepest
 pub most-heights : (parts : List TreeValue) → most (λ t. t.height + 1) parts ≤ heights parts + 1
 most-heights [] = omega arith
 most-heights (t ∷ parts) = omega (arith, most-heights parts)
 
--- if a tree goes over one list alone, what remains is what is left of that list
+-- if a tree goes over one list alone, what remains is of what is left of that list, by some test of the documents
 abbrev pub LeavesList : TreeValue → Type 0
 LeavesList tree =
     (documents : List ℕ) → tree.list ≡ Some documents →
-    tree.remaining ≡ left_at documents (slice_get tree.remaining 0)
-
--- if a tree goes over one list alone, at most one block more was opened
-abbrev pub OpensOne : TreeValue → TreeValue → Type 0
-OpensOne old new = (documents : List ℕ) → old.list ≡ Some documents → new.openings ≤ suc old.openings
+    (test : ℕ → Bool) × (tree.remaining ≡ filter test (left_at documents (slice_get tree.remaining 0)))
 
 -- a tree after a search for a document: the same from there on
 pub record Narrowed (doc : ℕ) (old new : TreeValue) : Type 0 where

@@ -5,16 +5,17 @@ use Rattle.std.specs.List.{filter}
 use Rattle.std.specs.List.Sorted.{IsStrictlyIncreasing}
 use Rattle.fts_postings.specs.Posting.{blocks_reached, members_of, remaining_of}
 use Rattle.fts_postings.specs.Conjoined.{common_of}
-use Rattle.fts_postings.specs.Sets.{FirstPasses, common, in_all, in_some, lacks, union, without}
+use Rattle.fts_postings.specs.Sets.{FirstPasses, common, has, in_all, in_some, lacks, union, without}
 use Rattle.fts_cursor.specs.Standing.{at_most}
 use Rattle.fts_cursor.specs.Terms.{AreTied, IsAlone, of_terms}
-use Rattle.fts_cursor.specs.TreeValues.{TreeValue, beside, leaf, remains, together}
+use Rattle.fts_cursor.specs.TreeValues.{LeavesList, TreeValue, above, beside, leaf, remains, together}
 use Rattle.fts_cursor.specs.declared.tree.buffered_union.BufferedUnion.{BufferedUnion}
 use Rattle.fts_cursor.specs.declared.tree.exclusion.Exclusion.{Exclusion}
+use Rattle.fts_cursor.specs.declared.tree.filtered_tree.FilteredTree.{FilteredTree}
 use Rattle.fts_cursor.specs.declared.tree.intersection.Intersection.{Intersection}
 use Rattle.fts_cursor.specs.declared.tree.Node.{Node}
 use Rattle.fts_cursor.specs.declared.tree.Node.TheVariants.{Scan, Listed, Postings, Terms, Filter, Phrase}
-use Rattle.fts_cursor.specs.declared.tree.Node.TheVariants.{And, Or, Without}
+use Rattle.fts_cursor.specs.declared.tree.Node.TheVariants.{And, Filtered, Or, Without}
 use Rattle.fts_cursor.specs.declared.tree.Source.{Source}
 use Rattle.fts_cursor.specs.declared.tree.Source.TheVariants.{Nothing, Cursor}
 use Rattle.fts_postings.specs.declared.window.Window.{Window}
@@ -34,6 +35,10 @@ meet parts = common parts.lead.value.remaining (remains parts.others.items)
 
 abbrev pub differ : Exclusion → List ℕ
 differ parts = without parts.kept.value.remaining parts.dropped.value.remaining
+
+-- the documents of a tree that are of a set
+abbrev pub kept : FilteredTree → List ℕ
+kept filtered = filter (has filtered.set) filtered.tree.value.remaining
 
 abbrev pub tree_value : Node → TreeValue
 tree_value (Scan documents opened) = leaf (record {
@@ -63,6 +68,7 @@ tree_value (Phrase s) = leaf (record s { whole = false; list = None })
 tree_value (And parts) = beside parts.lead.value (together parts.others.items) (meet parts)
 tree_value (Or buffered) = beside (together buffered.parts.items) (together []) (gathered buffered)
 tree_value (Without parts) = beside parts.kept.value parts.dropped.value (differ parts)
+tree_value (Filtered filtered) = above filtered.tree.value (kept filtered)
 
 -- the first that passes, if there is one, is the first of what leads
 abbrev pub PassesAt : Option ℕ → (ℕ → Bool) → List ℕ → Type 0
@@ -79,12 +85,15 @@ abbrev pub PartsStand : Option ℕ → Node → Type 0
 PartsStand doc (And parts) = PassesAt doc (in_all (remains parts.others.items)) parts.lead.value.remaining
 PartsStand doc (Without parts) = PassesAt doc (lacks parts.dropped.value.remaining) parts.kept.value.remaining
 PartsStand doc (Or buffered) = IsBuffered doc buffered.window (remains buffered.parts.items)
+PartsStand doc (Filtered filtered) = FirstPasses (has filtered.set) filtered.tree.value.remaining
 PartsStand doc node = Unit {0}
 
--- each opening of a source was counted by its cursor, and a list alone is in its blocks and rises
+-- each opening of a source was counted by its cursor, a list alone is in its blocks and rises, and what a filtered tree
+-- leaves of one is of that list
 abbrev pub IsTiedNode : Node → Type 0
 IsTiedNode (Postings p) = IsAlone p
 IsTiedNode (Terms c) = AreTied c
+IsTiedNode (Filtered filtered) = LeavesList filtered.tree.value
 IsTiedNode node = Unit {0}
 
 -- the document is the first that remains, and the parts are there
@@ -105,6 +114,13 @@ pub record Met (doc : Option ℕ) (before : List ℕ) (test : ℕ → Bool) (lea
   pub first : doc ≡ slice_get before 0
   pub passes : PassesAt doc test lead
   pub rises : IsStrictlyIncreasing before
+
+-- a tree is at this document, which passes, or at its end
+pub record IsSettledAt (doc : Option ℕ) (test : ℕ → Bool) (tree : TreeValue) : Type 0 where
+  pub first : doc ≡ slice_get tree.remaining 0
+  pub passes : FirstPasses test tree.remaining
+  pub rises : IsStrictlyIncreasing tree.remaining
+  pub left : LeavesList tree
 
 -- the documents of a cursor, or none
 abbrev pub value_of : Source → TreeValue

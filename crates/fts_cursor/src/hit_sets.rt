@@ -128,8 +128,9 @@ pub(crate) fn keep_query<'a>(
     set: &mut DocIdSet<'a>,
 ) -> Result<bool, AllocError>
     requires { query_fits segment.now.schema (query_value query.now) ≡ true }
-    ensures { IfOk result (λ told. told ≡ true →
+    ensures kept { IfOk result (λ told. told ≡ true →
         set.new ≡ filter (has (segment_hits segment.now (query_value query.now))) set.old) }
+    ensures untold { IfOk result (λ told. told ≡ false → set.new ≡ set.old) }
 {
     let mut leaves = Vec::new(alloc);
     if !push_query(segment, query, least, &mut leaves)? {

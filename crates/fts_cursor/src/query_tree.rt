@@ -3,15 +3,16 @@ ghost use Rattle.std.specs.Prelude.{◌≡◌, ◌-◌, ◌^◌, ◌≤◌, ◌<
 ghost use Rattle.std.specs.Prelude.{All, EachIndex, List, [], ◌∷◌, length, map, min, slice_index};
 ghost use Rattle.std.specs.List.{AllZip, list_all};
 ghost use Rattle.std.specs.List.Sorted.{IsStrictlyIncreasing};
-ghost use Rattle.fts_model.specs.Queries.{query_fits};
+ghost use Rattle.fts_model.specs.Queries.{matches, query_fits};
 ghost use Rattle.fts_model.specs.QueryValues.{every, phrase, query_list, query_value};
 ghost use Rattle.fts_pack.specs.Documents.{block_count};
-ghost use Rattle.fts_segment.specs.Segments.{positions, postings};
+ghost use Rattle.fts_segment.specs.Segments.{numbers_where, positions, postings};
 ghost use Rattle.fts_cursor.specs.Hits.{live_hits, segment_hits};
 ghost use Rattle.fts_postings.specs.Bounds.{most_at};
 ghost use Rattle.fts_postings.specs.Sets.{common, union};
 ghost use Rattle.fts_cursor.specs.Builds.{IsCursorOf, IsMemberFor, LacksTerm, text_term};
 ghost use Rattle.fts_cursor.specs.Most.{Opens, most_for, most_for_all};
+ghost use Rattle.fts_cursor.specs.Musts.{AreMusts};
 ghost use Rattle.fts_cursor.specs.Shoulds.{AreShoulds};
 ghost use Rattle.fts_segment.specs.ListIds.{documents_in, positions_in};
 ghost use Rattle.fts_cursor.specs.Standing.{at_most};
@@ -19,11 +20,12 @@ ghost use Rattle.fts_cursor.specs.TreeValues.{TreeValue, all_most, remains};
 
 use crate::any::{Shoulds, told_by, union_of};
 use crate::cursor::Cursor;
+use crate::hit_sets::keep_query;
 use crate::phrase::{Member, PhraseCursor};
-use crate::range::of_range;
+use crate::range::{fewest_scanned, of_range};
 use crate::term_lists::cursor_over;
 use crate::terms::{are_terms, of_terms};
-use crate::told::told;
+use crate::told::{set_without, told};
 use crate::tree::Tree;
 use fts_model::{FieldValue, Query, Refusal, Term, Text};
 use fts_pack::ListSource;
@@ -94,10 +96,13 @@ fn tree_of<'a>(alloc: Global, segment: &'a Segment, query: &Query) -> Result<Tre
             } else if are_terms(must) {
                 of_terms(alloc, segment, must)?
             } else {
-                all(alloc, trees_of(alloc, segment, must)?)?
+                all_of(alloc, segment, must)?
             };
             if must_not.is_empty() {
                 return Ok(kept);
+            }
+            if let Some(set) = set_without(alloc, segment, must_not)? {
+                return Tree::filtered(alloc, kept, set);
             }
             let dropped = any_of(alloc, segment, must_not)?;
             Tree::without(alloc, kept, dropped)
@@ -152,31 +157,77 @@ fn shoulds_of<'a>(
     Ok(Shoulds { bits, parts })
 }
 
+// Queries that must all match: the documents of which bits and columns tell that they match some of these, and cursors
+// of the others.
+#[derive(Drop)]
+struct Musts<'a> {
+    set: DocIdSet<'a>,
+    // Whether they tell of any query.
+    is_told: bool,
+    parts: Vec<Tree<'a>>,
+}
+
 /// The documents that match each of these.
 #[cycle(build)]
-fn trees_of<'a>(
+fn all_of<'a>(
     alloc: Global,
     segment: &'a Segment,
     queries: &[Query],
-) -> Result<Vec<Tree<'a>>, AllocError>
+) -> Result<Tree<'a>, AllocError>
+    requires some { 0 < length queries.now }
     requires fits { list_all (λ q. query_fits segment.now.schema (query_value q)) queries.now
         ≡ true }
-    ensures hits { IfOk result
-        (λ trees. remains trees.items
-        ≡ map (λ q. segment_hits segment.now (query_value q)) queries.now) }
-    ensures opens { IfOk result
-        (λ trees. AllZip
-        (λ t q. Opens segment.now (query_value q) t.standing)
-        trees.items queries.now) }
+    ensures hits { IfOk result (λ t. t.remaining ≡ numbers_where
+        (λ d. list_all (λ q. matches segment.now.schema d.value (query_value q)) queries.now)
+        0 segment.now.documents) }
+    ensures most { IfOk result (λ t. most_at t.bound None
+        ≤ most_for_all segment.now (query_list (map query_value queries.now))) }
 {
-    let mut trees = Vec::with_capacity(alloc, queries.len())?;
-    for query in queries {
-        trees.push(tree_of(alloc, segment, query)?)?;
+    let Musts {
+        set,
+        is_told,
+        parts,
+    } = musts_of(alloc, segment, queries)?;
+    if parts.is_empty() {
+        return Tree::scan(alloc, SetCursor::new(set, None));
     }
-    Ok(trees)
+    let tree = all(alloc, parts)?;
+    if !is_told {
+        return Ok(tree);
+    }
+    Tree::filtered(alloc, tree, set)
 }
 
-/// What all have in common. The part of the least cost leads.
+/// What bits and columns tell of these, and cursors of the others. A range that few documents are in is better listed.
+#[cycle(build)]
+fn musts_of<'a>(
+    alloc: Global,
+    segment: &'a Segment,
+    queries: &[Query],
+) -> Result<Musts<'a>, AllocError>
+    requires fits { list_all (λ q. query_fits segment.now.schema (query_value q)) queries.now
+        ≡ true }
+    ensures { IfOk result (λ musts. AreMusts segment.now queries.now musts.is_told musts.set musts.parts.items) }
+{
+    let docs = segment.docs();
+    let mut set = DocIdSet::every(alloc, docs);
+    let mut is_told = false;
+    let mut parts = Vec::new(alloc);
+    for query in queries {
+        if keep_query(alloc, segment, query, fewest_scanned(docs), &mut set)? {
+            is_told = true;
+        } else {
+            parts.push(tree_of(alloc, segment, query)?)?;
+        }
+    }
+    Ok(Musts {
+        set,
+        is_told,
+        parts,
+    })
+}
+
+/// What all have in common. The part of the least cost leads, and is all if there is no other.
 fn all<'a>(alloc: Global, parts: Vec<Tree<'a>>) -> Result<Tree<'a>, AllocError>
     requires { 0 < length parts.items }
     ensures remaining { IfOk result (λ t. (first : TreeValue) (rest : List TreeValue) →
@@ -187,6 +238,9 @@ fn all<'a>(alloc: Global, parts: Vec<Tree<'a>>) -> Result<Tree<'a>, AllocError>
     let mut parts = parts;
     let costs = costs_of(alloc, &parts)?;
     let lead = parts.remove(place_of_least(&costs));
+    if parts.is_empty() {
+        return Ok(lead);
+    }
     let lead = Box::new(alloc, lead)?;
     Tree::and(alloc, lead, parts)
 }

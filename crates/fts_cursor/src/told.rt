@@ -164,7 +164,7 @@ fn is_thin(segment: &Segment, query: &Query) -> bool
 }
 
 /// The documents that match none of some queries, if bits and columns tell them.
-fn set_without<'a>(
+pub(crate) fn set_without<'a>(
     alloc: Global,
     segment: &'a Segment,
     queries: &[Query],

@@ -9,14 +9,15 @@ ghost use Rattle.fts_postings.specs.Sets.{common, has, union, without};
 ghost use Rattle.fts_postings.specs.Remaining.{at_least};
 ghost use Rattle.fts_postings.specs.Takes.{Takes};
 ghost use Rattle.fts_cursor.specs.Hits.{is_live};
-ghost use Rattle.fts_cursor.specs.Standing.{OpensAlong, Walked, at_most};
-ghost use Rattle.fts_cursor.specs.TreeValues.{LeavesList, OpensOne, TreeContinues, all_most, all_openings, remains};
+ghost use Rattle.fts_cursor.specs.Standing.{OpensAlong, OpensOnce, Walked, at_most};
+ghost use Rattle.fts_cursor.specs.TreeValues.{LeavesList, TreeContinues, all_most, all_openings, remains};
 ghost use Rattle.fts_cursor.specs.Trees.{IsNow, StandsAt, tree_value};
 ghost use Rattle.fts_pack.specs.Documents.{block_count};
 ghost use Rattle.fts_pack.specs.ListRef.{listed};
 
 mod buffered_union;
 mod exclusion;
+mod filtered_tree;
 mod intersection;
 mod live;
 
@@ -25,10 +26,11 @@ use crate::list_union::ListedCursor;
 use crate::phrase::PhraseCursor;
 use buffered_union::{BufferedUnion, count_gathered, gather, refill, take_gathered};
 use exclusion::{Exclusion, settle, take_without};
+use filtered_tree::{FilteredTree, take_filtered};
 use fts_pack::bits::Bits;
 use fts_pack::{ListRef, ListSource};
 use fts_postings::{Conjunction, DocSet, PostingCursor, Window};
-use fts_sets::SetCursor;
+use fts_sets::{DocIdSet, Leaf, SetCursor};
 use intersection::{Intersection, align};
 use std::alloc::{AllocError, Global};
 use std::marker::Model;
@@ -64,6 +66,7 @@ enum Node<'a> {
     And(Intersection<'a>),
     Or(BufferedUnion<'a>),
     Without(Exclusion<'a>),
+    Filtered(FilteredTree<'a>),
 }
 
 impl<'a> Model for Tree<'a> {
@@ -229,6 +232,21 @@ impl<'a> Tree<'a> {
         Tree::of(alloc, doc, Node::Without(parts))
     }
 
+    /// The tree of the documents of another that are of a set.
+    pub(crate) fn filtered(
+        alloc: Global,
+        tree: Tree<'a>,
+        set: DocIdSet<'a>,
+    ) -> Result<Tree<'a>, AllocError>
+        ensures remaining { IfOk result (λ t. t.remaining ≡ filter (has set.entry) tree.entry.remaining) }
+        ensures rises { IfOk result (λ t. IsStrictlyIncreasing t.remaining) }
+        ensures walked { IfOk result (λ t. Walked tree.entry.standing t.standing) }
+    {
+        let mut tree = Box::new(alloc, tree)?;
+        let doc = filtered_tree::settle(&mut tree, &set);
+        Tree::of(alloc, doc, Node::Filtered(FilteredTree { tree, set }))
+    }
+
     /// Leaves only those of the remaining documents whose bit is set, if words give both, and returns whether it did.
     pub(crate) fn cut(&mut self, live: &'a Bits) -> Result<bool, AllocError>
         ensures cut { IfOk result (λ did. did ≡ true
@@ -248,6 +266,11 @@ impl<'a> Tree<'a> {
             Node::Filter(filter) => {
                 filter.cut(live)?;
                 self.doc = filter.doc();
+                Ok(true)
+            }
+            Node::Filtered(filtered) => {
+                filtered.set.with(Leaf::Set(live))?;
+                self.doc = filtered_tree::settle(&mut filtered.tree, &filtered.set);
                 Ok(true)
             }
             _ => Ok(false),
@@ -283,6 +306,7 @@ impl<'a> Tree<'a> {
                 .kept
                 .openings()
                 .saturating_add(parts.dropped.openings()),
+            Node::Filtered(filtered) => filtered.tree.openings(),
         }
     }
 
@@ -308,14 +332,16 @@ impl<'a> Tree<'a> {
                 .cost()
                 .saturating_add(cost_in(&buffered.parts)),
             Node::Without(parts) => parts.kept.cost(),
+            Node::Filtered(filtered) => filtered.tree.cost(),
         }
     }
 
-    /// The first document that remains.
+    /// The first document that remains. Contracts learn here what remains of a list alone.
     #[inline]
     pub(crate) fn doc(&self) -> Option<u32>
         ensures first { result ≡ slice_get self.now.remaining 0 }
         ensures rises { IsStrictlyIncreasing self.now.remaining }
+        ensures left { LeavesList self.now }
     {
         self.doc
     }
@@ -341,7 +367,7 @@ impl<'a> Tree<'a> {
         ensures remaining { self.new.remaining ≡ at_least target self.old.remaining }
         ensures continues { TreeContinues self.old self.new }
         ensures left { LeavesList self.old }
-        ensures once { OpensOne self.old self.new }
+        ensures once { OpensOnce target self.old.standing self.new.standing }
     {
         let Source::Cursor(node) = &mut self.source else {
             return;
@@ -460,6 +486,10 @@ fn step(node: &mut Node) -> Option<u32>
             parts.kept.advance();
             settle(parts)
         }
+        Node::Filtered(filtered) => {
+            filtered.tree.advance();
+            filtered_tree::settle(&mut filtered.tree, &filtered.set)
+        }
     }
 }
 
@@ -469,7 +499,7 @@ fn skip(node: &mut Node, target: u32) -> Option<u32>
     requires { (doc : ℕ) × StandsAt (Some doc) node.old × (doc < target) }
     ensures now { IsNow result node.new (at_least target (tree_value node.old).remaining) }
     ensures continues { TreeContinues (tree_value node.old) (tree_value node.new) }
-    ensures once { OpensOne (tree_value node.old) (tree_value node.new) }
+    ensures once { OpensOnce target (tree_value node.old).standing (tree_value node.new).standing }
 {
     match node {
         Node::Scan(scan, _) => {
@@ -504,6 +534,10 @@ fn skip(node: &mut Node, target: u32) -> Option<u32>
         Node::Without(parts) => {
             parts.kept.seek(target);
             settle(parts)
+        }
+        Node::Filtered(filtered) => {
+            filtered.tree.seek(target);
+            filtered_tree::settle(&mut filtered.tree, &filtered.set)
         }
     }
 }
@@ -543,6 +577,7 @@ fn take_from(node: &mut Node, doc: Option<u32>, out: &mut [u32; 128]) -> (usize,
         }
         Node::Or(buffered) => take_gathered(buffered, out),
         Node::Without(parts) => take_without(parts, out),
+        Node::Filtered(filtered) => take_filtered(filtered, out),
         Node::And(_) => take_by_steps(node, doc, out),
     }
 }

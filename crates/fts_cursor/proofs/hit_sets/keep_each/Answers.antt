@@ -20,7 +20,7 @@ loop-query-preserved c =
     let q = c.query-item.result in
     let hits = has (hits_of segment q) in
     let so_far = in_all (hits_of_each segment (take l.query-index queries)) in
-    c.in_ok-keep_query.ensures c.if-not-branch.false ∙ ap (filter hits) l.invariant ∙ filter-and hits so_far c.args.set.now
+    c.in_ok-keep_query.ensures.kept c.if-not-branch.false ∙ ap (filter hits) l.invariant ∙ filter-and hits so_far c.args.set.now
     ∙ filter-agree (λ d. so_far d && hits d) (in_all (hits_of_each segment (take (l.query-index + 1) queries))) c.args.set.now
     (each_more segment queries l.query-index q c.loop-query-test.true c.query-item.is)
 

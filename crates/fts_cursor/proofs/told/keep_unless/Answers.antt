@@ -14,4 +14,4 @@ returns-then-leads c = λ _ d there.
 
 pub returns : goal.returns
 returns c = IfOk-weaker c.keep_query.result _ _ (λ told is yes_told d there.
-    ap (λ xs. has xs d) (is yes_told) ∙ has-filter (has (hits_of c.args.segment.now c.args.query.now)) c.args.set.now d) c.keep_query.ensures
+    ap (λ xs. has xs d) (is yes_told) ∙ has-filter (has (hits_of c.args.segment.now c.args.query.now)) c.args.set.now d) c.keep_query.ensures.kept

@@ -1,11 +1,11 @@
 -- A sum goes on by one part, a part isn't as deep as all, and what is found is some of what leads.
 use Rattle.std.proofs.Common.{◌≡◌, ◌*◌, ◌<◌, List, length, ap, sym, ◌∙◌, arith}
 use Rattle.std.proofs.lemmas.List.{take_all}
-use Rattle.fts_postings.specs.Sets.{in_all, lacks, union}
+use Rattle.fts_postings.specs.Sets.{has, in_all, lacks, union}
 use Rattle.fts_cursor.specs.TreeValues.{TreeValue, remains}
 use Rattle.fts_cursor.specs.Trees.{tree_value, value_of}
 use Rattle.fts_sets.specs.Rows.{found}
-use Rattle.fts_cursor.specs.declared.tree.Node.TheVariants.{And, Or, Without}
+use Rattle.fts_cursor.specs.declared.tree.Node.TheVariants.{And, Filtered, Or, Without}
 use Rattle.fts_cursor.proofs.PartsLemmas.{height_within}
 use Rattle.fts_cursor.proofs.CostLemmas.{all_remaining, all_remaining-more, length-union}
 use Rattle.fts_postings.proofs.CostLemmas.{length-filter-le, length-with_all}
@@ -67,6 +67,20 @@ Tree::cost-returns-in-Without-clause-bound t c =
       ap
           (λ (s : TreeValue). length s.remaining) c.deref-in-Without.ensures,
       c.cost-in-Without.ensures.bound,
+    )
+
+pub Tree::cost-returns-in-Filtered-clause-bound : goal.Tree::cost-returns-in-Filtered-clause-bound
+Tree::cost-returns-in-Filtered-clause-bound t c =
+    let f = c.in-Filtered.filtered in
+    let is : tree_value (Filtered f) ≡ c.args.self.now = ap tree_value (sym c.in-Filtered.is ∙ c.deref.ensures) ∙ ap value_of (sym c.in-Cursor.is)
+    ∙ c.self.view_is in
+    omega (
+      arith,
+      ap (λ (s : TreeValue). length s.remaining) is,
+      length-filter-le (has f.set) f.tree.value.remaining,
+      ap
+          (λ (s : TreeValue). length s.remaining) c.deref-in-Filtered.ensures,
+      c.cost-in-Filtered.ensures.bound,
     )
 
 pub Tree::cost-returns-in-Or-clause-bound : goal.Tree::cost-returns-in-Or-clause-bound

@@ -2,9 +2,10 @@
 use Rattle.std.proofs.Common.{◌≡◌, ℕ, [], ◌∷◌, Some, None, ◌+◌, ◌*◌, ◌<◌, ap, subst, sym, ◌∙◌, refl, arith, drop, length, get_or}
 use Rattle.std.specs.List.{AllZip, filter, slice_get}
 use Rattle.std.specs.List.Sorted.{IsStrictlyIncreasing}
-use Rattle.fts_postings.proofs.SetLemmas.{filter-at_least}
+use Rattle.fts_postings.proofs.SetLemmas.{filter-at_least, filter-step}
 use Rattle.std.proofs.lemmas.List.{with_items_is}
-use Rattle.fts_postings.specs.Sets.{IsLeast, common, in_all, in_some, lacks, union}
+use Rattle.fts_postings.specs.Sets.{FirstPasses, IsLeast, common, has, in_all, in_some, lacks, union}
+use Rattle.fts_cursor.specs.Standing.{OpensOnce}
 use Rattle.fts_cursor.specs.TreeValues.{LeavesList, Left, Narrowed, TreeContinues, TreeValue, heights, remains}
 use Rattle.fts_cursor.specs.Terms.{AreTied, IsAlone}
 use Rattle.fts_cursor.specs.Trees.{IsBuffered, IsNow, gathered, tree_value, value_of}
@@ -20,8 +21,8 @@ use Rattle.fts_cursor.proofs.PartsLemmas.{UpTo-all, UpTo-exit, ahead-later, ahea
 use Rattle.fts_postings.proofs.RemainingLemmas.{nothing_first}
 use Rattle.fts_postings.proofs.UnionLemmas.{IsLeast-none, IsLeast-some}
 use Rattle.fts_cursor.proofs.TreeLemmas.{IsNow-first, IsNow-met, Left-seek, LeftUpTo-next, Met-end, exclusion-here, exclusion-passed, intersection-continues}
-use Rattle.fts_cursor.proofs.TreeLemmas.{intersection-fewer, intersection-here, intersection-none, intersection-sought, stays_from_first}
-use Rattle.fts_cursor.proofs.AloneLemmas.{alone-continues, alone-follows, source_left}
+use Rattle.fts_cursor.proofs.TreeLemmas.{filtered_now, intersection-fewer, intersection-here, intersection-none, intersection-sought, stays_from_first}
+use Rattle.fts_cursor.proofs.AloneLemmas.{alone-continues, alone-follows, once_kept, source_left}
 use Rattle.fts_cursor.proofs.TermsLemmas.{terms-continue}
 use Rattle.fts_cursor.proofs.tree.+tree.Goals as goal
 use Rattle.fts_cursor.proofs.tree.+tree.Goals.{buffered_union::seek_each-in-Some, buffered_union::seek_each-in_default}
@@ -272,6 +273,45 @@ skip-returns-in-Without-clause-now t c =
     (ap (filter test) (c.seek-in-Without.ensures.remaining ∙ ap (λ s. at_least c.args.target s.remaining) c.deref_mut-in-Without.ensures.value)
     ∙ filter-at_least c.args.target test c.in-Without.parts.kept.value.remaining
     ∙ ap (λ n. at_least c.args.target (tree_value n).remaining) (sym c.in-Without.is))
+
+pub skip-returns-in-Filtered-clause-now : goal.skip-returns-in-Filtered-clause-now
+skip-returns-in-Filtered-clause-now t c =
+    let f = c.in-Filtered.filtered in
+    let test = has f.set in
+    filtered_now c.settle-in-Filtered.result _ _ c.settle-in-Filtered.ensures.settled
+    (c.settle-in-Filtered.ensures.same
+    ∙ ap (λ (s : TreeValue). filter test s.remaining) c.deref_mut-in-Filtered-2.ensures.value
+    ∙ ap (filter test) (c.seek-in-Filtered.ensures.remaining ∙ ap (λ s. at_least c.args.target s.remaining) c.deref_mut-in-Filtered.ensures.value)
+    ∙ filter-at_least c.args.target test f.tree.value.remaining
+    ∙ ap (λ n. at_least c.args.target (tree_value n).remaining) (sym c.in-Filtered.is))
+
+pub skip-returns-in-Filtered-clause-once : goal.skip-returns-in-Filtered-clause-once
+skip-returns-in-Filtered-clause-once t c =
+    let f = c.in-Filtered.filtered in
+    let test = has f.set in
+    let sought = c.seek-in-Filtered.new.self in
+    let after = c.settle-in-Filtered.new.tree in
+    let begins = c.deref_mut-in-Filtered.ensures.value in
+    let parts : FirstPasses test f.tree.value.remaining = rw c.in-Filtered.is at c.requires.1.parts in
+    let left : LeavesList f.tree.value = rw c.in-Filtered.is at c.requires.1.tied in
+    let still : FirstPasses test sought.remaining → after ≡ sought =
+    subst (λ (s : TreeValue). FirstPasses test s.remaining → after ≡ s) c.deref_mut-in-Filtered-2.ensures.value c.settle-in-Filtered.ensures.still in
+    rw c.in-Filtered.is (once_kept c.args.target test f.tree.value sought after parts left
+    (subst (λ (s : TreeValue). OpensOnce c.args.target s.standing sought.standing) begins c.seek-in-Filtered.ensures.once)
+    (c.seek-in-Filtered.ensures.remaining ∙ ap (λ s. at_least c.args.target s.remaining) begins)
+    (c.settle-in-Filtered.ensures.same ∙ ap (λ (s : TreeValue). filter test s.remaining) c.deref_mut-in-Filtered-2.ensures.value) still)
+
+pub step-returns-in-Filtered-clause-now : goal.step-returns-in-Filtered-clause-now
+step-returns-in-Filtered-clause-now t c =
+    let f = c.in-Filtered.filtered in
+    let test = has f.set in
+    let parts : FirstPasses test f.tree.value.remaining = rw c.in-Filtered.is at c.requires.1.parts in
+    filtered_now c.settle-in-Filtered.result _ _ c.settle-in-Filtered.ensures.settled
+    (c.settle-in-Filtered.ensures.same
+    ∙ ap (λ (s : TreeValue). filter test s.remaining) c.deref_mut-in-Filtered-2.ensures.value
+    ∙ ap (filter test) (c.advance-in-Filtered.ensures.remaining ∙ ap (λ s. drop 1 s.remaining) c.deref_mut-in-Filtered.ensures.value)
+    ∙ filter-step test f.tree.value.remaining parts
+    ∙ ap (λ n. drop 1 (tree_value n).remaining) (sym c.in-Filtered.is))
 
 pub step-returns-in-Postings-clause-now : goal.step-returns-in-Postings-clause-now
 step-returns-in-Postings-clause-now t c =

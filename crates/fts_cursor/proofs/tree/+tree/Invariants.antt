@@ -1,5 +1,8 @@
 -- Each cursor is deeper than its parts, so a call on a part goes down.
 use Rattle.std.proofs.Common.{◌≡◌, ◌+◌, ◌*◌, max, length}
+use Rattle.std.specs.List.{filter}
+use Rattle.fts_postings.specs.Sets.{FirstPasses, has}
+use Rattle.fts_cursor.specs.Standing.{Walked}
 use Rattle.fts_cursor.specs.TreeValues.{TreeContinues, heights}
 use Rattle.fts_cursor.specs.Trees.{differ, meet, tree_value}
 use Rattle.fts_cursor.specs.declared.tree.Node.TheVariants.{And, Without}
@@ -25,6 +28,9 @@ decreases-intersection::align l = 8 * max l.parts.now.lead.value.height (heights
 abbrev pub decreases-exclusion::settle : goal.decreases-exclusion::settle
 decreases-exclusion::settle l = 8 * max l.parts.now.kept.value.height l.parts.now.dropped.value.height + 5
 
+abbrev pub decreases-filtered_tree::settle : goal.decreases-filtered_tree::settle
+decreases-filtered_tree::settle l = 8 * l.tree.now.height + 5
+
 abbrev pub decreases-intersection::bring : goal.decreases-intersection::bring
 decreases-intersection::bring l = 8 * heights l.others.now + 3
 
@@ -48,6 +54,17 @@ invariant-exclusion::settle-loop-doc l = record {
 
 abbrev pub decreases-exclusion::settle-loop-doc : goal.decreases-exclusion::settle-loop-doc
 decreases-exclusion::settle-loop-doc l = length l.parts.kept.value.remaining
+
+abbrev pub invariant-filtered_tree::settle-loop-doc : goal.invariant-filtered_tree::settle-loop-doc
+invariant-filtered_tree::settle-loop-doc l = record {
+  same : filter (has l.set) l.tree.remaining ≡ filter (has l.set) l.initial.tree.remaining;
+  walked : Walked l.initial.tree.standing l.tree.standing;
+  height : l.tree.height ≡ l.initial.tree.height;
+  still : FirstPasses (has l.set) l.initial.tree.remaining → l.tree ≡ l.initial.tree;
+}
+
+abbrev pub decreases-filtered_tree::settle-loop-doc : goal.decreases-filtered_tree::settle-loop-doc
+decreases-filtered_tree::settle-loop-doc l = length l.tree.remaining
 
 abbrev pub invariant-intersection::bring-loop-other : goal.invariant-intersection::bring-loop-other
 invariant-intersection::bring-loop-other l = NarrowedUpTo l.doc l.initial.others l.others l.other-index

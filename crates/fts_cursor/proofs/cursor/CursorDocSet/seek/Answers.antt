@@ -6,14 +6,14 @@ use Rattle.fts_cursor.specs.Live.{IsSettled, of_live}
 use Rattle.fts_postings.specs.Remaining.{at_least}
 use Rattle.fts_postings.proofs.SetLemmas.{filter-at_least}
 use Rattle.fts_cursor.specs.Standing.{OpensOnce, Standing}
-use Rattle.fts_cursor.proofs.AloneLemmas.{once_live}
+use Rattle.fts_cursor.proofs.AloneLemmas.{once_kept}
 use Rattle.fts_cursor.proofs.cursor.CursorDocSet.seek.Goals as goal
 
 pub returns-in-Some-clause-once : goal.returns-in-Some-clause-once
 returns-in-Some-clause-once c =
     let old = c.self.inside.tree in
     let settled : IsSettled (Some c.in-Some.live) old.standing = rw c.in-Some.is at c.self.invariant in
-    let once = once_live c.args.target c.in-Some.live old c.seek.new.self c.settle.new.tree settled c.seek.ensures.left c.seek.ensures.once
+    let once = once_kept c.args.target (is_live c.in-Some.live.now) old c.seek.new.self c.settle.new.tree settled c.seek.ensures.left c.seek.ensures.once
     c.seek.ensures.remaining c.settle.ensures.remaining c.settle.ensures.still in
     subst (λ (s : Standing). OpensOnce c.args.target s (of_live c.self.inside.live c.settle.new.tree.standing)) c.self.view_is
     (rw c.in-Some.is once)

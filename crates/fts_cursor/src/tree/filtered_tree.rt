@@ -1,0 +1,54 @@
+// The documents of a tree that are of a set.
+ghost use Rattle.std.specs.Prelude.{◌≡◌, ℕ, Option, filter};
+ghost use Rattle.fts_postings.specs.Sets.{FirstPasses, has};
+ghost use Rattle.fts_postings.specs.Takes.{Takes};
+ghost use Rattle.fts_cursor.specs.Standing.{Walked};
+ghost use Rattle.fts_cursor.specs.Trees.{IsSettledAt, StandsAt, kept, tree_value};
+
+use crate::tree::{Node, Tree};
+use fts_sets::DocIdSet;
+
+// The documents of a tree that are of a set. The tree is at the first of these.
+#[cycle(tree)]
+#[derive(Drop)]
+pub(crate) struct FilteredTree<'a> {
+    pub(crate) tree: Box<Tree<'a>>,
+    pub(crate) set: DocIdSet<'a>,
+}
+
+/// Passes over documents of a tree that aren't of a set, and returns the first that is.
+#[cycle(tree)]
+pub(crate) fn settle(tree: &mut Tree, set: &DocIdSet) -> Option<u32>
+    ensures same { filter (has set.now) tree.new.remaining ≡ filter (has set.now) tree.old.remaining }
+    ensures settled { IsSettledAt result (has set.now) tree.new }
+    ensures walked { Walked tree.old.standing tree.new.standing }
+    ensures height { tree.new.height ≡ tree.old.height }
+    ensures still { FirstPasses (has set.now) tree.old.remaining → tree.new ≡ tree.old }
+{
+    while let Some(doc) = tree.doc() {
+        if set.has(doc as usize) {
+            return Some(doc);
+        }
+        tree.advance();
+    }
+    None
+}
+
+/// Takes some of the next documents of the tree, and keeps those that are of the set: the first is, so at least one is
+/// kept if any remains. Returns how many these are, and the next document.
+#[cycle(take)]
+pub(crate) fn take_filtered(
+    filtered: &mut FilteredTree,
+    out: &mut [u32; 128],
+) -> (usize, Option<u32>)
+    requires { (doc : Option ℕ) × StandsAt doc (Node.Filtered filtered.old) }
+    ensures taken { Takes (kept filtered.old) (kept filtered.new) out.new result.0 }
+    ensures stands { StandsAt result.1 (Node.Filtered filtered.new) }
+    ensures walked { Walked (tree_value (Node.Filtered filtered.old)).standing
+        (tree_value (Node.Filtered filtered.new)).standing }
+{
+    let taken = filtered.tree.take(out);
+    let kept = filtered.set.retain(0, taken, out);
+    let next = settle(&mut filtered.tree, &filtered.set);
+    (kept, next)
+}
