@@ -2,7 +2,7 @@
 use Rattle.std.proofs.Common.{◌≡◌, ◌≢◌, ℕ, ◌+◌, ◌<◌, ◌≤◌, Bool, true, false, not, ◌&&◌, Option, None, List, [], ◌∷◌, ◌++◌, length, map, take, get_or, refl}
 use Rattle.std.proofs.Common.{sym, ap, ap₂, subst, ◌∙◌, inl, inr, arith}
 use Rattle.std.specs.Prelude.{if◌then◌else◌}
-use Rattle.std.specs.List.{AllZip, filter, list_all}
+use Rattle.std.specs.List.{filter, list_all}
 use Rattle.std.proofs.lemmas.Bool.{and_parts, false≢true}
 use Rattle.std.proofs.lemmas.List.{length-map, map-append, take_more}
 use Rattle.fts_model.specs.declared.operation.Term.{Term}
@@ -22,13 +22,13 @@ use Rattle.fts_cursor.specs.Most.{Opens, are_mixed, are_terms, is_free, hits_eac
 use Rattle.fts_cursor.specs.Hits.{segment_hits}
 use Rattle.fts_cursor.specs.Openings.{bound_for_musts, bound_of_all}
 use Rattle.fts_cursor.specs.Standing.{Standing, Walked, at_most}
-use Rattle.fts_cursor.specs.TreeValues.{TreeValue, all_most, remains}
+use Rattle.fts_cursor.specs.TreeValues.{TreeValue, remains}
 use Rattle.fts_postings.specs.Bounds.{Bound, most_at}
-use Rattle.fts_postings.specs.Sets.{common, union}
-use Rattle.fts_cursor.proofs.BoolHits.{all_kept, kept_by, must_hits, should_hits}
+use Rattle.fts_postings.specs.Sets.{union}
+use Rattle.fts_cursor.proofs.BoolHits.{all_kept, kept_by, should_hits}
 use Rattle.fts_cursor.proofs.HitsLemmas.{hits_of}
 use Rattle.fts_cursor.proofs.LeadingLemmas.{all_hits}
-use Rattle.fts_cursor.proofs.MostLemmas.{all_most-for, are_all_terms, hits_are_each}
+use Rattle.fts_cursor.proofs.MostLemmas.{are_all_terms, hits_are_each}
 
 -- one with must-nots
 pub opens_without : (segment : SegmentValue) (query : QueryValue) (must should : QueryValues) (dropped : List Query) (s : Standing) →
