@@ -25,9 +25,7 @@ OF_A_SUBJECT = {
     "fts_c": {"codes", "maintenance", "searchers"},
     "fts_cli": {"parser"},
     "fts_collect": {"collector", "searches", "walk"},
-    "fts_cursor": {
-        "any", "filter", "hit_sets", "list_union", "phrase", "query_tree", "term_lists", "tree/live",
-    },
+    "fts_cursor": {"any", "filter", "hit_sets", "list_union", "phrase", "query_tree", "term_lists"},
     "fts_engine_local": {"local_policy"},
     "fts_index": {"merges", "publications/left_right_rule", "publications/publication_log"},
     "fts_merge": {"live_strike", "merge_plan", "segment_merge"},

@@ -1,5 +1,5 @@
 -- The documents of a Boolean query, by those of the queries in it, and those of which all bits are set.
-use Rattle.std.proofs.Common.{◌≡◌, ℕ, zero, suc, ◌+◌, ◌<◌, ◌≤◌, ◌==◌, Bool, true, false, not, ◌&&◌, ◌||◌, List, [], ◌∷◌, ◌++◌, drop, get_or, length, map, take}
+use Rattle.std.proofs.Common.{◌≡◌, ℕ, zero, suc, ◌+◌, ◌<◌, ◌≤◌, ◌==◌, Bool, true, false, not, ◌&&◌, ◌||◌, List, [], ◌∷◌, ◌++◌, get_or, length, map, take}
 use Rattle.std.proofs.Common.{refl, sym, ap, ap₂, subst, ◌∙◌, inl, inr, arith}
 use Rattle.std.specs.Prelude.{if◌then◌else◌}
 use Rattle.std.specs.List.{AllZip, list_all, list_any}
@@ -18,10 +18,9 @@ use Rattle.fts_pack.proofs.BitsLemmas.{each_set}
 use Rattle.fts_segment.specs.Segments.{SegmentValue, numbers_where}
 use Rattle.fts_segment.proofs.HoldingLemmas.{numbers_where-same}
 use Rattle.fts_cursor.specs.Hits.{is_live, live_hits, segment_hits}
-use Rattle.fts_postings.specs.Sets.{common, union, without}
-use Rattle.fts_cursor.specs.TreeValues.{TreeValue, remains}
+use Rattle.fts_postings.specs.Sets.{union, without}
 use Rattle.fts_postings.proofs.SetLemmas.{Rises-filter}
-use Rattle.fts_cursor.proofs.HitsLemmas.{Rises-numbers, has-all, hits_apart, hits_common, hits_of, hits_union, numbers_are, test_at}
+use Rattle.fts_cursor.proofs.HitsLemmas.{Rises-numbers, has-all, hits_apart, hits_of, hits_union, numbers_are, test_at}
 use Rattle.fts_sets.proofs.SetLemmas.{has-filter}
 
 -- all musts match, and where there is none one of the shoulds
@@ -70,16 +69,6 @@ all_kept segment (q ∷ qs) should some =
     numbers_where-same (λ (e : Stamped DocumentValue). list_all (matches_in segment.schema e.value) (q ∷ qs)) (kept_by segment.schema (q ∷ qs) should) 0
     segment.documents
     (λ k d inside. and_true (list_all (matches_in segment.schema (get_or segment.documents k d).value) (q ∷ qs)))
-
--- the musts, and nothing else
-pub must_hits : (segment : SegmentValue) (trees : List TreeValue) (must should : List Query) (out : List ℕ) → remains trees ≡ map (hits_of segment) must →
-    0 < length must →
-    ((first : TreeValue) (rest : List TreeValue) → trees ≡ first ∷ rest → out ≡ common first.remaining (remains rest)) →
-    out ≡ numbers_where (kept_by segment.schema must should) 0 segment.documents
-must_hits segment trees [] should out are some is = absurd (omega (arith, some))
-must_hits segment [] (q ∷ qs) should out are some is = absurd (omega (arith, ap length are))
-must_hits segment (s ∷ rest) (q ∷ qs) should out are some is =
-    is s rest refl ∙ ap₂ common (ap (λ l. get_or l 0 []) are) (ap (drop 1) are) ∙ hits_common segment q qs ∙ all_kept segment (q ∷ qs) should some
 
 -- what a Boolean query is
 abbrev pub IsBool : SegmentValue → Query → List Query → List Query → List Query → Type 0

@@ -1,13 +1,10 @@
 -- Those of some documents that are live, at the front of what they lay in.
-use Rattle.std.proofs.Common.{◌≡◌, ℕ, zero, suc, ◌+◌, ◌<◌, ◌≤◌, Bool, cond, List, [], ◌∷◌, ◌++◌, length, get_or, take, drop, sym, ap, ap₂, ◌∙◌}
-use Rattle.std.proofs.Common.{inl, inr, arith}
+use Rattle.std.proofs.Common.{◌≡◌, ℕ, zero, suc, ◌+◌, ◌<◌, ◌≤◌, Bool, cond, List, [], ◌∷◌, ◌++◌, length, take, drop, sym, ap, ap₂, ◌∙◌}
+use Rattle.std.proofs.Common.{arith}
 use Rattle.std.specs.List.{filter}
 use Rattle.std.proofs.Math.Seq.{drop-append_seam, take-append_seam}
-use Rattle.std.proofs.lemmas.Bool.{cases_Bool}
-use Rattle.std.proofs.lemmas.List.{length-append, take-append-drop, take_more}
+use Rattle.std.proofs.lemmas.List.{length-append, take-append-drop}
 use Rattle.std.proofs.lemmas.List.Elements.{filter-append}
-use mir.Val.{bool_byte}
-use Rattle.fts_sets.proofs.KeptLemmas.{byte_is}
 use Rattle.fts_postings.specs.Sets.{FirstPasses}
 use Rattle.fts_postings.specs.Takes.{Takes}
 use Rattle.fts_postings.proofs.CostLemmas.{length-filter-le}
@@ -52,15 +49,3 @@ live_split p n xs =
     let split : filter p xs ≡ filter p (take n xs) ++ filter p (drop n xs) =
     sym (ap (filter p) (take-append-drop n xs)) ∙ filter-append p (take n xs) (drop n xs) in
     omega (arith, ap length split, length-append (filter p (take n xs)) (filter p (drop n xs)))
-
--- one document more is counted
-pub live_more : (p : ℕ → Bool) (docs : List ℕ) (i x count more : ℕ) (b : Bool) → i < length docs → x ≡ get_or docs i x → b ≡ p x →
-    count ≡ length (filter p (take i docs)) → more ≡ count + bool_byte b → more ≡ length (filter p (take (i + 1) docs))
-live_more p docs i x count more b inside is test counted adds =
-    let whole : take (i + 1) docs ≡ take i docs ++ x ∷ [] = take_more docs i x inside ∙ ap (λ d. take i docs ++ d ∷ []) (sym is) in
-    let one : length (filter p (x ∷ [])) ≡ bool_byte b = elim (cases_Bool (p x)) [
-      | inl live ↦ ap (λ c. length (cond c (x ∷ []) [])) live ∙ sym (byte_is b ∙ ap (λ c. cond {A = ℕ} c 1 0) (test ∙ live))
-      | inr dead ↦ ap (λ c. length (cond c (x ∷ []) [])) dead ∙ sym (byte_is b ∙ ap (λ c. cond {A = ℕ} c 1 0) (test ∙ dead))
-    ] in
-    let split : filter p (take (i + 1) docs) ≡ filter p (take i docs) ++ filter p (x ∷ []) = ap (filter p) whole ∙ filter-append p (take i docs) (x ∷ []) in
-    omega (arith, counted, adds, one, ap length split, length-append (filter p (take i docs)) (filter p (x ∷ [])))

@@ -25,7 +25,7 @@ use Rattle.fts_cursor.specs.declared.phrase.Member.{Member}
 use Rattle.fts_cursor.specs.Builds.{IsCursorOf, IsMemberFor, is_term, text_term}
 use Rattle.fts_cursor.specs.Leading.{IsOver}
 use Rattle.fts_cursor.specs.Hits.{segment_hits}
-use Rattle.fts_cursor.specs.Most.{Opens, OpensRange, are_terms, hits_each, least_for, least_of_range, most_for, most_for_all, most_of_range}
+use Rattle.fts_cursor.specs.Most.{OpensRange, are_terms, hits_each, least_for, least_of_range, most_for, most_of_range}
 use Rattle.fts_cursor.specs.Openings.{shortest_of}
 use Rattle.fts_cursor.specs.Standing.{Standing, at_most}
 use Rattle.fts_cursor.specs.TreeValues.{TreeValue, all_most}
@@ -39,14 +39,6 @@ pub all_most-led : (parts : List TreeValue) (k : ℕ) (e : TreeValue) → k < le
 all_most-led [] k e inside = absurd (omega (arith, inside))
 all_most-led (p ∷ ps) zero e inside = refl
 all_most-led (p ∷ ps) (suc k) e inside = omega (arith, all_most-led ps k e (omega (arith, inside)))
-
--- the cursors of some queries open no more than is said of these
-pub all_most-for : (segment : SegmentValue) (trees : List TreeValue) (qs : List Query) → AllZip (λ t q. Opens segment (query_value q) t.standing) trees qs →
-    all_most trees ≤ most_for_all segment (query_list (map query_value qs))
-all_most-for segment [] [] h = omega arith
-all_most-for segment [] (q ∷ qs) h = absurd h
-all_most-for segment (t ∷ ts) [] h = absurd h
-all_most-for segment (t ∷ ts) (q ∷ qs) h = omega (arith, h.0.most, all_most-for segment ts qs h.1)
 
 -- queries of the code, and what they find
 pub are_all_terms : (qs : List Query) → are_terms (query_list (map query_value qs)) ≡ list_all (λ q. is_term (query_value q)) qs

@@ -11,7 +11,7 @@ use Rattle.std.specs.Option.{option_map_or}
 use Rattle.fts_model.specs.declared.operation.Stamped.{Stamped}
 use Rattle.fts_model.specs.Documents.{DocumentValue}
 use Rattle.fts_model.specs.declared.query.Query.{Query}
-use Rattle.fts_model.specs.QueryValues.{query_list, query_value}
+use Rattle.fts_model.specs.QueryValues.{query_value}
 use Rattle.fts_model.proofs.QueriesBoolean.{matches_in}
 use Rattle.fts_pack.specs.Documents.{Rises}
 use Rattle.fts_postings.specs.Bounds.{most_at}
@@ -21,10 +21,10 @@ use Rattle.fts_postings.proofs.UnionLemmas.{has-union}
 use Rattle.fts_segment.specs.Segments.{SegmentValue, numbers_where}
 use Rattle.fts_postings.proofs.PassingLemmas.{Rises-passing}
 use Rattle.fts_sets.proofs.SetLemmas.{filter-every, has-all_below, has-filter, same_members}
-use Rattle.fts_cursor.specs.Most.{most_for, most_for_all}
+use Rattle.fts_cursor.specs.Most.{most_for}
 use Rattle.fts_cursor.specs.Musts.{AreMusts}
 use Rattle.fts_cursor.specs.Tests.{hits_of_each}
-use Rattle.fts_cursor.specs.TreeValues.{TreeValue, all_most, remains}
+use Rattle.fts_cursor.specs.TreeValues.{TreeValue, remains}
 use Rattle.fts_cursor.proofs.HitsLemmas.{Rises-hits, Rises-numbers, has-all, hits_common, hits_of}
 use Rattle.fts_cursor.proofs.LeadLemmas.{hit_inside, one_of_them}
 use Rattle.fts_cursor.proofs.ShouldsLemmas.{most_push, most_with}

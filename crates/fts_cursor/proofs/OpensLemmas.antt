@@ -1,10 +1,10 @@
 -- What the cursor of a query opens, by the queries in it.
-use Rattle.std.proofs.Common.{◌≡◌, ◌≢◌, ℕ, ◌+◌, ◌<◌, ◌≤◌, Bool, true, false, not, ◌&&◌, Option, None, List, [], ◌∷◌, ◌++◌, length, map, take, get_or, refl}
+use Rattle.std.proofs.Common.{◌≡◌, ◌≢◌, ℕ, ◌+◌, ◌<◌, ◌≤◌, Bool, true, false, not, ◌&&◌, Option, None, List, [], ◌∷◌, length, map, refl}
 use Rattle.std.proofs.Common.{sym, ap, ap₂, subst, ◌∙◌, inl, inr, arith}
 use Rattle.std.specs.Prelude.{if◌then◌else◌}
-use Rattle.std.specs.List.{AllZip, filter, list_all}
+use Rattle.std.specs.List.{filter, list_all}
 use Rattle.std.proofs.lemmas.Bool.{and_parts, false≢true}
-use Rattle.std.proofs.lemmas.List.{length-map, map-append, take_more}
+use Rattle.std.proofs.lemmas.List.{length-map}
 use Rattle.fts_model.specs.declared.operation.Term.{Term}
 use Rattle.fts_model.specs.declared.query.Query.{Query}
 use Rattle.fts_model.specs.declared.query.Query.TheOpen.{Query-F}
@@ -22,13 +22,13 @@ use Rattle.fts_cursor.specs.Most.{Opens, are_mixed, are_terms, is_free, hits_eac
 use Rattle.fts_cursor.specs.Hits.{segment_hits}
 use Rattle.fts_cursor.specs.Openings.{bound_for_musts, bound_of_all}
 use Rattle.fts_cursor.specs.Standing.{Standing, Walked, at_most}
-use Rattle.fts_cursor.specs.TreeValues.{TreeValue, all_most, remains}
+use Rattle.fts_cursor.specs.TreeValues.{TreeValue}
 use Rattle.fts_postings.specs.Bounds.{Bound, most_at}
-use Rattle.fts_postings.specs.Sets.{common, union}
-use Rattle.fts_cursor.proofs.BoolHits.{all_kept, kept_by, must_hits, should_hits}
+use Rattle.fts_postings.specs.Sets.{union}
+use Rattle.fts_cursor.proofs.BoolHits.{all_kept, kept_by, should_hits}
 use Rattle.fts_cursor.proofs.HitsLemmas.{hits_of}
 use Rattle.fts_cursor.proofs.LeadingLemmas.{all_hits}
-use Rattle.fts_cursor.proofs.MostLemmas.{all_most-for, are_all_terms, hits_are_each}
+use Rattle.fts_cursor.proofs.MostLemmas.{are_all_terms, hits_are_each}
 
 -- one with must-nots
 pub opens_without : (segment : SegmentValue) (query : QueryValue) (must should : QueryValues) (dropped : List Query) (s : Standing) →
@@ -308,11 +308,3 @@ pub nothing_found : (segment : SegmentValue) (query : Query) → query ≡ varia
 nothing_found segment query is =
     sym (numbers_where-none (λ e. matches segment.schema e.value nothing) 0 segment.documents (λ k d inside. refl))
     ∙ ap (segment_hits segment) (sym (ap query_value is ∙ value_of_none))
-
--- one cursor more
-pub remains_more : (segment : SegmentValue) (trees : List TreeValue) (qs : List Query) (k : ℕ) (s : TreeValue) (q : Query) →
-    remains trees ≡ map (hits_of segment) (take k qs) → k < length qs → q ≡ get_or qs k q → s.remaining ≡ hits_of segment q →
-    remains (trees ++ s ∷ []) ≡ map (hits_of segment) (take (k + 1) qs)
-remains_more segment trees qs k s q are inside is hits =
-    map-append (λ (p : TreeValue). p.remaining) trees (s ∷ []) ∙ ap₂ (λ xs x. xs ++ x ∷ []) are hits ∙ sym (map-append (hits_of segment) (take k qs) (q ∷ []))
-    ∙ ap (map (hits_of segment)) (ap (λ z. take k qs ++ z ∷ []) is ∙ sym (take_more qs k q inside))

@@ -10,7 +10,7 @@ use Rattle.fts_postings.specs.Remaining.{at_least}
 use Rattle.fts_postings.specs.Sets.{IsLeast, has, in_all, union, with_all}
 use Rattle.fts_postings.specs.Conjoined.{IsAhead}
 use Rattle.fts_cursor.specs.Standing.{at_most}
-use Rattle.fts_cursor.specs.TreeValues.{Left, Narrowed, TreeContinues, TreeValue, above, beside, heights, remains, together}
+use Rattle.fts_cursor.specs.TreeValues.{Left, Narrowed, TreeContinues, TreeValue, beside, heights, remains, together}
 use Rattle.fts_postings.proofs.RemainingLemmas.{at_least-at_least, first-at_least}
 use Rattle.fts_postings.proofs.SetLemmas.{has-before_first, has-first, has-none, in_all-lacking, in_all-each, has-at_least}
 use Rattle.fts_postings.proofs.UnionLemmas.{at_least-with_all}
@@ -83,12 +83,6 @@ TreeContinues-beside a b s t before after h k = record {
     more = omega (arith, h.more, k.more);
   };
   height = omega (arith, h.height, k.height);
-}
-
-pub TreeContinues-above : (s t : TreeValue) (before after : List ℕ) → TreeContinues s t → TreeContinues (above s before) (above t after)
-TreeContinues-above s t before after h = record {
-  continues = record { bound = h.bound; list = h.list; more = h.more };
-  height = ap suc h.height;
 }
 
 pub TreeContinues-together : (R : TreeValue → TreeValue → Type 0) → ((s t : TreeValue) → R s t → TreeContinues s t) → (xs ys : List TreeValue) →

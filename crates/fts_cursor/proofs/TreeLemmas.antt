@@ -11,10 +11,7 @@ use Rattle.fts_postings.specs.Sets.{IsLeast, common, has, in_all, in_some, lacks
 use Rattle.fts_cursor.specs.Standing.{Standing, Walked}
 use Rattle.fts_cursor.specs.TreeValues.{Left, Narrowed, TreeContinues, TreeValue, all_most, all_openings, beside, remains, together}
 use Rattle.fts_postings.specs.Conjoined.{IsAhead}
-use Rattle.std.specs.Borrow.{Bor}
 use Rattle.std.proofs.lemmas.List.Kept.{IsStrictlyIncreasing-filter}
-use Rattle.fts_cursor.specs.Hits.{is_live}
-use Rattle.fts_cursor.specs.Live.{of_live}
 use Rattle.fts_cursor.specs.Trees.{IsNow, IsSettledAt, IsTiedNode, Met, PartsStand, StandsAt, differ, kept, meet, tree_value}
 use Rattle.fts_cursor.specs.declared.tree.exclusion.Exclusion.{Exclusion}
 use Rattle.fts_cursor.specs.declared.tree.filtered_tree.FilteredTree.{FilteredTree}
@@ -261,8 +258,3 @@ Walked-trans s t u h k = record {
   };
   whole = λ w. k.whole (h.whole w);
 }
-
--- what is live of a rising list rises
-pub live_rises : (live : Option (Bor (List Bool))) (s : Standing) → IsStrictlyIncreasing s.remaining → IsStrictlyIncreasing (of_live live s).remaining
-live_rises None s h = h
-live_rises (Some bits) s h = IsStrictlyIncreasing-filter (is_live bits.now) s.remaining h

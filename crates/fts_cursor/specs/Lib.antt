@@ -9,7 +9,6 @@ pub mod Trees
 pub mod Falls
 pub mod Ranges
 pub mod Hits
-pub mod Live
 pub mod Filters
 pub mod Splits
 pub mod Tests

@@ -6,8 +6,8 @@
 //!
 //! It is a tree of cursors, one for each query within the query. A term is a [`PostingCursor`] over its list, and terms
 //! that must all match are a [`Conjunction`] of these. A Boolean query whose hits bits and columns tell is one set,
-//! which is read by words; if they tell all but one term, the set filters the documents of its list. Ranges are read
-//! from columns, or from the lists of their numbers if these have few documents. Phrases read positions only in
+//! which is read by words; if they tell a part of it, the set filters the documents of the rest, as live bits do. Ranges
+//! are read from columns, or from the lists of their numbers if these have few documents. Phrases read positions only in
 //! documents that have all of their terms, and what must not match is asked for the documents that are left. Blocks
 //! that are opened are counted, and contracts bound the count.
 //!

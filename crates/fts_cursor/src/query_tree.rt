@@ -51,18 +51,32 @@ pub fn cursor_of<'a>(
     ensures opens { IfOk result (λ c. Opens segment.now (query_value query.now) c) }
     ensures memory { IsOkUnless result Refusal.Memory }
 {
-    match tree_of(alloc, segment, query) {
+    match live_tree(alloc, segment, live, query) {
         Err(AllocError) => Err(Refusal::Memory),
-        Ok(tree) => {
-            if live.is_all_set() {
-                return Ok(Cursor::all(tree));
-            }
-            match Cursor::live(tree, live) {
-                Err(AllocError) => Err(Refusal::Memory),
-                Ok(cursor) => Ok(cursor),
-            }
-        }
+        Ok(tree) => Ok(Cursor::new(tree)),
     }
+}
+
+/// The documents that match a query and whose bits are set.
+fn live_tree<'a>(
+    alloc: Global,
+    segment: &'a Segment,
+    live: &'a Bits,
+    query: &Query,
+) -> Result<Tree<'a>, AllocError>
+    requires bits { length live.now ≡ length segment.now.documents }
+    requires fits { query_fits segment.now.schema (query_value query.now) ≡ true }
+    ensures hits { IfOk result
+        (λ t. t.remaining ≡ live_hits segment.now live.now (query_value query.now)) }
+    ensures opens { IfOk result (λ t. Opens segment.now (query_value query.now) t.standing) }
+{
+    let tree = tree_of(alloc, segment, query)?;
+    if live.is_all_set() {
+        return Ok(tree);
+    }
+    // Shows the proof that the documents are few.
+    let _ = segment.docs();
+    tree.cut(alloc, live)
 }
 
 /// The documents that match a query.

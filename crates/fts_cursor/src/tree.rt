@@ -19,14 +19,13 @@ mod buffered_union;
 mod exclusion;
 mod filtered_tree;
 mod intersection;
-mod live;
 
 use crate::filter::FilterCursor;
 use crate::list_union::ListedCursor;
 use crate::phrase::PhraseCursor;
 use buffered_union::{BufferedUnion, count_gathered, gather, refill, take_gathered};
 use exclusion::{Exclusion, settle, take_without};
-use filtered_tree::{FilteredTree, take_filtered};
+use filtered_tree::{FilteredTree, count_kept, take_filtered};
 use fts_pack::bits::Bits;
 use fts_pack::{ListRef, ListSource};
 use fts_postings::{Conjunction, DocSet, PostingCursor, Window};
@@ -247,8 +246,23 @@ impl<'a> Tree<'a> {
         Tree::of(alloc, doc, Node::Filtered(FilteredTree { tree, set }))
     }
 
-    /// Leaves only those of the remaining documents whose bit is set, if words give both, and returns whether it did.
-    pub(crate) fn cut(&mut self, live: &'a Bits) -> Result<bool, AllocError>
+    /// The tree of the remaining documents whose bit is set.
+    pub(crate) fn cut(self, alloc: Global, live: &'a Bits) -> Result<Tree<'a>, AllocError>
+        requires { length live.now ≤ 2 ^ 32 }
+        ensures remaining { IfOk result (λ t. t.remaining ≡ filter (is_live live.now) self.entry.remaining) }
+        ensures walked { IfOk result (λ t. Walked self.entry.standing t.standing) }
+    {
+        let mut tree = self;
+        if tree.cut_set(live)? {
+            return Ok(tree);
+        }
+        let mut set = DocIdSet::every(alloc, live.len());
+        set.with(Leaf::Set(live))?;
+        Tree::filtered(alloc, tree, set)
+    }
+
+    /// Leaves only those of the remaining documents whose bit is set, if a set tells these, and returns whether it did.
+    fn cut_set(&mut self, live: &'a Bits) -> Result<bool, AllocError>
         ensures cut { IfOk result (λ did. did ≡ true
             → self.new.remaining ≡ filter (is_live live.now) self.old.remaining) }
         ensures uncut { IfOk result (λ did. did ≡ false → self.new.remaining ≡ self.old.remaining) }
@@ -361,12 +375,11 @@ impl<'a> Tree<'a> {
         }
     }
 
-    /// Passes the documents below the target. Contracts learn here what remained of a list alone.
+    /// Passes the documents below the target.
     #[cycle(tree)]
     pub(crate) fn seek(&mut self, target: u32)
         ensures remaining { self.new.remaining ≡ at_least target self.old.remaining }
         ensures continues { TreeContinues self.old self.new }
-        ensures left { LeavesList self.old }
         ensures once { OpensOnce target self.old.standing self.new.standing }
     {
         let Source::Cursor(node) = &mut self.source else {
@@ -393,6 +406,7 @@ impl<'a> Tree<'a> {
             Node::Scan(scan, _) => scan.count(),
             Node::Postings(postings) => postings.count(),
             Node::Or(buffered) => count_gathered(buffered, self.doc),
+            Node::Filtered(filtered) => count_kept(&mut filtered.tree, &filtered.set),
             _ => return None,
         };
         self.doc = None;

@@ -1,5 +1,5 @@
 // The documents of a tree that are of a set.
-ghost use Rattle.std.specs.Prelude.{◌≡◌, ℕ, Option, filter};
+ghost use Rattle.std.specs.Prelude.{◌≡◌, ℕ, ◌-◌, ◌^◌, None, Option, filter, length, min};
 ghost use Rattle.fts_postings.specs.Sets.{FirstPasses, has};
 ghost use Rattle.fts_postings.specs.Takes.{Takes};
 ghost use Rattle.fts_cursor.specs.Standing.{Walked};
@@ -51,4 +51,20 @@ pub(crate) fn take_filtered(
     let kept = filtered.set.retain(0, taken, out);
     let next = settle(&mut filtered.tree, &filtered.set);
     (kept, next)
+}
+
+/// How many documents of a tree are of a set, or the greatest `usize`. Passes all.
+pub(crate) fn count_kept(tree: &mut Tree, set: &DocIdSet) -> usize
+    ensures count { result ≡ min (2 ^ 64 - 1) (length (filter (has set.now) tree.old.remaining)) }
+    ensures ended { IsSettledAt None (has set.now) tree.new }
+    ensures walked { Walked tree.old.standing tree.new.standing }
+{
+    let mut docs = [0; 128];
+    let mut count = 0usize;
+    while let Some(_first) = tree.doc() {
+        let taken = tree.take(&mut docs);
+        let kept = set.retain(0, taken, &mut docs);
+        count = count.saturating_add(kept);
+    }
+    count
 }

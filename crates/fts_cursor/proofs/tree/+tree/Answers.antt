@@ -22,26 +22,10 @@ use Rattle.fts_postings.proofs.RemainingLemmas.{nothing_first}
 use Rattle.fts_postings.proofs.UnionLemmas.{IsLeast-none, IsLeast-some}
 use Rattle.fts_cursor.proofs.TreeLemmas.{IsNow-first, IsNow-met, Left-seek, LeftUpTo-next, Met-end, exclusion-here, exclusion-passed, intersection-continues}
 use Rattle.fts_cursor.proofs.TreeLemmas.{filtered_now, intersection-fewer, intersection-here, intersection-none, intersection-sought, stays_from_first}
-use Rattle.fts_cursor.proofs.AloneLemmas.{alone-continues, alone-follows, once_kept, source_left}
+use Rattle.fts_cursor.proofs.AloneLemmas.{alone-continues, alone-follows, once_kept}
 use Rattle.fts_cursor.proofs.TermsLemmas.{terms-continue}
 use Rattle.fts_cursor.proofs.tree.+tree.Goals as goal
 use Rattle.fts_cursor.proofs.tree.+tree.Goals.{buffered_union::seek_each-in-Some, buffered_union::seek_each-in_default}
-
-pub Tree::seek-returns-else-doc-target-clause-left : goal.Tree::seek-returns-else-doc-target-clause-left
-Tree::seek-returns-else-doc-target-clause-left t c =
-    subst LeavesList c.self.view_is (source_left c.self.inside.doc c.self.inside.source c.self.invariant.stands)
-
-pub Tree::seek-returns-in_default-clause-left : goal.Tree::seek-returns-in_default-clause-left
-Tree::seek-returns-in_default-clause-left t c =
-    subst LeavesList c.self.view_is (source_left c.self.inside.doc c.self.inside.source c.self.invariant.stands)
-
-pub Tree::seek-returns-in_default-doc-clause-left : goal.Tree::seek-returns-in_default-doc-clause-left
-Tree::seek-returns-in_default-doc-clause-left t c =
-    subst LeavesList c.self.view_is (source_left c.self.inside.doc c.self.inside.source c.self.invariant.stands)
-
-pub Tree::seek-returns-then-doc-target-clause-left : goal.Tree::seek-returns-then-doc-target-clause-left
-Tree::seek-returns-then-doc-target-clause-left t c =
-    subst LeavesList c.self.view_is (source_left c.self.inside.doc c.self.inside.source c.self.invariant.stands)
 
 pub Tree::seek-returns-else-doc-target-clause-remaining : goal.Tree::seek-returns-else-doc-target-clause-remaining
 Tree::seek-returns-else-doc-target-clause-remaining t c =

@@ -1,21 +1,21 @@
--- Each turn counts what is taken.
-use Rattle.std.proofs.Common.{◌≡◌, [], length, take, sym, ap, ◌∙◌, arith}
+-- Each turn counts what is kept of what is taken.
+use Rattle.std.proofs.Common.{◌≡◌, [], length, take, sym, ap, subst, ◌∙◌, arith}
 use Rattle.std.specs.List.{filter}
 use Rattle.std.proofs.lemmas.List.{length-drop}
 use Rattle.std.proofs.lemmas.Option.{slice_get_within}
 use Rattle.fts_postings.proofs.RemainingLemmas.{nothing_first}
-use Rattle.fts_cursor.specs.Hits.{is_live}
+use Rattle.fts_postings.specs.Sets.{FirstPasses, has}
 use Rattle.fts_cursor.proofs.LiveLemmas.{live_split}
 use Rattle.fts_cursor.proofs.TreeLemmas.{Walked-trans}
-use Rattle.fts_cursor.proofs.tree.live.count_taken.Goals as goal
+use Rattle.fts_cursor.proofs.tree.filtered_tree.count_kept.Goals as goal
 
 pub loop-first-preserved : goal.loop-first-preserved
 loop-first-preserved c =
-    let test = is_live c.args.live.now in
+    let test = has c.args.set.now in
     let before = c.loop-first.tree.remaining in
     let n = c.take-taken.result in
     let t = c.take-taken.ensures.taken in
-    let here : c.count_among-here.result ≡ length (filter test (take n before)) = c.count_among-here.ensures ∙ ap (λ xs. length (filter test xs)) t.taken in
+    let here : c.retain-kept.result ≡ length (filter test (take n before)) = c.retain-kept.ensures.size ∙ ap (λ xs. length (filter test xs)) t.taken in
     record {
       sum = omega (
         arith,
@@ -37,12 +37,17 @@ loop-first-smaller c =
     omega (arith, ap length t.left_is, length-drop c.take-taken.result before, t.some some, some)
 
 -- nothing remains
-behind : (c : goal.In_default) → c.loop-first.tree.remaining ≡ []
-behind c = nothing_first c.loop-first.tree.remaining (sym c.in_default.is ∙ c.doc.ensures.first)
+none_left : (c : goal.In_default) → c.loop-first.tree.remaining ≡ []
+none_left c = nothing_first c.loop-first.tree.remaining (sym c.in_default.is ∙ c.doc.ensures.first)
 
 pub returns-clause-count : goal.returns-clause-count
 returns-clause-count c =
-    omega (arith, c.loop-first.invariant.sum, ap (λ xs. length (filter (is_live c.args.live.now) xs)) (behind c), c.loop-first.invariant.fits)
+    omega (arith, c.loop-first.invariant.sum, ap (λ xs. length (filter (has c.args.set.now) xs)) (none_left c), c.loop-first.invariant.fits)
 
-pub returns-clause-none : goal.returns-clause-none
-returns-clause-none c = behind c
+pub returns-clause-ended : goal.returns-clause-ended
+returns-clause-ended c = record {
+  first = sym c.in_default.is ∙ c.doc.ensures.first;
+  passes = subst (FirstPasses (has c.args.set.now)) (sym (none_left c)) tt;
+  rises = c.doc.ensures.rises;
+  left = c.doc.ensures.left;
+}
