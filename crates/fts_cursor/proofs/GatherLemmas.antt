@@ -1,11 +1,11 @@
 -- A disjunction: the documents of its window, and what remains of its parts after it.
 use Rattle.std.proofs.Common.{◌≡◌, ℕ, zero, suc, ◌+◌, ◌-◌, ◌<◌, ◌≤◌, All, Bool, true, false, cond, ◌||◌, ◌&&◌, ◌==◌, nat_le, Option, Some, None, List, [], ◌∷◌}
 use Rattle.std.proofs.Common.{◌++◌, length, get_or, set, take, drop, refl, sym, ap, ap₂, subst, ◌∙◌, inl, inr, arith}
-use Rattle.std.specs.List.{AllZip, slice_get}
+use Rattle.std.specs.List.{AllZip, filter, slice_get}
 use Rattle.std.specs.List.Sorted.{IsStrictlyIncreasing}
 use Rattle.std.proofs.lemmas.Bool.{cases_Bool, cases_lt, le-leb, lt-leb, false≢true}
 use Rattle.std.proofs.lemmas.List.{drop-append-le, length-append, take-append-drop, take-append-le, take_more, take_all, map-append}
-use Rattle.std.proofs.lemmas.List.Elements.{All-drop}
+use Rattle.std.proofs.lemmas.List.Elements.{All-drop, filter-append}
 use Rattle.std.proofs.lemmas.List.Folds.{list_any-append}
 use Rattle.std.proofs.lemmas.Option.{slice_get_within}
 use Rattle.std.proofs.Math.Bool.{and-false, or-false, or_assoc}
@@ -319,6 +319,26 @@ gathered_count doc next w lists later count is h counted left =
     ap length (apart w lists h.beyond) ∙ length-append (found w) (union lists) in
     let behind : length later ≡ length (union lists) = ap length (left ∙ at_least_all 0 0 (union lists) (Rises-union lists) (omega arith)) in
     (omega (arith, some, counted), omega (arith, all, behind, counted))
+
+-- among these, as many pass as in the window and in the parts together
+pub gathered_passing : (p : ℕ → Bool) (doc : ℕ) (next : Option ℕ) (w : Window) (lists : List (List ℕ)) (later : List ℕ) (count : ℕ) → next ≡ Some doc →
+    IsBuffered next w lists → count ≡ length (filter p (found w)) → later ≡ at_least 0 (union lists)
+    → (length later < length (union (found w ∷ lists))) × (count + length (filter p later) ≡ length (filter p (union (found w ∷ lists))))
+gathered_passing p doc next w lists later count is h counted left =
+    let whole = gathered_count doc next w lists later (length (found w)) is h refl left in
+    let behind : later ≡ union lists = left ∙ at_least_all 0 0 (union lists) (Rises-union lists) (omega arith) in
+    let all : filter p (union (found w ∷ lists)) ≡ filter p (found w) ++ filter p (union lists) =
+    ap (filter p) (apart w lists h.beyond) ∙ filter-append p (found w) (union lists) in (
+      omega (arith, whole.0, whole.1),
+      omega (
+        arith,
+        counted,
+        ap (λ xs. length (filter p xs)) behind,
+        ap length all,
+        length-append (filter p (found w))
+            (filter p (union lists)),
+      ),
+    )
 
 some_first : (xs ys : List ℕ) → slice_get xs 0 ≡ slice_get ys 0 → 0 < length xs → 0 < length ys
 some_first [] ys is some = absurd (omega (arith, some))

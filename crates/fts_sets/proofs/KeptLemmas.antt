@@ -6,7 +6,7 @@ use Rattle.std.specs.List.{filter}
 use Rattle.std.proofs.Math.Seq.{take-append_seam}
 use Rattle.std.proofs.lemmas.Bool.{and_parts, cases_Bool, cases_lt, false≢true, le-ltb, lt-ltb}
 use Rattle.std.proofs.lemmas.Grind.{get_or_default_zero}
-use Rattle.std.proofs.lemmas.List.{drop-set-lt, length-set, length-take-le, take-append-drop, take-set-le, take-take}
+use Rattle.std.proofs.lemmas.List.{drop-set-lt, length-append, length-set, length-take-le, take-append-drop, take-set-le, take-take, take_more}
 use Rattle.std.proofs.lemmas.List.Elements.{filter-append}
 use Rattle.std.proofs.lemmas.List.Folds.{list_all-append, list_all_more}
 use Rattle.std.proofs.lemmas.List.Filters.{FiltersInPlace, FiltersInPlace-more_no, FiltersInPlace-more_set}
@@ -213,3 +213,15 @@ module _ (docs : ℕ) (all : List Leaf) (any : List (Vec Leaf)) (none : List Lea
 
       pub kept_told : (four : List ℕ) (n : ℕ) → IsKept (λ d. not (one_has none d)) from e three four n → IsKept (has now) from end old four n
       kept_told four n fourth = kept_agree (is_told docs all any none) (has now) told from end old four n (kept_both some gone (is_told docs all any none) (λ d. refl) from end old passed room order three four e n those fourth)
+
+-- one document more is counted
+pub counted_more : (p : ℕ → Bool) (docs : List ℕ) (i x count more : ℕ) (b : Bool) → i < length docs → x ≡ get_or docs i x → b ≡ p x →
+    count ≡ length (filter p (take i docs)) → more ≡ count + bool_byte b → more ≡ length (filter p (take (i + 1) docs))
+counted_more p docs i x count more b inside is test counted adds =
+    let whole : take (i + 1) docs ≡ take i docs ++ x ∷ [] = take_more docs i x inside ∙ ap (λ d. take i docs ++ d ∷ []) (sym is) in
+    let one : length (filter p (x ∷ [])) ≡ bool_byte b = elim (cases_Bool (p x)) [
+      | inl passes ↦ ap (λ c. length (cond c (x ∷ []) [])) passes ∙ sym (byte_is b ∙ ap (λ c. cond {A = ℕ} c 1 0) (test ∙ passes))
+      | inr fails ↦ ap (λ c. length (cond c (x ∷ []) [])) fails ∙ sym (byte_is b ∙ ap (λ c. cond {A = ℕ} c 1 0) (test ∙ fails))
+    ] in
+    let split : filter p (take (i + 1) docs) ≡ filter p (take i docs) ++ filter p (x ∷ []) = ap (filter p) whole ∙ filter-append p (take i docs) (x ∷ []) in
+    omega (arith, counted, adds, one, ap length split, length-append (filter p (take i docs)) (filter p (x ∷ [])))

@@ -162,10 +162,8 @@ impl<'a> DocIdSet<'a> {
 
     /// How many documents there are: their number, if bits alone tell them, otherwise about their number, by a sample.
     pub fn estimate(&self) -> usize {
-        if self.any.is_empty() && self.none.is_empty() && self.all.len() == 1 {
-            if let Leaf::Set(bits) = &self.all[0] {
-                return bits.count_ones();
-            }
+        if let Some(bits) = self.bits() {
+            return bits.count_ones();
         }
         // An odd step, so that a sample doesn't follow what alternates.
         let step = self.docs / SAMPLE | 1;
@@ -175,6 +173,36 @@ impl<'a> DocIdSet<'a> {
             found = found.saturating_add(usize::from(hit));
         }
         found.saturating_mul(step)
+    }
+
+    /// The bits that alone tell the documents, if there are such.
+    pub fn bits(&self) -> Option<&'a Bits>
+        ensures { IfSome result (λ bits. (d : ℕ) → has self.now d ≡ is_set bits.now d) }
+    {
+        if !self.any.is_empty() || !self.none.is_empty() || self.all.len() != 1 {
+            return None;
+        }
+        if !retain::are_below(self.docs, &self.all) {
+            return None;
+        }
+        match self.all[0] {
+            Leaf::Set(bits) => Some(bits),
+            Leaf::Below(_) | Leaf::Within { .. } => None,
+        }
+    }
+
+    /// How many of some documents are of the set.
+    pub fn count_in(&self, docs: &[u32]) -> usize
+        ensures { result ≡ length (filter (has self.now) docs.now) }
+    {
+        if let Some(bits) = self.bits() {
+            return retain::count_set(bits, docs);
+        }
+        let mut count = 0;
+        for doc in docs {
+            count += usize::from(self.has(*doc as usize));
+        }
+        count
     }
 
     /// How many documents have their bit set, if it is known since there is no test.

@@ -1,5 +1,5 @@
 // Keeps those of some documents that pass tests of their number: one test goes over all of them after the other.
-ghost use Rattle.std.specs.Prelude.{◌≡◌, ℕ, ◌≤◌, ◌&&◌, false, filter, nat_lt, not, take, true};
+ghost use Rattle.std.specs.Prelude.{◌≡◌, ℕ, ◌≤◌, ◌&&◌, false, filter, length, nat_lt, not, take, true};
 ghost use Rattle.fts_postings.specs.Windows.{is_set};
 ghost use Rattle.fts_sets.specs.Kept.{IsKept};
 ghost use Rattle.fts_sets.specs.Leaves.{all_have, each_has, leaf_has, one_has};
@@ -29,7 +29,7 @@ pub(crate) fn keep_below(
 }
 
 /// Whether what passes each of these is below a number, as one of the bits shows.
-fn are_below(count: usize, leaves: &[Leaf]) -> bool
+pub(crate) fn are_below(count: usize, leaves: &[Leaf]) -> bool
     ensures { result ≡ true → (d : ℕ) → all_have leaves.now d ≡ (nat_lt d count && all_have leaves.now d) }
 {
     for leaf in leaves {
@@ -94,6 +94,17 @@ pub fn keep_set(bits: &Bits, from: usize, end: usize, docs: &mut [u32; 128]) -> 
         kept += usize::from(bits.contains(doc as usize));
     }
     kept
+}
+
+/// How many of some documents have their bit set.
+pub(crate) fn count_set(bits: &Bits, docs: &[u32]) -> usize
+    ensures { result ≡ length (filter (is_set bits.now) docs.now) }
+{
+    let mut count = 0;
+    for doc in docs {
+        count += usize::from(bits.contains(*doc as usize));
+    }
+    count
 }
 
 /// As `keep`, by the test itself.

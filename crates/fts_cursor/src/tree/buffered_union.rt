@@ -1,11 +1,12 @@
 // What one of several cursors has: the next documents of all are marked in a window, which steps read off.
-ghost use Rattle.std.specs.Prelude.{◌≡◌, ℕ, ◌+◌, ◌-◌, ◌^◌, [], All, Option, length, min, slice_get};
+ghost use Rattle.std.specs.Prelude.{◌≡◌, ℕ, ◌+◌, ◌-◌, ◌^◌, [], All, Option, filter, length, min, slice_get};
 ghost use Rattle.std.specs.List.{AllZip};
 ghost use Rattle.std.specs.List.Sorted.{IsStrictlyIncreasing};
 ghost use Rattle.fts_postings.specs.Sets.{IsLeast, has, in_some, lesser_of, union};
 ghost use Rattle.fts_postings.specs.Posting.{Follows, remaining_of};
 ghost use Rattle.fts_postings.specs.Remaining.{at_least};
 ghost use Rattle.fts_postings.specs.Takes.{Takes};
+ghost use Rattle.fts_postings.specs.Windows.{is_set};
 ghost use Rattle.fts_cursor.specs.TreeValues.{Left, TreeContinues, remains};
 ghost use Rattle.fts_cursor.specs.Standing.{Walked};
 ghost use Rattle.fts_cursor.specs.Trees.{AreBeyond, IsNow, StandsAt, gathered, tree_value};
@@ -13,6 +14,7 @@ ghost use Rattle.fts_sets.specs.Rows.{AreMarked, found};
 
 use crate::tree::{Node, Source, Tree};
 use fts_pack::ListSource;
+use fts_pack::bits::Bits;
 use fts_postings::{DocSet, PostingCursor, Window};
 
 // What one of the parts has. The first documents are found already, and all parts come after the window of these.
@@ -67,6 +69,25 @@ pub(crate) fn count_gathered(buffered: &mut BufferedUnion, doc: Option<u32>) -> 
     let mut next = doc;
     while let Some(_first) = next {
         let here = buffered.window.count();
+        count = count.saturating_add(here);
+        next = refill(buffered, 0);
+    }
+    count
+}
+
+/// How many of the documents that remain have their bit set, or the greatest `usize`, by the words of the windows.
+/// `doc` is the first that remains. Passes all.
+pub(crate) fn count_set(buffered: &mut BufferedUnion, doc: Option<u32>, bits: &Bits) -> usize
+    requires { StandsAt doc (Node.Or buffered.old) }
+    ensures count { result ≡ min (2 ^ 64 - 1) (length (filter (is_set bits.now) (gathered buffered.old))) }
+    ensures now { IsNow None (Node.Or buffered.new) [] }
+    ensures walked { Walked (tree_value (Node.Or buffered.old)).standing
+        (tree_value (Node.Or buffered.new)).standing }
+{
+    let mut count = 0usize;
+    let mut next = doc;
+    while let Some(_first) = next {
+        let here = buffered.window.count_set(bits);
         count = count.saturating_add(here);
         next = refill(buffered, 0);
     }

@@ -1,11 +1,12 @@
 // The documents of a tree that are of a set.
-ghost use Rattle.std.specs.Prelude.{◌≡◌, ℕ, ◌-◌, ◌^◌, None, Option, filter, length, min};
+ghost use Rattle.std.specs.Prelude.{◌≡◌, ℕ, ◌+◌, ◌-◌, ◌^◌, None, Option, filter, length, min};
 ghost use Rattle.fts_postings.specs.Sets.{FirstPasses, has};
 ghost use Rattle.fts_postings.specs.Takes.{Takes};
 ghost use Rattle.fts_cursor.specs.Standing.{Walked};
 ghost use Rattle.fts_cursor.specs.Trees.{IsSettledAt, StandsAt, kept, tree_value};
 
-use crate::tree::{Node, Tree};
+use crate::tree::buffered_union::count_set;
+use crate::tree::{Node, Source, Tree};
 use fts_sets::DocIdSet;
 
 // The documents of a tree that are of a set. The tree is at the first of these.
@@ -59,11 +60,43 @@ pub(crate) fn count_kept(tree: &mut Tree, set: &DocIdSet) -> usize
     ensures ended { IsSettledAt None (has set.now) tree.new }
     ensures walked { Walked tree.old.standing tree.new.standing }
 {
+    let counted = count_windows(tree, set);
+    let rest = count_taken(tree, set);
+    counted.saturating_add(rest)
+}
+
+/// How many documents of a union are of a set, by the words of its windows, if bits alone tell the set. Passes what is
+/// counted.
+fn count_windows(tree: &mut Tree, set: &DocIdSet) -> usize
+    ensures sum { min (2 ^ 64 - 1) (result + length (filter (has set.now) tree.new.remaining))
+        ≡ min (2 ^ 64 - 1) (length (filter (has set.now) tree.old.remaining)) }
+    ensures walked { Walked tree.old.standing tree.new.standing }
+{
+    let Some(bits) = set.bits() else {
+        return 0;
+    };
+    let Source::Cursor(node) = &mut tree.source else {
+        return 0;
+    };
+    let Node::Or(buffered) = &mut **node else {
+        return 0;
+    };
+    let count = count_set(buffered, tree.doc, bits);
+    tree.doc = None;
+    count
+}
+
+/// As `count_kept`, some documents at a time.
+fn count_taken(tree: &mut Tree, set: &DocIdSet) -> usize
+    ensures count { result ≡ min (2 ^ 64 - 1) (length (filter (has set.now) tree.old.remaining)) }
+    ensures ended { IsSettledAt None (has set.now) tree.new }
+    ensures walked { Walked tree.old.standing tree.new.standing }
+{
     let mut docs = [0; 128];
     let mut count = 0usize;
     while let Some(_first) = tree.doc() {
         let taken = tree.take(&mut docs);
-        let kept = set.retain(0, taken, &mut docs);
+        let kept = set.count_in(&docs[..taken]);
         count = count.saturating_add(kept);
     }
     count

@@ -3,7 +3,7 @@ use Rattle.std.proofs.Common.{◌≡◌, ◌+◌, ◌-◌, ◌^◌, ◌≤◌, l
 use Rattle.std.specs.List.{filter}
 use Rattle.fts_postings.specs.Sets.{has}
 use Rattle.fts_cursor.specs.Standing.{Walked}
-use Rattle.fts_cursor.proofs.tree.filtered_tree.count_kept.Given as goal
+use Rattle.fts_cursor.proofs.tree.filtered_tree.count_taken.Given as goal
 
 abbrev pub invariant-loop-first : goal.invariant-loop-first
 invariant-loop-first l = record {
