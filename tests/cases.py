@@ -405,7 +405,7 @@ def write_collectors():
            documents=[{"title": "common", "price": n} for n in range(1000)])
     for sentence, query, openings in [
             ("A range of three prices opens the list of each", "price:[5 TO 7]", 3),
-            ("A word that all have is sought in its first block alone", "+title:common +price:[5 TO 7]", 4),
+            ("A word that bits tell opens no block beside the lists of a range", "+title:common +price:[5 TO 7]", 3),
             ("A range of four prices of 1000 is read from the column", "price:[5 TO 8]", 0)]:
         s.case(sentence, "answer_openings", openings, query=query)
     s.write()

@@ -7,7 +7,6 @@ pub use Rattle.fts_postings.specs.Takes
 pub use Rattle.fts_postings.specs.Windows
 pub use Rattle.fts_cursor.specs.Builds
 pub use Rattle.fts_cursor.specs.Hits
-pub use Rattle.fts_cursor.specs.Live
 pub use Rattle.fts_cursor.specs.Most
 pub use Rattle.fts_cursor.specs.Openings
 pub use Rattle.fts_cursor.specs.Standing
