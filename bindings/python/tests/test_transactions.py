@@ -347,8 +347,14 @@ class Turns(unittest.TestCase):
 class Interrupts(unittest.TestCase):
     def test_each_moment(self):
         """An interrupt at any time leaves all or nothing, and the transaction tells which."""
+        is_armed = False
+
         def interrupt(*_):
-            raise KeyboardInterrupt
+            # A signal that another thread of the process took may be told after its timer was put out.
+            nonlocal is_armed
+            if is_armed:
+                is_armed = False
+                raise KeyboardInterrupt
 
         ends = {True: 0, False: 0}
         before = signal.signal(signal.SIGALRM, interrupt)
@@ -358,12 +364,13 @@ class Interrupts(unittest.TestCase):
                 while time.monotonic() < until:
                     transaction = None
                     try:
+                        is_armed = True
                         signal.setitimer(signal.ITIMER_REAL, 0.00002 + (documents + sum(ends.values())) % 100 * 0.00001)
                         with index.transaction() as transaction:
                             index.add(RUST)
                             for _ in range(50):
                                 transaction.add(RUST)
-                        signal.setitimer(signal.ITIMER_REAL, 0)
+                        is_armed = False
                     except KeyboardInterrupt:
                         pass
                     signal.setitimer(signal.ITIMER_REAL, 0)
