@@ -136,12 +136,12 @@ def free_port():
 class Server:
     """A service in a process of its own, at a port that is free."""
 
-    def __init__(self, *words, program=("-m", "dilforec"), waits=True):
+    def __init__(self, *words, program=("-m", "dilforec"), waits=True, environment=None):
         """Starts it, and waits until it is ready, or only until it listens."""
         self.log, port = tempfile.TemporaryFile(), 0 if waits else free_port()
         self.process = subprocess.Popen(
             [sys.executable, *program, "serve", "--listen", f"127.0.0.1:{port}", *map(str, words)],
-            stdout=subprocess.PIPE, stderr=self.log,
+            stdout=subprocess.PIPE, stderr=self.log, env={**os.environ, **(environment or {})},
         )
         if not waits:
             self.port = port

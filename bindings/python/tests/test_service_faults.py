@@ -142,15 +142,21 @@ class Readers(Faults):
         request of it is begun.
         """
         clients, threads = 6, 2
-        server = self.serve("--threads", threads, "--idle", 60)
+        # The C library gives large blocks back when they are freed, so what is measured is what the service has.
+        given_back = {"MALLOC_MMAP_THRESHOLD_": "131072"}
+        server = self.serve("--threads", threads, "--idle", 60, environment=given_back)
         large = self.fill(server)
         # What the first answers take for good isn't counted.
         answer = min(self.size(server, "GET /search?top=id,1000,rising") for _ in range(2 * threads))
         before, _ = server.memory()
         for _ in range(clients):
             self.opened(server, large * 30, room=4096)
-        self.await_quiet(server)
-        kept, most = (count - before for count in server.memory())
+        # On a busy machine a server may be quiet for a second although it has more to do.
+        kept, most, until = 2 * clients * answer, 0, time.monotonic() + 60
+        while kept >= 2 * clients * answer and time.monotonic() < until:
+            self.await_quiet(server)
+            kept, highest = (count - before for count in server.memory())
+            most = max(most, highest)
         self.assertLess(kept, 2 * clients * answer)
         self.assertLess(most, (2 * clients + 6 * threads) * answer)
         self.others(server)
