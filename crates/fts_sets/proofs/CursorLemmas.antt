@@ -1,11 +1,12 @@
 -- A cursor over a set, whose window has the documents of the set from where it is.
-use Rattle.std.proofs.Common.{◌≡◌, ℕ, ◌+◌, ◌-◌, ◌^◌, ◌<◌, ◌≤◌, ◌==◌, ◌&&◌, ◌||◌, Bool, true, false, nat_le, nat_lt, IfSome, Option, Some, None, List, [], ◌∷◌, drop, length, get_or}
+use Rattle.std.proofs.Common.{◌≡◌, ℕ, ◌+◌, ◌-◌, ◌^◌, ◌<◌, ◌≤◌, ◌&&◌, ◌||◌, Bool, true, false, nat_le, nat_lt, IfSome, Option, Some, None, List, [], ◌∷◌, ◌++◌, drop, length, get_or, min, take}
 use Rattle.std.proofs.Common.{refl, sym, ap, ap₂, ◌∙◌, inl, inr, arith}
-use Rattle.std.specs.List.{filter, slice_get}
+use Rattle.std.specs.List.{filter, range_with_len, slice_get}
+use Rattle.std.proofs.Math.Seq.{drop-append_seam, take-append_seam}
+use Rattle.std.proofs.lemmas.List.FromFn.{length-range_with_len}
+use Rattle.fts_postings.proofs.PassingLemmas.{range-append}
 use Rattle.std.proofs.Math.Bool.{and-false, or-false}
-use Rattle.std.proofs.lemmas.Bool.{and_parts, cases_lt, le-leb, le-ltb, leb-true, lt-leb, lt-ltb}
-use Rattle.std.proofs.lemmas.Nat.Bits.{bit_at-trailing_zeros, bit_at-zero}
-use Rattle.std.specs.Int.{bit_at, trailing_zeros, w64}
+use Rattle.std.proofs.lemmas.Bool.{cases_lt, le-leb, le-ltb, lt-leb, lt-ltb}
 use Rattle.fts_pack.specs.Documents.{Rises}
 use Rattle.fts_postings.specs.Remaining.{at_least}
 use Rattle.fts_postings.specs.Sets.{has}
@@ -13,10 +14,10 @@ use Rattle.fts_postings.specs.Takes.{Takes}
 use Rattle.fts_postings.specs.Windows.{is_set}
 use Rattle.fts_postings.specs.declared.window.Window.{Window}
 use Rattle.fts_postings.proofs.RemainingLemmas.{at_least_all, first-at_least, increasing-from_Rises}
-use Rattle.fts_postings.proofs.SetLemmas.{filter-at_least, has-at_least, has-before_first, has-first, has-none}
-use Rattle.fts_sets.specs.Rows.{AreMarked, Holds, IsFound, IsNext, IsSetCursor, Tells, found}
+use Rattle.fts_postings.proofs.SetLemmas.{Rises-lower, filter-at_least, has-below, has-at_least, has-before_first, has-first, has-none}
+use Rattle.fts_sets.specs.Rows.{AreMarked, Holds, IsFound, IsSetCursor, found}
 use Rattle.fts_sets.proofs.MarkLemmas.{found_behind, found_rises}
-use Rattle.fts_sets.proofs.SetLemmas.{at_least-same, filter-full, front_left, has-from, length-from, drop_from, first_from, Rises-from, nothing_left, some_front, takes_front}
+use Rattle.fts_sets.proofs.SetLemmas.{at_least-same, filter-full, front_left, has-from, has-range, length-from, drop_from, first_from, past-range, same_members, Rises-from, Rises-range, nothing_left, some_front, takes_front}
 
 -- the end is found where none is left
 pub end_found : (set : List ℕ) (at from docs : ℕ) (w : Window) → Rises 0 set → docs ≤ 2 ^ 32 → ((d : ℕ) → docs ≤ d → has set d ≡ false) → docs ≤ at →
@@ -30,51 +31,6 @@ end_found set at from docs w up few past over before = record {
   stands = λ low. absurd (omega (arith, low));
   holds = λ d high low. absurd (omega (arith, high, low, w.fits));
 }
-
--- a word that tells documents from one on has the first of them as its lowest bit, or has none
-module _ (set : List ℕ) (from at word : ℕ) (tells : Tells (λ d. nat_le from d && has set d) at word)
-    (before : (d : ℕ) → from ≤ d → d < at → has set d ≡ false) where
-  told_here : (d : ℕ) → at ≤ d → d < at + 64 → (bit_at word (d - at) == 1) ≡ (nat_le from d && has set d)
-  told_here d low high = tells (d - at) (omega (arith, low, high)) ∙ ap (λ n. nat_le from n && has set n) (let e : at + (d - at) ≡ d = omega (arith, low) in e)
-
-  clear : (bits : ℕ) → bits ≤ 64 → ((j : ℕ) → j < bits → bit_at word j ≡ 0) → (d : ℕ) → from ≤ d → d < at + bits → has set d ≡ false
-  clear bits few none d low high = elim (cases_lt d at) [
-    | inl behind ↦ before d low behind
-    | inr up ↦
-        sym (ap (λ b. b && has set d) (le-leb from d low)) ∙ sym (told_here d up (omega (arith, high, few)))
-        ∙ ap (λ n. n == 1) (none (d - at) (omega (arith, up, high)))
-  ]
-
-  pub word_none : word ≡ 0 → (d : ℕ) → from ≤ d → d < at + 64 → has set d ≡ false
-  word_none is = clear 64 (omega arith) (λ j inside. ap (λ w. bit_at w j) is ∙ bit_at-zero j)
-
-  pub word_next : 0 < word → word < 2 ^ 64 → IsNext set from (at + trailing_zeros w64 word)
-  word_next some fits =
-      let lowest = bit_at-trailing_zeros w64 word some fits in
-      let place = trailing_zeros w64 word in
-      let both = and_parts (nat_le from (at + place)) (has set (at + place)) (sym (tells place lowest.0) ∙ ap (λ n. n == 1) lowest.1) in
-      record {
-        there = both.1;
-        low = leb-true from (at + place) both.0;
-        none = clear place (omega (arith, lowest.0)) lowest.2;
-      }
-
--- what is near is found, after the window
-pub near_found : (set : List ℕ) (from doc docs : ℕ) (w : Window) → IsNext set from doc → Rises 0 set → docs ≤ 2 ^ 32 →
-    ((d : ℕ) → docs ≤ d → has set d ≡ false) → w.last < from → IsFound set from doc w
-near_found set from doc docs w next up few past over =
-    let inside : doc < docs = elim (cases_lt doc docs) [
-      | inl low ↦ low
-      | inr far ↦ absurd (let e : true ≡ false = sym next.there ∙ past doc far in cc)
-    ] in
-    record {
-      rises = up;
-      few = λ d far. past d (omega (arith, far, few));
-      same = at_least-same set from doc up next.low next.none;
-      end = omega (arith, inside, few);
-      stands = λ _. next.there;
-      holds = λ d high low. absurd (omega (arith, high, low, next.low, over));
-    }
 
 -- a window sought, and its first document
 module _ (set : List ℕ) (at : ℕ) (a b c : Window) (up : Rises 0 set) (holds : Holds set at a) (sought_last : b.last ≡ a.last)
@@ -208,7 +164,49 @@ takes_nothing left out none = record {
 }
 
 -- what is left of what remains, where a set is cut
-pub cut_left : (set cut now : List ℕ) (live : List Bool) (at next : ℕ) → at_least at set ≡ now → cut ≡ filter (is_set live) set →
-    at_least next cut ≡ at_least at cut → at_least next cut ≡ filter (is_set live) now
-cut_left set cut now live at next remains is same =
-    same ∙ ap (at_least at) is ∙ sym (filter-at_least at (is_set live) set) ∙ ap (filter (is_set live)) remains
+pub cut_left : (set cut now : List ℕ) (p : ℕ → Bool) (at next : ℕ) → at_least at set ≡ now → cut ≡ filter p set →
+    at_least next cut ≡ at_least at cut → at_least next cut ≡ filter p now
+cut_left set cut now p at next remains is same = same ∙ ap (at_least at) is ∙ sym (filter-at_least at p set) ∙ ap (filter p) remains
+
+-- what is left of the numbers below an end are those from one on
+left_numbers : (at end : ℕ) → at ≤ end → at_least at (range_with_len 0 end) ≡ range_with_len at (end - at)
+left_numbers at end within =
+    same_members 0 (at_least at (range_with_len 0 end)) (range_with_len at (end - at)) (Rises-from at (range_with_len 0 end) (Rises-range 0 end))
+    (Rises-lower at 0 (range_with_len at (end - at)) (omega arith) (Rises-range at (end - at)))
+    (λ d. has-from at (range_with_len 0 end) d ∙ elim (cases_lt d at) [
+      | inl low ↦ ap (λ b. has (range_with_len 0 end) d && b) (lt-leb at d low) ∙ and-false (has (range_with_len 0 end) d)
+          ∙ sym (has-below at (range_with_len at (end - at)) d (Rises-range at (end - at)) low)
+      | inr high ↦ ap (λ b. has (range_with_len 0 end) d && b) (le-leb at d high) ∙ right (has (range_with_len 0 end) d) ∙ elim (cases_lt d end) [
+        | inl inside ↦ has-range 0 end d (omega arith) (omega (arith, inside)) ∙ sym (has-range at (end - at) d high (omega (arith, inside, within)))
+        | inr past ↦ past-range 0 end d (omega (arith, past)) ∙ sym (past-range at (end - at) d (omega (arith, past, within)))
+      ]
+    ])
+
+-- the first of them are taken
+pub takes_numbers : (set out : List ℕ) (at end count : ℕ) → set ≡ range_with_len 0 end → at < end → count ≡ min 128 (end - at) →
+    take count out ≡ range_with_len at count → Takes (at_least at set) (at_least (at + count) set) out count
+takes_numbers set out at end count is inside count_is written =
+    let more = end - (at + count) in
+    let whole : end - at ≡ count + more = omega (arith, inside, count_is) in
+    let parts : at_least at set ≡ range_with_len at count ++ range_with_len (at + count) more =
+    ap (at_least at) is ∙ left_numbers at end (omega (arith, inside)) ∙ ap (range_with_len at) whole ∙ range-append at count more in
+    let size = length-range_with_len at count in
+    let sized : length (at_least at set) ≡ count + more =
+    ap length (ap (at_least at) is ∙ left_numbers at end (omega (arith, inside))) ∙ length-range_with_len at (end - at) ∙ whole in
+    let seam = ap (λ n. take n (range_with_len at count ++ range_with_len (at + count) more)) (sym size) in
+    let rest = ap (λ n. drop n (range_with_len at count ++ range_with_len (at + count) more)) (sym size) in
+    record {
+      some = λ _. omega (arith, inside, count_is);
+      few = omega (arith, count_is);
+      within = omega (arith, sized);
+      taken = written ∙ sym (ap (take count) parts ∙ seam ∙ take-append_seam (range_with_len at count) (range_with_len (at + count) more));
+      left_is = ap (at_least (at + count)) is ∙ left_numbers (at + count) end (omega (arith, inside, count_is))
+          ∙ sym (ap (drop count) parts ∙ rest ∙ drop-append_seam (range_with_len at count) (range_with_len (at + count) more));
+    }
+
+-- a number that remains of all below an end is below it
+pub below_end : (set : List ℕ) (at end : ℕ) → set ≡ range_with_len 0 end → has set at ≡ true → at < end
+below_end set at end is here = elim (cases_lt at end) [
+  | inl inside ↦ inside
+  | inr past ↦ absurd (let e : true ≡ false = sym here ∙ ap (λ xs. has xs at) is ∙ past-range 0 end at (omega (arith, past)) in cc)
+]

@@ -17,7 +17,7 @@ use Rattle.fts_postings.proofs.TakingLemmas.{marked-ones}
 use Rattle.fts_postings.proofs.WindowLemmas.{passing-same}
 use Rattle.fts_sets.specs.Rows.{Tells}
 
-not_or : (a b : Bool) → (not a && not b) ≡ not (a || b)
+pub not_or : (a b : Bool) → (not a && not b) ≡ not (a || b)
 not_or true b = refl
 not_or false b = refl
 

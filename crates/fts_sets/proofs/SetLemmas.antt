@@ -1,6 +1,6 @@
 -- What rising lists have, and the numbers of a range that pass a test.
 use Rattle.std.proofs.Common.{◌≡◌, ℕ, zero, suc, ◌+◌, ◌-◌, ◌<◌, ◌≤◌, ◌==◌, ◌&&◌, ◌||◌, Bool, true, false, cond, nat_le, nat_lt, Some, List, [], ◌∷◌, ◌++◌}
-use Rattle.std.proofs.Common.{length, get_or, take, drop, refl, sym, ap, ap₂, subst, ◌∙◌, inl, inr, arith}
+use Rattle.std.proofs.Common.{All, length, get_or, take, drop, refl, sym, ap, ap₂, subst, ◌∙◌, inl, inr, arith}
 use Rattle.std.specs.List.{filter, range_with_len, slice_get}
 use Rattle.std.specs.Prelude.{count_by}
 use Rattle.std.proofs.Math.Bool.{and-false, or-true}
@@ -109,9 +109,18 @@ pub every-passes : (p : ℕ → Bool) (a n : ℕ) → ((d : ℕ) → d < a + n �
 every-passes p a zero h = refl
 every-passes p a (suc n) h = ap₂ (λ b ys. cond b (a ∷ ys) ys) (h a (omega arith)) (every-passes p (a + 1) n (λ d low. h d (omega (arith, low))))
 
+pub Rises-range : (a n : ℕ) → Rises a (range_with_len a n)
+Rises-range a n = subst (Rises a) (every-passes (λ d. true) a n (λ d low. refl)) (Rises-passing (λ d. true) a n)
+
 pub filter-agree : (p q : ℕ → Bool) (xs : List ℕ) → ((d : ℕ) → p d ≡ q d) → filter p xs ≡ filter q xs
 filter-agree p q [] same = refl
 filter-agree p q (x ∷ xs) same = ap₂ (λ b ys. cond b (x ∷ ys) ys) (same x) (filter-agree p q xs same)
+
+-- tests that agree on a list
+pub filter-within : (p q : ℕ → Bool) (xs : List ℕ) → All (λ d. p d ≡ q d) xs → filter p xs ≡ filter q xs
+filter-within p q [] same = refl
+filter-within p q (x ∷ xs) same =
+    ap₂ (λ b ys. cond b (x ∷ ys) ys) (same 0 0 (omega arith)) (filter-within p q xs (λ k d inside. same (suc k) d (omega (arith, inside))))
 
 pub filter-every : (xs : List ℕ) → filter (λ d. true) xs ≡ xs
 filter-every [] = refl
@@ -175,18 +184,6 @@ count-more p a m end past = elim (cases_lt (end - a) m) [
 pub length-passing : (p : ℕ → Bool) (a n : ℕ) → length (passing p a n) ≤ n
 length-passing p a n = scan_cost p a n 0
 
--- no more are left than there are numbers
-pub length-from : (xs : List ℕ) (docs t : ℕ) → Rises 0 xs → ((d : ℕ) → docs ≤ d → has xs d ≡ false) → length (at_least t xs) ≤ docs - t
-length-from xs docs t up past =
-    let p = has (at_least t xs) in
-    let all : passing p t (docs - t) ≡ at_least t xs = passing-all p t (docs - t) (at_least t xs) (Rises-from t xs up) (λ d. refl)
-    (λ d low. has-from t xs d ∙ ap (λ b. has xs d && b) (lt-leb t d low) ∙ and-false (has xs d))
-    (λ d high. elim (cases_lt d docs) [
-      | inl inside ↦ has-from t xs d ∙ ap (λ b. has xs d && b) (lt-leb t d (omega (arith, inside, high))) ∙ and-false (has xs d)
-      | inr over ↦ has-from t xs d ∙ ap (λ b. b && nat_le t d) (past d over)
-    ]) in
-    omega (arith, ap length all, length-passing p t (docs - t))
-
 pub none_there : (from : ℕ) (test : ℕ → Bool) (d : ℕ) → test d ≡ false → (nat_le from d && test d) ≡ false
 none_there from test d none = ap (λ b. nat_le from d && b) none ∙ and-false (nat_le from d)
 
@@ -201,6 +198,27 @@ passing-left xs from start end up low past =
       | inl inside ↦ ap (λ b. b && has xs d) (lt-leb from d (omega (arith, inside, high, low)))
       | inr over ↦ none_there from (has xs) d (past d over)
     ])
+
+-- what is left from a document on, by what the list has
+pub left-here : (xs : List ℕ) (t end : ℕ) → Rises 0 xs → ((d : ℕ) → end ≤ d → has xs d ≡ false) → passing (has xs) t (end - t) ≡ at_least t xs
+left-here xs t end up past =
+    passing-same (has xs) (λ d. nat_le t d && has xs d) t (end - t) (λ d high low. sym (ap (λ b. b && has xs d) (le-leb t d high)))
+    ∙ passing-left xs t t end up (omega arith) past
+
+-- a row of it is counted, and what is left after that
+pub left-row : (xs : List ℕ) (from t m end : ℕ) → Rises 0 xs → ((d : ℕ) → end ≤ d → has xs d ≡ false) → t ≤ from → from ≤ t + m →
+    length (at_least from xs) ≡ length (passing (λ d. nat_le from d && has xs d) t m) + length (at_least (t + m) xs)
+left-row xs from t m end up past low high =
+    let p : ℕ → Bool = λ d. nat_le from d && has xs d in
+    let rest : passing p (t + m) (end - (t + m)) ≡ at_least (t + m) xs =
+    passing-same p (has xs) (t + m) (end - (t + m)) (λ d over down. ap (λ b. b && has xs d) (le-leb from d (omega (arith, over, high))))
+    ∙ left-here xs (t + m) end up past in
+    ap length (sym (passing-left xs from t end up low past)) ∙ count-more p t m end (λ d far. none_there from (has xs) d (past d far))
+    ∙ ap (λ ys. length (passing p t m) + length ys) rest
+
+-- no more are left than there are numbers
+pub length-from : (xs : List ℕ) (docs t : ℕ) → Rises 0 xs → ((d : ℕ) → docs ≤ d → has xs d ≡ false) → length (at_least t xs) ≤ docs - t
+length-from xs docs t up past = omega (arith, ap length (left-here xs t docs up past), length-passing (has xs) t (docs - t))
 
 -- nothing lies between
 pub at_least-same : (xs : List ℕ) (a b : ℕ) → Rises 0 xs → a ≤ b → ((d : ℕ) → a ≤ d → d < b → has xs d ≡ false) → at_least b xs ≡ at_least a xs

@@ -3,7 +3,7 @@ use Rattle.std.proofs.Common.{◌≡◌, ◌&&◌, ◌||◌, ℕ, ◌≤◌, Boo
 use Rattle.std.proofs.Common.{get_or, refl, sym, ap, ap₂, ◌∙◌, inl, inr, arith}
 use Rattle.std.specs.Global.{Vec}
 use Rattle.std.specs.List.{filter, range_with_len}
-use Rattle.std.proofs.Math.Bool.{and-false, and-true, or-false}
+use Rattle.std.proofs.Math.Bool.{and-false, and-true, and_assoc, or-false}
 use Rattle.std.proofs.lemmas.Bool.{cases_lt, le-ltb, lt-ltb}
 use Rattle.std.proofs.lemmas.List.Folds.{list_all-append, list_any-append}
 use Rattle.fts_pack.specs.Documents.{Rises}
@@ -11,7 +11,8 @@ use Rattle.fts_postings.specs.Sets.{has}
 use Rattle.fts_postings.specs.Windows.{passing}
 use Rattle.fts_postings.proofs.PassingLemmas.{Rises-passing}
 use Rattle.fts_sets.specs.declared.leaf.Leaf.{Leaf}
-use Rattle.fts_sets.specs.Leaves.{all_have, each_has, is_told, leaf_has, one_has}
+use Rattle.fts_sets.specs.Leaves.{all_have, each_has, is_told, leaf_has, one_has, rest_has}
+use Rattle.fts_sets.proofs.RowLemmas.{not_or}
 use Rattle.fts_sets.proofs.SetLemmas.{every-passes, has-passing, passing-kept}
 
 module _ (docs : ℕ) (all : List Leaf) (any : List (Vec Leaf)) (none : List Leaf) where
@@ -24,6 +25,23 @@ module _ (docs : ℕ) (all : List Leaf) (any : List (Vec Leaf)) (none : List Lea
 
   pub told-rises : Rises 0 (passing (is_told docs all any none) 0 docs)
   told-rises = Rises-passing (is_told docs all any none) 0 docs
+
+  first_and_rest : (below first some others : Bool) → (((below && first) && some) && others) ≡ (first && ((below && some) && others))
+  first_and_rest true first some others = and_assoc first some others
+  first_and_rest false true some others = refl
+  first_and_rest false false some others = refl
+
+  -- the first tests, and the rest of them
+  module _ (now : List ℕ) (is : passing (is_told docs all any none) 0 docs ≡ now) where
+    pub now_parts : (d : ℕ) → has now d ≡ (all_have all d && rest_has docs any none d)
+    now_parts d = ap (λ xs. has xs d) (sym is) ∙ told_at d ∙ first_and_rest (nat_lt d docs) (all_have all d) (each_has any d) (not (one_has none d))
+
+    pub now_sufficed : (first : List Leaf) (some : List (Vec Leaf)) (others : List Leaf) → first ≡ all → some ≡ any → others ≡ none →
+        ((d : ℕ) → is_told docs first some others d ≡ all_have first d) → (d : ℕ) → has now d ≡ all_have all d
+    now_sufficed first some others first_is some_is others_is suffice d =
+        ap (λ xs. has xs d) (sym is) ∙ told_at d
+        ∙ sym (ap (λ x. is_told docs x some others d) first_is ∙ ap (λ x. is_told docs all x others d) some_is ∙ ap (λ x. is_told docs all any x d) others_is)
+        ∙ suffice d ∙ ap (λ x. all_have x d) first_is
 
   with_one : (a b c n s : Bool) → (((a && (b && (s && true))) && c) && n) ≡ ((((a && b) && c) && n) && s)
   with_one false b c n s = refl
@@ -97,6 +115,34 @@ module _ (docs : ℕ) (all : List Leaf) (any : List (Vec Leaf)) (none : List Lea
       (λ d. ap (λ n. ((nat_lt d docs && all_have all d) && each_has any d) && not n) (list_any-append (λ (x : Leaf). leaf_has x d) none (l ∷ []))
       ∙ without_one ((nat_lt d docs && all_have all d) && each_has any d) (one_has none d) (leaf_has l d))
       (λ d past. ap (λ b. ((b && all_have all d) && each_has any d) && not (one_has (none ++ l ∷ []) d)) (le-ltb d docs past))
+
+  both_pass : (a e b f c g n h : Bool) → ((((a && e) && (b && f)) && (c && g)) && (n && h)) ≡ ((((a && b) && c) && n) && (((e && f) && g) && h))
+  both_pass false e b f c g n h = refl
+  both_pass true false b f c g n h = sym (and-false ((b && c) && n))
+  both_pass true true false f c g n h = refl
+  both_pass true true true false c g n h = sym (and-false (c && n))
+  both_pass true true true true false g n h = refl
+  both_pass true true true true true false n h = sym (and-false n)
+  both_pass true true true true true true n h = refl
+
+  -- the tests of another set too
+  pub told-both : (m : ℕ) (alls : List Leaf) (anys : List (Vec Leaf)) (nones : List Leaf) →
+      passing (is_told (min docs m) (all ++ alls) (any ++ anys) (none ++ nones)) 0 (min docs m)
+      ≡ filter (has (passing (is_told m alls anys nones) 0 m)) (passing (is_told docs all any none) 0 docs)
+  told-both m alls anys nones =
+      let test : ℕ → Bool = is_told (min docs m) (all ++ alls) (any ++ anys) (none ++ nones) in
+      passing-kept (has (passing (is_told m alls anys nones) 0 m)) (is_told docs all any none) test docs (min docs m) (omega arith)
+      (λ d. ap (λ b. ((b && all_have (all ++ alls) d) && each_has (any ++ anys) d) && not (one_has (none ++ nones) d)) (lesser d m)
+      ∙ ap (λ b. (((nat_lt d docs && nat_lt d m) && b) && each_has (any ++ anys) d) && not (one_has (none ++ nones) d))
+      (list_all-append (λ (x : Leaf). leaf_has x d) all alls)
+      ∙ ap (λ b. (((nat_lt d docs && nat_lt d m) && (all_have all d && all_have alls d)) && b) && not (one_has (none ++ nones) d))
+      (list_all-append (λ (x : Vec Leaf). one_has x.items d) any anys)
+      ∙ ap (λ b. (((nat_lt d docs && nat_lt d m) && (all_have all d && all_have alls d)) && (each_has any d && each_has anys d)) && b)
+      (ap not (list_any-append (λ (x : Leaf). leaf_has x d) none nones) ∙ sym (not_or (one_has none d) (one_has nones d)))
+      ∙ both_pass (nat_lt d docs) (nat_lt d m) (all_have all d) (all_have alls d) (each_has any d) (each_has anys d) (not (one_has none d)) (not (one_has nones d))
+      ∙ ap (λ b. is_told docs all any none d && b) (sym (has-passing (is_told m alls anys nones) m d
+      (λ past. ap (λ b. ((b && all_have alls d) && each_has anys d) && not (one_has nones d)) (le-ltb d m past)))))
+      (λ d past. ap (λ b. ((b && all_have (all ++ alls) d) && each_has (any ++ anys) d) && not (one_has (none ++ nones) d)) (le-ltb d (min docs m) past))
 
   -- no test
   pub told-every : all ≡ [] → any ≡ [] → none ≡ [] → passing (is_told docs all any none) 0 docs ≡ range_with_len 0 docs

@@ -39,3 +39,7 @@ in_one bits d = list_any (λ b. is_set b.now d) bits
 -- whether a document is one of the first, passes each of some tests, one of each of others, and none of still others
 abbrev pub is_told : ℕ → List Leaf → List (Vec Leaf) → List Leaf → ℕ → Bool
 is_told docs all any none d = ((nat_lt d docs && all_have all d) && each_has any d) && not (one_has none d)
+
+-- whether it is one of the first, passes one of each of some tests, and none of others
+abbrev pub rest_has : ℕ → List (Vec Leaf) → List Leaf → ℕ → Bool
+rest_has docs any none d = (nat_lt d docs && each_has any d) && not (one_has none d)

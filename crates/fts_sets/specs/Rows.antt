@@ -28,12 +28,6 @@ AreMarked test old new = (d : ℕ) → has (found new) d ≡ (has (found old) d 
 abbrev pub Holds : List ℕ → ℕ → Window → Type 0
 Holds set from window = (d : ℕ) → from ≤ d → d ≤ window.last → has (found window) d ≡ has set d
 
--- the document is the first of a set from a number on
-pub record IsNext (set : List ℕ) (from doc : ℕ) : Type 0 where
-  pub there : has set doc ≡ true
-  pub low : from ≤ doc
-  pub none : (d : ℕ) → from ≤ d → d < doc → has set d ≡ false
-
 -- the first document of a set from a number on, or the end, is found, and the window has those from there on
 pub record IsFound (set : List ℕ) (from at : ℕ) (window : Window) : Type 0 where
   pub rises : Rises 0 set

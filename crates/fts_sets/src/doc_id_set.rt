@@ -1,5 +1,5 @@
 // Sets of documents that are told by their number.
-ghost use Rattle.std.specs.Prelude.{◌≡◌, ◌≢◌, ℕ, ◌+◌, ◌*◌, ◌^◌, ◌<◌, ◌≤◌, ◌&&◌, false, IfErr, IfOk, IfSome};
+ghost use Rattle.std.specs.Prelude.{◌≡◌, ◌≢◌, ℕ, ◌+◌, ◌*◌, ◌^◌, ◌<◌, ◌≤◌, ◌&&◌, false, true, IfErr, IfOk, IfSome};
 ghost use Rattle.std.specs.Prelude.{filter, length, nat_le, not, slice_index, take};
 ghost use Rattle.std.specs.List.{range_with_len};
 ghost use Rattle.fts_pack.specs.Documents.{Rises};
@@ -8,12 +8,13 @@ ghost use Rattle.fts_postings.specs.Remaining.{at_least};
 ghost use Rattle.fts_postings.specs.Sets.{has};
 ghost use Rattle.fts_postings.specs.Windows.{is_set};
 ghost use Rattle.fts_sets.specs.Kept.{IsKept};
-ghost use Rattle.fts_sets.specs.Leaves.{all_have, leaf_has, one_has};
-ghost use Rattle.fts_sets.specs.Rows.{AreMarked, IsNext, Tells};
+ghost use Rattle.fts_sets.specs.Leaves.{all_have, has_within, is_told, leaf_has, one_has};
+ghost use Rattle.fts_sets.specs.Rows.{AreMarked, Tells};
 
 use crate::leaf::{self, Leaf};
 use crate::{retain, rows};
 use fts_pack::bits::Bits;
+use fts_pack::column::Column;
 use fts_postings::Window;
 use std::alloc::{AllocError, Global};
 use std::marker::Model;
@@ -73,12 +74,21 @@ impl<'a> DocIdSet<'a> {
         Ok(())
     }
 
-    /// Keeps only the documents whose bit is set, as most have it: these bits are looked at after the other tests.
-    pub fn cut(&mut self, live: &'a Bits) -> Result<(), AllocError>
-        ensures kept { IfOk result (λ _. self.new ≡ filter (is_set live.now) self.old) }
-        ensures failed { IfErr result (λ _. self.new ≡ self.old) }
+    /// Keeps only the documents that are of another set too. The tests of that set follow, so it is best the one with more
+    /// documents.
+    pub fn meet(&mut self, other: DocIdSet<'a>) -> Result<(), AllocError>
+        ensures { IfOk result (λ _. self.new ≡ filter (has other.entry) self.old) }
     {
-        self.all.push(Leaf::Set(live))?;
+        let DocIdSet {
+            docs,
+            mut all,
+            mut any,
+            mut none,
+        } = other;
+        self.docs = self.docs.min(docs);
+        self.all.append(&mut all)?;
+        self.any.append(&mut any)?;
+        self.none.append(&mut none)?;
         Ok(())
     }
 
@@ -135,33 +145,27 @@ impl<'a> DocIdSet<'a> {
     pub fn has(&self, doc: usize) -> bool
         ensures { result ≡ has self.now doc }
     {
-        if doc >= self.docs {
-            return false;
-        }
-        if !leaf::all_have(&self.all, doc) {
-            return false;
-        }
-        if !leaf::each_has(&self.any, doc) {
-            return false;
-        }
-        !leaf::one_has(&self.none, doc)
+        leaf::all_have(&self.all, doc) && leaf::rest_has(self.docs, &self.any, &self.none, doc)
     }
 
-    /// Moves those of the documents `from..end` that are of the set to the front, after the first `from`, which are of it
-    /// too. Returns how many these are then in all.
-    pub fn retain(&self, from: usize, end: usize, docs: &mut [u32; 128]) -> usize
-        requires order { from ≤ end }
-        requires room { end ≤ 128 }
-        requires passed { filter (has self.now) (take from docs.old) ≡ take from docs.old }
-        ensures { IsKept (has self.now) from end docs.old docs.new result }
+    /// Moves those of the first documents that are of the set to the front. Returns how many these are.
+    pub fn retain(&self, end: usize, docs: &mut [u32; 128]) -> usize
+        requires { end ≤ 128 }
+        ensures { IsKept (has self.now) end docs.old docs.new result }
     {
-        let kept = retain::keep_below(self.docs, &self.all, from, end, docs);
-        let some = retain::keep_clauses(&self.any, from, kept, docs);
-        retain::drop_each(&self.none, from, some, docs)
+        let passed = retain::keep_each(&self.all, end, docs);
+        if self.any.is_empty() && retain::are_below(self.docs, &docs[..passed]) {
+            return retain::drop_each(&self.none, passed, docs);
+        }
+        retain::keep_rest(self.docs, &self.any, &self.none, passed, docs)
     }
 
-    /// How many documents there are: their number, if bits alone tell them, otherwise about their number, by a sample.
+    /// How many documents there are: their number, if there is no test or bits alone tell them, otherwise about their
+    /// number, by a sample.
     pub fn estimate(&self) -> usize {
+        if let Some(docs) = self.untested() {
+            return docs;
+        }
         if let Some(bits) = self.bits() {
             return bits.count_ones();
         }
@@ -179,10 +183,7 @@ impl<'a> DocIdSet<'a> {
     pub fn bits(&self) -> Option<&'a Bits>
         ensures { IfSome result (λ bits. (d : ℕ) → has self.now d ≡ is_set bits.now d) }
     {
-        if !self.any.is_empty() || !self.none.is_empty() || self.all.len() != 1 {
-            return None;
-        }
-        if !retain::are_below(self.docs, &self.all) {
+        if self.all.len() != 1 || !suffice(self.docs, &self.all, &self.any, &self.none) {
             return None;
         }
         match self.all[0] {
@@ -191,32 +192,37 @@ impl<'a> DocIdSet<'a> {
         }
     }
 
-    /// How many of some documents are of the set.
-    pub fn count_in(&self, docs: &[u32]) -> usize
-        ensures { result ≡ length (filter (has self.now) docs.now) }
+    /// How many of the first documents are of the set. Some of them may be moved to the front for that.
+    pub fn count_in(&self, end: usize, docs: &mut [u32; 128]) -> usize
+        requires { end ≤ 128 }
+        ensures { result ≡ length (filter (has self.now) (take end docs.old)) }
     {
-        if let Some(bits) = self.bits() {
-            return retain::count_set(bits, docs);
+        match self.bits() {
+            Some(bits) => retain::count_set(bits, &docs[..end]),
+            None => self.retain(end, docs),
         }
-        let mut count = 0;
-        for doc in docs {
-            count += usize::from(self.has(*doc as usize));
-        }
-        count
     }
 
     /// How many documents have their bit set, if it is known since there is no test.
     pub fn count_set(&self, bits: &Bits) -> Option<usize>
         ensures { IfSome result (λ n. n ≡ length (filter (is_set bits.now) self.now)) }
     {
-        if !self.all.is_empty()
-            || !self.any.is_empty()
-            || !self.none.is_empty()
-            || bits.len() != self.docs
-        {
+        if bits.len() != self.untested()? {
             return None;
         }
         Some(bits.count_ones())
+    }
+
+    /// How many documents there are, if there is no test: they are the first, this many.
+    #[inline]
+    pub(crate) fn untested(&self) -> Option<usize>
+        ensures { IfSome result (λ n. (self.now ≡ range_with_len 0 n) × (n ≤ 2 ^ 32)) }
+    {
+        if self.all.is_empty() && self.any.is_empty() && self.none.is_empty() {
+            Some(self.docs)
+        } else {
+            None
+        }
     }
 
     /// An upper bound on the documents from one on.
@@ -230,31 +236,47 @@ impl<'a> DocIdSet<'a> {
     pub fn count_from(&self, from: usize) -> usize
         ensures { result ≡ length (at_least from self.now) }
     {
-        let words = self.docs / 64 + 1;
+        if from >= self.docs() {
+            return 0;
+        }
+        let row = self.row(from / 64, 16, from);
+        rows::ones(&row) + self.count_words(from / 64 + 16)
+    }
+
+    /// How many documents there are from the first of a word on.
+    fn count_words(&self, index: usize) -> usize
+        requires { index < 2 ^ 56 }
+        ensures { result ≡ length (at_least (64 * index) self.now) }
+    {
+        let words = self.docs() / 64 + 1;
+        if let Some((column, low, high, bits)) = self.within_set() {
+            return rows::count_within(column, low, high, bits, index, words);
+        }
         let mut count = 0;
-        let mut index = from / 64;
+        let mut index = index;
         while index < words {
-            let row = self.row(index, 16, from);
+            let row = self.row(index, 16, 64 * index);
             count += rows::ones(&row);
             index += 16;
         }
         count
     }
 
-    /// The first document from one on, if it is in the word of that one or in the next.
-    pub(crate) fn near(&self, from: usize) -> Option<usize>
-        requires { from < 2 ^ 32 }
-        ensures { IfSome result (IsNext self.now from) }
+    /// The column, the least and the greatest number, and the bits, if a range of numbers and bits alone tell the documents.
+    fn within_set(&self) -> Option<(&'a Column, u64, u64, &'a Bits)>
+        ensures { IfSome result (λ r. (d : ℕ) → has self.now d
+            ≡ (has_within r.1 r.2 r.0.now d && is_set r.3.now d)) }
     {
-        let index = from / 64;
-        let row = self.row(index, 2, from);
-        if row[0] != 0 {
-            return Some(64 * index + row[0].trailing_zeros() as usize);
+        if self.all.len() != 2 || !suffice(self.docs, &self.all, &self.any, &self.none) {
+            return None;
         }
-        if row[1] != 0 {
-            return Some(64 * index + 64 + row[1].trailing_zeros() as usize);
-        }
-        None
+        let Leaf::Within { column, low, high } = self.all[0] else {
+            return None;
+        };
+        let Leaf::Set(bits) = self.all[1] else {
+            return None;
+        };
+        Some((column, low, high, bits))
     }
 
     /// Marks the documents from one on in a window, up to the window's last.
@@ -288,4 +310,12 @@ impl<'a> DocIdSet<'a> {
         rows::drop_each(&self.none, index, &mut row);
         row
     }
+}
+
+/// Whether the first tests tell the documents alone: there are no others, and the bits of one show that what passes them
+/// is below the number.
+fn suffice(docs: usize, all: &[Leaf], any: &[Vec<Leaf>], none: &[Leaf]) -> bool
+    ensures { result ≡ true → (d : ℕ) → is_told docs all.now any.now none.now d ≡ all_have all.now d }
+{
+    any.is_empty() && none.is_empty() && retain::show_below(docs, all)
 }

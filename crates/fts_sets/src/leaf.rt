@@ -2,7 +2,7 @@
 ghost use Rattle.std.specs.Prelude.{◌≡◌, ℕ, ◌+◌, ◌*◌, ◌^◌, ◌<◌, ◌==◌, IfOk, Option, nat_lt};
 ghost use Rattle.std.specs.Int.{bit_at};
 ghost use Rattle.fts_pack.specs.column.Column.{is_within};
-ghost use Rattle.fts_sets.specs.Leaves.{all_have, each_has, in_each, in_one, leaf_has, one_has};
+ghost use Rattle.fts_sets.specs.Leaves.{all_have, each_has, in_each, in_one, leaf_has, one_has, rest_has};
 
 use fts_pack::bits::Bits;
 use fts_pack::column::Column;
@@ -114,6 +114,14 @@ pub(crate) fn each_has(clauses: &[Vec<Leaf>], doc: usize) -> bool
         }
     }
     true
+}
+
+/// Whether it is below a number, passes one of each of some tests, and none of others.
+#[inline]
+pub(crate) fn rest_has(below: usize, any: &[Vec<Leaf>], none: &[Leaf], doc: usize) -> bool
+    ensures { result ≡ rest_has below any.now none.now doc }
+{
+    doc < below && each_has(any, doc) && !one_has(none, doc)
 }
 
 /// The tests of some bits.

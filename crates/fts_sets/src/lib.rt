@@ -21,5 +21,4 @@ mod set_cursor;
 
 pub use doc_id_set::DocIdSet;
 pub use leaf::{Leaf, leaves_of};
-pub use retain::keep_set;
 pub use set_cursor::SetCursor;

@@ -2,11 +2,12 @@
 ghost use Rattle.std.specs.Prelude.{◌≡◌, ℕ, ◌+◌, ◌-◌, ◌*◌, ◌^◌, ◌<◌, ◌≤◌, ◌==◌, ◌&&◌, Bool, length, nat_le, nat_lt, not, slice_index};
 ghost use Rattle.std.specs.Int.{bit_at};
 ghost use Rattle.fts_pack.specs.bits.Changes.{AreChanged};
-ghost use Rattle.fts_postings.specs.Windows.{passing};
+ghost use Rattle.fts_postings.specs.Windows.{is_set, passing};
 ghost use Rattle.fts_sets.specs.Leaves.{all_have, each_has, has_within, leaf_has, one_has};
 ghost use Rattle.fts_sets.specs.Rows.{AreAdded, Tells};
 
 use crate::leaf::Leaf;
+use fts_pack::bits::Bits;
 use fts_pack::column::Column;
 
 /// The documents from `first` on that pass one of each of these, of this many words from the word of an index on. That
@@ -226,6 +227,28 @@ pub(crate) fn ones(row: &[u64; 16]) -> usize
     let mut count = 0;
     for place in 0..16 {
         count += row[place].count_ones() as usize;
+    }
+    count
+}
+
+/// How many documents have a number of a column within these, and their bit set, from the first of a word on up to that of
+/// another.
+pub(crate) fn count_within(
+    column: &Column,
+    low: u64,
+    high: u64,
+    bits: &Bits,
+    index: usize,
+    end: usize,
+) -> usize
+    requires { end < 2 ^ 57 }
+    ensures { result ≡ length (passing (λ d. has_within low high column.now d && is_set bits.now d)
+        (64 * index) (64 * end - 64 * index)) }
+{
+    let mut count = 0;
+    for place in index..end {
+        let word = column.marks_within(64 * place, low, high) & bits.word(place);
+        count += word.count_ones() as usize;
     }
     count
 }

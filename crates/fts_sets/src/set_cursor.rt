@@ -1,5 +1,6 @@
 // A cursor over the documents of a set.
-ghost use Rattle.std.specs.Prelude.{◌≡◌, ℕ, ◌+◌, ◌^◌, ◌<◌, ◌≤◌, IfOk, IfErr, IfSome, [], true, filter, length};
+ghost use Rattle.std.specs.Prelude.{◌≡◌, ℕ, ◌+◌, ◌-◌, ◌^◌, ◌<◌, ◌≤◌, IfOk, IfErr, IfSome, [], true, filter, length, min, take};
+ghost use Rattle.std.specs.List.{range_with_len};
 ghost use Rattle.fts_postings.specs.Remaining.{at_least};
 ghost use Rattle.fts_postings.specs.Sets.{has};
 ghost use Rattle.fts_postings.specs.Windows.{is_set};
@@ -115,27 +116,30 @@ impl<'a> SetCursor<'a> {
         }
     }
 
-    /// Leaves only those of the remaining documents whose bit is set.
-    pub fn cut(&mut self, live: &'a Bits) -> Result<(), AllocError>
-        ensures cut { IfOk result (λ _. self.new ≡ filter (is_set live.now) self.old) }
-        ensures failed { IfErr result (λ _. self.new ≡ self.old) }
+    /// Leaves only those of the remaining documents that are of another set too, best one with most of them.
+    pub fn cut(&mut self, other: DocIdSet<'a>) -> Result<(), AllocError>
+        ensures { IfOk result (λ _. self.new ≡ filter (has other.entry) self.old) }
     {
-        let total = self.count_set(live);
-        self.set.cut(live)?;
-        self.total = total;
+        let total = self.count_common(&other);
+        let met = self.set.meet(other);
+        self.total = None;
         self.at = begin(&self.set, &mut self.window, self.at);
+        met?;
+        self.total = total;
         Ok(())
     }
 
-    /// How many of the documents that remain have their bit set, if it is known since each document remains.
-    fn count_set(&self, live: &Bits) -> Option<usize>
-        ensures { IfSome result (λ n. n ≡ length (filter (is_set live.now) self.now)) }
+    /// How many of the documents that remain are of another set, if it is known, since each document remains and bits tell
+    /// the other.
+    fn count_common(&self, other: &DocIdSet) -> Option<usize>
+        ensures { IfSome result (λ n. n ≡ length (filter (has other.now) self.now)) }
     {
         let total = self.total?;
+        let bits = other.bits()?;
         if total != self.set.docs() {
             return None;
         }
-        self.set.count_set(live)
+        self.set.count_set(bits)
     }
 }
 
@@ -162,10 +166,16 @@ impl DocSet for SetCursor<'_> {
         self.pass(target as usize);
     }
 
-    /// Takes what fits of the window.
+    /// Takes what fits of the window, or of all numbers if there is no test.
     fn take(&mut self, out: &mut [u32; 128]) -> usize {
         if self.at >= END {
             return 0;
+        }
+        if let Some(end) = self.set.untested() {
+            let count = write_numbers(self.at, end, out);
+            self.total = None;
+            self.at = find_at(&self.set, &mut self.window, self.at + count);
+            return count;
         }
         cover(&self.set, &mut self.window, self.at as u32, FAR);
         self.window.seek(self.at as u32);
@@ -174,6 +184,20 @@ impl DocSet for SetCursor<'_> {
         self.at = find(&self.set, &mut self.window, out[count - 1] as usize + 1);
         count
     }
+}
+
+/// Writes the numbers from one on, as many as fit of those below an end, and returns how many they are.
+fn write_numbers(from: usize, end: usize, out: &mut [u32; 128]) -> usize
+    requires order { from < end }
+    requires few { end ≤ 2 ^ 32 }
+    ensures count { result ≡ min 128 (end - from) }
+    ensures written { take result out.new ≡ range_with_len from result }
+{
+    let count = (end - from).min(128);
+    for place in 0..count {
+        out[place] = (from + place) as u32;
+    }
+    count
 }
 
 /// The first document of a set from a number on, or `END`. The window is begun anew.
@@ -202,18 +226,13 @@ fn first_window(set: &DocIdSet) -> Window
 }
 
 /// The first document of a set from a number on, or `END`. If that number is above the window's last document and the
-/// set has it or one near it, no window is filled.
+/// set has it, no window is filled.
 fn find_at(set: &DocIdSet, window: &mut Window, from: usize) -> usize
     requires { Holds set.now from window.old }
     ensures { IsFound set.now from result window.new }
 {
-    if from < set.docs() && from > window.last as usize {
-        if set.has(from) {
-            return from;
-        }
-        if let Some(doc) = set.near(from) {
-            return doc;
-        }
+    if from < set.docs() && from > window.last as usize && set.has(from) {
+        return from;
     }
     find(set, window, from)
 }

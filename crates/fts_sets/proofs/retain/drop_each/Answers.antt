@@ -1,18 +1,18 @@
--- One document more is looked at.
-use Rattle.std.proofs.Common.{◌≡◌, [], not, ◌+◌, get_or, refl, ap, arith}
-use Rattle.std.proofs.lemmas.List.{nil_from_length}
-use Rattle.fts_sets.proofs.KeptLemmas.{keeps_more, kept_without}
-use Rattle.fts_sets.specs.Leaves.{one_has}
+-- One test more goes over the documents.
+use Rattle.std.proofs.Common.{◌+◌, false, not, take, arith}
+use Rattle.std.specs.Bool.{beq}
+use Rattle.fts_sets.specs.Leaves.{leaf_has, one_has}
+use Rattle.fts_sets.proofs.KeptLemmas.{kept_both, kept_every, none_next}
 use Rattle.fts_sets.proofs.retain.drop_each.Goals as goal
 
-pub loop-index-preserved : goal.loop-index-preserved
-loop-index-preserved c =
-    let l = c.loop-index in
-    keeps_more (λ d. not (one_has c.args.leaves.now d)) c.args.from c.args.docs.now l.docs l.kept l.index (get_or l.docs l.index 0) _ (not c.one_has.result) l.invariant (omega arith) refl (ap not c.one_has.ensures) (ap (λ n. l.kept + n) c.from-kept.ensures)
+pub loop-leaf-init : goal.loop-leaf-init
+loop-leaf-init c = kept_every c.args.end c.args.docs.now (omega (arith, c.requires))
 
-pub returns-then-is_empty : goal.returns-then-is_empty
-returns-then-is_empty c =
+pub loop-leaf-preserved : goal.loop-leaf-preserved
+loop-leaf-preserved c =
+    let l = c.loop-leaf in
     let leaves = c.args.leaves.now in
-    let none : leaves ≡ [] = nil_from_length leaves (grind (arith, c.is_empty.ensures, c.if-is_empty.true)) in
-    kept_without (λ d. not (one_has leaves d)) (λ d. ap (λ ls. not (one_has ls d)) none) c.args.from c.args.end c.args.docs.now c.requires.order
-    (omega (arith, c.requires.room))
+    let one = c.leaf-item.result in
+    kept_both (λ d. not (one_has (take l.leaf-index leaves) d)) (λ d. beq (leaf_has one d) false) (λ d. not (one_has (take (l.leaf-index + 1) leaves) d))
+    (none_next leaves l.leaf-index one c.loop-leaf-test.true c.leaf-item.is) c.args.end c.args.docs.now l.docs c.keep_if-end.new.docs l.end c.keep_if-end.result
+    l.invariant c.keep_if-end.ensures

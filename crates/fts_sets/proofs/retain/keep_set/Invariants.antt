@@ -1,7 +1,8 @@
 -- Those of the documents so far that pass are at the front.
-use Rattle.fts_sets.proofs.KeptLemmas.{Keeps}
+use Rattle.std.specs.Bool.{beq}
+use Rattle.std.proofs.lemmas.List.Filters.{FiltersInPlace}
 use Rattle.fts_postings.specs.Windows.{is_set}
 use Rattle.fts_sets.proofs.retain.keep_set.Given as goal
 
 abbrev pub invariant-loop-index : goal.invariant-loop-index
-invariant-loop-index l = Keeps (is_set l.bits) l.from l.initial.docs l.docs l.kept l.index
+invariant-loop-index l = FiltersInPlace (λ d. beq (is_set l.bits d) l.set) l.initial.docs l.docs l.kept l.index

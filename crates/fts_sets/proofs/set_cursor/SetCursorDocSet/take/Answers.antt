@@ -1,8 +1,8 @@
--- What the window has is taken.
+-- What the window has is taken, or numbers of all.
 use Rattle.std.proofs.Common.{◌+◌, ◌-◌, get_or, refl, sym, subst, ◌∙◌, arith}
 use Rattle.fts_postings.specs.Remaining.{at_least}
 use Rattle.fts_postings.specs.Takes.{Takes}
-use Rattle.fts_sets.proofs.CursorLemmas.{holds_next, some_window, takes_nothing, takes_window}
+use Rattle.fts_sets.proofs.CursorLemmas.{below_end, holds_next, some_window, takes_nothing, takes_numbers, takes_window}
 use Rattle.fts_sets.proofs.SetLemmas.{nothing_left}
 use Rattle.fts_sets.proofs.set_cursor.SetCursorDocSet.take.Goals as goal
 
@@ -13,6 +13,20 @@ returns-then-self-ge-END c =
       taken = takes_nothing c.args.self.now c.args.out.now (sym c.self.view_is
           ∙ nothing_left s.set s.at c.self.invariant.rises (λ d far. c.self.invariant.few d (omega (arith, far, c.if-self-ge-END.true))));
     }
+
+pub write_numbers-count-requires-clause-order : goal.write_numbers-count-requires-clause-order
+write_numbers-count-requires-clause-order c =
+    let s = c.self.inside in
+    below_end s.set s.at c.in-Some.end c.in-Some.ensures.0 (c.self.invariant.stands c.if-self-ge-END.false)
+
+pub returns-in-Some : goal.returns-in-Some
+returns-in-Some c =
+    let s = c.self.inside in
+    let w = c.write_numbers-count in
+    let inside = below_end s.set s.at c.in-Some.end c.in-Some.ensures.0 (c.self.invariant.stands c.if-self-ge-END.false) in
+    let all = takes_numbers s.set w.new.out s.at c.in-Some.end w.result c.in-Some.ensures.0 inside w.ensures.count w.ensures.written in
+    let left = subst (λ xs. Takes (at_least s.at s.set) xs w.new.out w.result) (sym c.find_at-self-inside.ensures.same) all in
+    record { taken = subst (λ xs. Takes xs (at_least c.find_at-self-inside.result s.set) w.new.out w.result) c.self.view_is left }
 
 pub overflow_sub-count : goal.overflow_sub-count
 overflow_sub-count c =

@@ -1,7 +1,0 @@
--- Those of the documents so far that pass are at the front.
-use Rattle.fts_sets.proofs.KeptLemmas.{Keeps}
-use Rattle.fts_sets.specs.Leaves.{each_has}
-use Rattle.fts_sets.proofs.retain.keep_clauses.Given as goal
-
-abbrev pub invariant-loop-index : goal.invariant-loop-index
-invariant-loop-index l = Keeps (each_has l.clauses) l.from l.initial.docs l.docs l.kept l.index
