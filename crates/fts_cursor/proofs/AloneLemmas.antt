@@ -21,7 +21,7 @@ use Rattle.fts_cursor.specs.Terms.{AreBlocks, IsAlone}
 use Rattle.fts_cursor.specs.TreeValues.{LeavesList, TreeContinues, TreeValue, above}
 use Rattle.fts_cursor.specs.Trees.{IsTiedNode, PartsStand, Stands, tree_value, value_of}
 use Rattle.fts_cursor.specs.declared.tree.Node.{Node}
-use Rattle.fts_cursor.specs.declared.tree.Node.TheVariants.{Scan, Listed, Postings, Terms, Filter, Filtered, Phrase, And, Or, Without}
+use Rattle.fts_cursor.specs.declared.tree.Node.TheVariants.{Scan, Listed, Postings, Terms, Filtered, Phrase, And, Or, Without}
 use Rattle.fts_cursor.specs.declared.tree.Source.{Source}
 use Rattle.fts_cursor.specs.declared.tree.Source.TheVariants as sources
 
@@ -104,8 +104,7 @@ node_left doc (Postings p) parts tied documents is =
       alone_left p tied.1.rises ∙ ap (λ xs. left_at xs (slice_get (remaining_of p) 0)) same
           ∙ sym (filter-every (left_at documents (slice_get (remaining_of p) 0))),
     )
-node_left doc (Terms c) parts tied documents is = absurd (cc)
-node_left doc (Filter s) parts tied documents is = absurd (cc)
+node_left doc (Terms c opened) parts tied documents is = absurd (cc)
 node_left doc (Phrase s) parts tied documents is = absurd (cc)
 node_left doc (And meeting) parts tied documents is = absurd (cc)
 node_left doc (Or buffered) parts tied documents is = absurd (cc)

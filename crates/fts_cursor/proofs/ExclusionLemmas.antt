@@ -12,7 +12,7 @@ use Rattle.fts_postings.specs.Takes.{Takes}
 use Rattle.fts_postings.proofs.CostLemmas.{length-filter-le}
 use Rattle.fts_postings.proofs.SetLemmas.{Rises-from_first, filter-same, has-at_least, has-first}
 use Rattle.fts_postings.proofs.TakesLemmas.{Taken-some, no_first}
-use Rattle.fts_sets.proofs.KeptLemmas.{Keeps}
+use Rattle.std.proofs.lemmas.List.Filters.{FiltersInPlace}
 use Rattle.fts_sets.specs.Kept.{IsKept}
 use Rattle.fts_cursor.specs.TreeValues.{Narrowed, TreeValue}
 use Rattle.fts_cursor.specs.Trees.{PassesAt}
@@ -28,10 +28,10 @@ front_low xs i d rises inside high k e within =
     omega (arith, at, high, AllPairs-from_increasing xs rises k i 0 low inside)
 
 -- what is at the index was there at first
-pub still_there : (p : ℕ → Bool) (xs ys : List ℕ) (k i : ℕ) → Keeps p 0 xs ys k i → get_or ys i 0 ≡ get_or xs i 0
+pub still_there : (p : ℕ → Bool) (xs ys : List ℕ) (k i : ℕ) → FiltersInPlace p xs ys k i → get_or ys i 0 ≡ get_or xs i 0
 still_there p xs ys k i h =
     let same : (zs : List ℕ) → get_or (drop i zs) 0 0 ≡ get_or zs i 0 = λ zs. get_or-drop i zs 0 0 ∙ ap (λ n. get_or zs n 0) (let e : i + 0 ≡ i = omega arith in e) in
-    sym (same ys) ∙ ap (λ zs. get_or zs 0 0) h.places.rest ∙ same xs
+    sym (same ys) ∙ ap (λ zs. get_or zs 0 0) h.rest ∙ same xs
 
 -- a turn: a document is asked for that isn't below those before
 module _ (docs : List ℕ) (i end : ℕ) (rises : IsStrictlyIncreasing (take end docs)) (low : i < end) (room : end ≤ length docs) where
@@ -71,7 +71,7 @@ stands_first None p xs passes first some = absurd (no_first (filter p xs) first 
 
 -- some were taken of what leads, and those of them that the other has weren't kept
 module _ (whole mid before after out docs : List ℕ) (n kept : ℕ) (t : Takes whole mid out n) (rises : IsStrictlyIncreasing whole)
-    (k : IsKept (lacks before) 0 n out docs kept) (later : (d : ℕ) → All (λ x. x ≤ d) (take n out) → has after d ≡ has before d) where
+    (k : IsKept (lacks before) n out docs kept) (later : (d : ℕ) → All (λ x. x ≤ d) (take n out) → has after d ≡ has before d) where
   pub without_later : without mid after ≡ without mid before
   without_later = elim mid as (λ xs. xs ≡ drop n whole → without xs after ≡ without xs before) [
     | [] ↦ λ is. refl

@@ -23,9 +23,7 @@ pub mod ListedLemmas
 pub mod LiveLemmas
 pub mod ExclusionLemmas
 pub mod CutLemmas
-pub mod FilterLemmas
 pub mod SplitLemmas
 pub mod TestsLemmas
 pub mod ShouldsLemmas
-pub mod LeadLemmas
 pub mod MustsLemmas

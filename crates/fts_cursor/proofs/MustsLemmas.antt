@@ -3,7 +3,7 @@ use Rattle.std.proofs.Common.{◌≡◌, ℕ, ◌+◌, ◌<◌, ◌≤◌, ◌&&
 use Rattle.std.proofs.Common.{◌∙◌, inl, inr, drop, arith}
 use Rattle.std.specs.List.{filter, list_all, range_with_len}
 use Rattle.std.proofs.Math.Bool.{and-true, and_assoc}
-use Rattle.std.proofs.lemmas.Bool.{and_right, cases_Bool, cases_lt, false≢true, lt-ltb}
+use Rattle.std.proofs.lemmas.Bool.{and_parts, and_right, cases_Bool, cases_lt, false≢true, lt-ltb}
 use Rattle.std.proofs.lemmas.List.{map-append, take_more}
 use Rattle.std.proofs.lemmas.List.Folds.{list_all-append}
 use Rattle.std.proofs.lemmas.Option.{slice_get_past}
@@ -11,6 +11,7 @@ use Rattle.std.specs.Option.{option_map_or}
 use Rattle.fts_model.specs.declared.operation.Stamped.{Stamped}
 use Rattle.fts_model.specs.Documents.{DocumentValue}
 use Rattle.fts_model.specs.declared.query.Query.{Query}
+use Rattle.fts_model.specs.Queries.{matches}
 use Rattle.fts_model.specs.QueryValues.{query_value}
 use Rattle.fts_model.proofs.QueriesBoolean.{matches_in}
 use Rattle.fts_pack.specs.Documents.{Rises}
@@ -26,9 +27,17 @@ use Rattle.fts_cursor.specs.Musts.{AreMusts}
 use Rattle.fts_cursor.specs.Tests.{hits_of_each}
 use Rattle.fts_cursor.specs.TreeValues.{TreeValue, remains}
 use Rattle.fts_cursor.proofs.HitsLemmas.{Rises-hits, Rises-numbers, has-all, hits_common, hits_of}
-use Rattle.fts_cursor.proofs.LeadLemmas.{hit_inside, one_of_them}
 use Rattle.fts_cursor.proofs.ShouldsLemmas.{most_push, most_with}
 use Rattle.fts_cursor.proofs.TestsLemmas.{and_turn}
+
+-- a hit is a document
+hit_inside : (segment : SegmentValue) (q : Query) (d : ℕ) → has (hits_of segment q) d ≡ true → nat_lt d (length segment.documents) ≡ true
+hit_inside segment q d there =
+    let p : Stamped DocumentValue → Bool = λ e. matches segment.schema e.value (query_value q) in
+    elim (cases_lt d (length segment.documents)) [
+      | inl inside ↦ lt-ltb d (length segment.documents) inside
+      | inr past ↦ absurd (false≢true (sym (has-all p segment.documents d ∙ ap (λ s. option_map_or p s false) (slice_get_past segment.documents d past)) ∙ there))
+    ]
 
 hits_and : (segment : SegmentValue) (qs : List Query) (q : Query) (d : ℕ) →
     in_all (hits_of_each segment (qs ++ q ∷ [])) d ≡ (in_all (hits_of_each segment qs) d && has (hits_of segment q) d)
@@ -105,7 +114,7 @@ inside_too segment (q ∷ qs) d some =
     let all = in_all (hits_of_each segment (q ∷ qs)) d in
     elim (cases_Bool all) [
       | inl has_all ↦
-          ap (λ b. b && all) (hit_inside segment q d (one_of_them segment (q ∷ qs) 0 q d (omega arith) refl has_all))
+          ap (λ b. b && all) (hit_inside segment q d (and_parts (has (hits_of segment q) d) (in_all (hits_of_each segment qs) d) has_all).0)
       | inr not_all ↦ and_right (nat_lt d (length segment.documents)) all not_all ∙ sym not_all
     ]
 

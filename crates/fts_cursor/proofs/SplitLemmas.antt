@@ -79,10 +79,10 @@ IsSplit-rest lists bits rest opened x h = record {
 
 -- a conjunction finds all
 pub FindsAll-conjoined : (shortest : List ℕ) (others : List (List ℕ)) (c : Conjoined) (t : Standing) → IsConjoinedOver shortest others c →
-    t.remaining ≡ common_of c → t.openings ≡ counts_of c → t.bound ≡ bound_of c → FindsAll shortest others t
+    t.remaining ≡ common_of c → t.openings ≡ counts_of c → ((doc : Option ℕ) → most_at t.bound doc ≡ most_at (bound_of c) doc) → FindsAll shortest others t
 FindsAll-conjoined shortest others c t h remaining openings bound = record {
   remaining = remaining ∙ h.remaining;
-  bound = λ doc. omega (arith, ap (λ (b : Bound). most_at b doc) (bound ∙ h.bound));
+  bound = λ doc. omega (arith, bound doc, ap (λ (b : Bound). most_at b doc) h.bound);
   opened = λ d first at. omega (arith, openings, h.opened d first at);
 }
 

@@ -1,12 +1,12 @@
 -- Cursors over lists, and what a conjunction of them stands for in a tree.
-use Rattle.std.proofs.Common.{◌≡◌, ℕ, ◌+◌, ◌≤◌, List, [], ◌∷◌, length, refl, sym, ap₂, ◌∙◌, arith}
+use Rattle.std.proofs.Common.{◌≡◌, ℕ, ◌+◌, ◌≤◌, List, [], ◌∷◌, length, refl, sym, ap, ap₂, ◌∙◌, arith}
 use Rattle.std.specs.List.{All, AllZip, flat_map, sum_by}
 use Rattle.std.proofs.lemmas.List.Elements.{All-cons, All-head, All-tail}
 use Rattle.std.proofs.lemmas.List.Sums.{sum_by-cons}
 use Rattle.fts_postings.specs.Bounds.{Bound}
 use Rattle.fts_postings.specs.Conjoined.{AllFollow, Conjoined, counts_of, openings_of}
 use Rattle.fts_postings.specs.Posting.{Follows, Posting}
-use Rattle.fts_cursor.specs.Standing.{Continues}
+use Rattle.fts_cursor.specs.Standing.{Continues, with_opened}
 use Rattle.fts_cursor.specs.Terms.{AreTied, IsTied, of_terms}
 
 -- lists that follow on
@@ -39,6 +39,17 @@ terms-continue c d h tied =
       },
       (lead, rest.1),
     )
+
+-- the same, with blocks that were opened before
+pub opened-continue : (c d : Conjoined) (opened : ℕ) (before after : List ℕ) → AllFollow c d → AreTied c →
+    Continues (with_opened opened (of_terms c before)) (with_opened opened (of_terms d after))
+opened-continue c d opened before after follows tied =
+    let on = (terms-continue c d follows tied).0 before after in
+    record {
+      bound = ap (λ (b : Bound). let m : Bound = record b { blocks = b.blocks + opened } in m) on.bound;
+      list = refl;
+      more = omega (arith, on.more);
+    }
 
 -- each opening was counted by its source
 counts-tied : (ps : List Posting) → All IsTied ps → sum_by (λ p. p.count) ps ≡ sum_by (λ p. p.opened) ps

@@ -9,10 +9,8 @@ pub mod Trees
 pub mod Falls
 pub mod Ranges
 pub mod Hits
-pub mod Filters
 pub mod Splits
 pub mod Tests
 pub mod Most
 pub mod Shoulds
 pub mod Musts
-pub mod Told

@@ -1,5 +1,5 @@
 -- What contracts see of the cursor of a query.
-use Rattle.std.specs.Prelude.{◌≡◌, ℕ, suc, ◌≤◌, Bool, true, List, [], Option, None, Some, slice_get}
+use Rattle.std.specs.Prelude.{◌≡◌, ℕ, suc, ◌+◌, ◌≤◌, Bool, true, List, [], Option, None, Some, slice_get}
 use Rattle.fts_pack.specs.Documents.{block_count}
 use Rattle.fts_postings.specs.Bounds.{Bound, reached}
 use Rattle.fts_postings.specs.Remaining.{at_least}
@@ -27,6 +27,13 @@ pub record Walked (old new : Standing) : Type 0 where
 -- this many blocks, wherever it is
 abbrev pub at_most : ℕ → Bound
 at_most blocks = record { blocks = blocks; lead = []; others = 0 }
+
+-- a cursor for which this many blocks more were opened
+abbrev pub with_opened : ℕ → Standing → Standing
+with_opened opened s = record s {
+  openings = s.openings + opened;
+  bound = record s.bound { blocks = s.bound.blocks + opened };
+}
 
 -- how many blocks a list has up to a document, that of the document counted: all of them at the end
 abbrev pub blocks_to : List ℕ → Option ℕ → ℕ

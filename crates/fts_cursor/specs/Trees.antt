@@ -6,7 +6,7 @@ use Rattle.std.specs.List.Sorted.{IsStrictlyIncreasing}
 use Rattle.fts_postings.specs.Posting.{blocks_reached, members_of, remaining_of}
 use Rattle.fts_postings.specs.Conjoined.{common_of}
 use Rattle.fts_postings.specs.Sets.{FirstPasses, common, has, in_all, in_some, lacks, union, without}
-use Rattle.fts_cursor.specs.Standing.{at_most}
+use Rattle.fts_cursor.specs.Standing.{at_most, with_opened}
 use Rattle.fts_cursor.specs.Terms.{AreTied, IsAlone, of_terms}
 use Rattle.fts_cursor.specs.TreeValues.{LeavesList, TreeValue, above, beside, leaf, remains, together}
 use Rattle.fts_cursor.specs.declared.tree.buffered_union.BufferedUnion.{BufferedUnion}
@@ -14,7 +14,7 @@ use Rattle.fts_cursor.specs.declared.tree.exclusion.Exclusion.{Exclusion}
 use Rattle.fts_cursor.specs.declared.tree.filtered_tree.FilteredTree.{FilteredTree}
 use Rattle.fts_cursor.specs.declared.tree.intersection.Intersection.{Intersection}
 use Rattle.fts_cursor.specs.declared.tree.Node.{Node}
-use Rattle.fts_cursor.specs.declared.tree.Node.TheVariants.{Scan, Listed, Postings, Terms, Filter, Phrase}
+use Rattle.fts_cursor.specs.declared.tree.Node.TheVariants.{Scan, Listed, Postings, Terms, Phrase}
 use Rattle.fts_cursor.specs.declared.tree.Node.TheVariants.{And, Filtered, Or, Without}
 use Rattle.fts_cursor.specs.declared.tree.Source.{Source}
 use Rattle.fts_cursor.specs.declared.tree.Source.TheVariants.{Nothing, Cursor}
@@ -62,8 +62,7 @@ tree_value (Postings p) = leaf (record {
   whole = p.opened == blocks_reached p;
   list = Some (members_of p);
 })
-tree_value (Terms c) = leaf (of_terms c (common_of c))
-tree_value (Filter s) = leaf (record s { whole = false; list = None })
+tree_value (Terms c opened) = leaf (with_opened opened (of_terms c (common_of c)))
 tree_value (Phrase s) = leaf (record s { whole = false; list = None })
 tree_value (And parts) = beside parts.lead.value (together parts.others.items) (meet parts)
 tree_value (Or buffered) = beside (together buffered.parts.items) (together []) (gathered buffered)
@@ -92,7 +91,7 @@ PartsStand doc node = Unit {0}
 -- leaves of one is of that list
 abbrev pub IsTiedNode : Node → Type 0
 IsTiedNode (Postings p) = IsAlone p
-IsTiedNode (Terms c) = AreTied c
+IsTiedNode (Terms c opened) = AreTied c
 IsTiedNode (Filtered filtered) = LeavesList filtered.tree.value
 IsTiedNode node = Unit {0}
 

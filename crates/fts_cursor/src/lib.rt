@@ -22,7 +22,6 @@
 
 mod any;
 mod cursor;
-mod filter;
 mod hit_sets;
 mod list_union;
 mod phrase;

@@ -32,7 +32,7 @@ use fts_pack::ListSource;
 use fts_pack::bits::Bits;
 use fts_postings::{Conjunction, PostingCursor};
 use fts_segment::{ListId, Segment};
-use fts_sets::{DocIdSet, SetCursor};
+use fts_sets::{DocIdSet, Leaf, SetCursor};
 use std::alloc::{AllocError, Global};
 
 /// The cursor of a query over the documents of a segment whose bits are set.
@@ -74,9 +74,9 @@ fn live_tree<'a>(
     if live.is_all_set() {
         return Ok(tree);
     }
-    // Shows the proof that the documents are few.
-    let _ = segment.docs();
-    tree.cut(alloc, live)
+    let mut set = DocIdSet::every(alloc, segment.docs());
+    set.with(Leaf::Set(live))?;
+    Tree::filtered(alloc, tree, set)
 }
 
 /// The documents that match a query.

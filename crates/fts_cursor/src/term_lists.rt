@@ -9,7 +9,6 @@ ghost use Rattle.fts_cursor.specs.Hits.{is_live};
 ghost use Rattle.fts_cursor.specs.Leading.{IsOver};
 ghost use Rattle.fts_cursor.specs.Splits.{FindsAll, FindsSplit, IsSplit};
 
-use crate::filter::FilterCursor;
 use crate::tree::Tree;
 use fts_pack::bits::Bits;
 use fts_pack::{ListRef, ListSource};
@@ -76,7 +75,7 @@ fn untold<'a>(
 {
     let lead = cursor_over(shortest);
     let others = cursors_over(alloc, others)?;
-    Tree::terms(alloc, Conjunction::new(lead, others))
+    Tree::terms(alloc, Conjunction::new(lead, others), 0)
 }
 
 /// The cursor if all have bits.
@@ -117,8 +116,8 @@ fn some_told<'a>(
     let lead = cursor_over(shortest);
     let others = cursors_over(alloc, rest)?;
     let set = set_in_each(alloc, &bits)?;
-    let filter = FilterCursor::new(Conjunction::new(lead, others), set, opened);
-    Tree::filter(alloc, filter)
+    let tree = Tree::terms(alloc, Conjunction::new(lead, others), opened)?;
+    Tree::filtered(alloc, tree, set)
 }
 
 /// The documents that are set in each of some bits.

@@ -4,12 +4,12 @@ ghost use Rattle.std.specs.Prelude.{Some, filter, length};
 ghost use Rattle.std.specs.Prelude.{min, slice_get};
 ghost use Rattle.std.specs.List.Sorted.{IsStrictlyIncreasing};
 ghost use Rattle.fts_postings.specs.Bounds.{most_at};
-ghost use Rattle.fts_postings.specs.Conjoined.{bound_of, common_of, counts_of};
+ghost use Rattle.fts_postings.specs.Conjoined.{common_of};
 ghost use Rattle.fts_postings.specs.Sets.{common, has, union, without};
 ghost use Rattle.fts_postings.specs.Remaining.{at_least};
 ghost use Rattle.fts_postings.specs.Takes.{Takes};
-ghost use Rattle.fts_cursor.specs.Hits.{is_live};
-ghost use Rattle.fts_cursor.specs.Standing.{OpensAlong, OpensOnce, Walked, at_most};
+ghost use Rattle.fts_cursor.specs.Standing.{OpensAlong, OpensOnce, Walked, at_most, with_opened};
+ghost use Rattle.fts_cursor.specs.Terms.{AreTied, of_terms};
 ghost use Rattle.fts_cursor.specs.TreeValues.{LeavesList, TreeContinues, all_most, all_openings, remains};
 ghost use Rattle.fts_cursor.specs.Trees.{IsNow, StandsAt, tree_value};
 ghost use Rattle.fts_pack.specs.Documents.{block_count};
@@ -20,16 +20,14 @@ mod exclusion;
 mod filtered_tree;
 mod intersection;
 
-use crate::filter::FilterCursor;
 use crate::list_union::ListedCursor;
 use crate::phrase::PhraseCursor;
 use buffered_union::{BufferedUnion, count_gathered, gather, refill, take_gathered};
 use exclusion::{Exclusion, settle, take_without};
 use filtered_tree::{FilteredTree, count_kept, take_filtered};
-use fts_pack::bits::Bits;
 use fts_pack::{ListRef, ListSource};
 use fts_postings::{Conjunction, DocSet, PostingCursor, Window};
-use fts_sets::{DocIdSet, Leaf, SetCursor};
+use fts_sets::{DocIdSet, SetCursor};
 use intersection::{Intersection, align};
 use std::alloc::{AllocError, Global};
 use std::marker::Model;
@@ -59,8 +57,8 @@ enum Node<'a> {
     /// The count is the number of blocks that were opened to list the documents.
     Listed(ListedCursor, u64),
     Postings(PostingCursor<ListSource<'a>>),
-    Terms(Conjunction<ListSource<'a>>),
-    Filter(FilterCursor<'a>),
+    /// The count is the number of blocks that were opened of the lists by whose bits the documents are filtered.
+    Terms(Conjunction<ListSource<'a>>, u64),
     Phrase(PhraseCursor<'a>),
     And(Intersection<'a>),
     Or(BufferedUnion<'a>),
@@ -153,27 +151,17 @@ impl<'a> Tree<'a> {
         Tree::of(alloc, postings.doc(), Node::Postings(postings))
     }
 
-    /// The tree of the documents that lists have in common.
+    /// The tree of the documents that lists have in common. `opened` blocks were opened of lists by whose bits they will be
+    /// filtered.
     pub(crate) fn terms(
         alloc: Global,
         terms: Conjunction<ListSource<'a>>,
+        opened: u64,
     ) -> Result<Tree<'a>, AllocError>
-        requires lead { terms.lead.count ≡ terms.lead.opened }
-        requires others { All (λ p. p.count ≡ p.opened) terms.others }
-        ensures remaining { IfOk result (λ t. t.remaining ≡ common_of terms.entry) }
-        ensures openings { IfOk result (λ t. t.openings ≡ counts_of terms.entry) }
-        ensures bound { IfOk result (λ t. t.bound ≡ bound_of terms.entry) }
+        requires { AreTied terms }
+        ensures { IfOk result (λ t. t.standing ≡ with_opened opened (of_terms terms.entry (common_of terms.entry))) }
     {
-        Tree::of(alloc, terms.doc(), Node::Terms(terms))
-    }
-
-    /// The tree of the documents that lists have in common and whose bits are set.
-    pub(crate) fn filter(alloc: Global, filter: FilterCursor<'a>) -> Result<Tree<'a>, AllocError>
-        ensures remaining { IfOk result (λ t. t.remaining ≡ filter.entry.remaining) }
-        ensures openings { IfOk result (λ t. t.openings ≡ filter.entry.openings) }
-        ensures bound { IfOk result (λ t. t.bound ≡ filter.entry.bound) }
-    {
-        Tree::of(alloc, filter.doc(), Node::Filter(filter))
+        Tree::of(alloc, terms.doc(), Node::Terms(terms, opened))
     }
 
     /// The tree of a phrase.
@@ -231,7 +219,7 @@ impl<'a> Tree<'a> {
         Tree::of(alloc, doc, Node::Without(parts))
     }
 
-    /// The tree of the documents of another that are of a set.
+    /// The tree of the documents of another that are of a set. Sets that filter one tree are one set.
     pub(crate) fn filtered(
         alloc: Global,
         tree: Tree<'a>,
@@ -241,53 +229,33 @@ impl<'a> Tree<'a> {
         ensures rises { IfOk result (λ t. IsStrictlyIncreasing t.remaining) }
         ensures walked { IfOk result (λ t. Walked tree.entry.standing t.standing) }
     {
-        let mut tree = Box::new(alloc, tree)?;
-        let doc = filtered_tree::settle(&mut tree, &set);
-        Tree::of(alloc, doc, Node::Filtered(FilteredTree { tree, set }))
-    }
-
-    /// The tree of the remaining documents whose bit is set.
-    pub(crate) fn cut(self, alloc: Global, live: &'a Bits) -> Result<Tree<'a>, AllocError>
-        requires { length live.now ≤ 2 ^ 32 }
-        ensures remaining { IfOk result (λ t. t.remaining ≡ filter (is_live live.now) self.entry.remaining) }
-        ensures walked { IfOk result (λ t. Walked self.entry.standing t.standing) }
-    {
-        let mut tree = self;
-        if tree.cut_set(live)? {
-            return Ok(tree);
-        }
-        let mut set = DocIdSet::every(alloc, live.len());
-        set.with(Leaf::Set(live))?;
-        Tree::filtered(alloc, tree, set)
-    }
-
-    /// Leaves only those of the remaining documents whose bit is set, if a set tells these, and returns whether it did.
-    fn cut_set(&mut self, live: &'a Bits) -> Result<bool, AllocError>
-        ensures cut { IfOk result (λ did. did ≡ true
-            → self.new.remaining ≡ filter (is_live live.now) self.old.remaining) }
-        ensures uncut { IfOk result (λ did. did ≡ false → self.new.remaining ≡ self.old.remaining) }
-        ensures walked { Walked self.old.standing self.new.standing }
-    {
-        let Source::Cursor(node) = &mut self.source else {
-            return Ok(true);
+        let Tree { doc, source } = tree;
+        let Source::Cursor(mut node) = source else {
+            return Ok(Tree::nothing());
         };
-        match &mut **node {
+        match &mut *node {
             Node::Scan(scan, _) => {
-                scan.cut(live)?;
-                self.doc = scan.doc();
-                Ok(true)
-            }
-            Node::Filter(filter) => {
-                filter.cut(live)?;
-                self.doc = filter.doc();
-                Ok(true)
+                scan.cut(set)?;
+                let doc = scan.doc();
+                Ok(Tree {
+                    doc,
+                    source: Source::Cursor(node),
+                })
             }
             Node::Filtered(filtered) => {
-                filtered.set.with(Leaf::Set(live))?;
-                self.doc = filtered_tree::settle(&mut filtered.tree, &filtered.set);
-                Ok(true)
+                filtered.set.meet(set)?;
+                let doc = filtered_tree::settle(&mut filtered.tree, &filtered.set);
+                Ok(Tree {
+                    doc,
+                    source: Source::Cursor(node),
+                })
             }
-            _ => Ok(false),
+            _ => {
+                let source = Source::Cursor(node);
+                let mut tree = Box::new(alloc, Tree { doc, source })?;
+                let doc = filtered_tree::settle(&mut tree, &set);
+                Tree::of(alloc, doc, Node::Filtered(FilteredTree { tree, set }))
+            }
         }
     }
 
@@ -308,8 +276,7 @@ impl<'a> Tree<'a> {
         match &**node {
             Node::Scan(_, opened) | Node::Listed(_, opened) => *opened,
             Node::Postings(postings) => postings.openings(),
-            Node::Terms(terms) => terms.openings(),
-            Node::Filter(filter) => filter.openings(),
+            Node::Terms(terms, opened) => terms.openings().saturating_add(*opened),
             Node::Phrase(phrase) => phrase.openings(),
             Node::And(parts) => parts
                 .lead
@@ -337,8 +304,7 @@ impl<'a> Tree<'a> {
             Node::Scan(scan, _) => scan.cost(),
             Node::Listed(listed, _) => listed.cost(),
             Node::Postings(postings) => postings.cost(),
-            Node::Terms(terms) => terms.cost(),
-            Node::Filter(filter) => filter.cost(),
+            Node::Terms(terms, _) => terms.cost(),
             Node::Phrase(phrase) => phrase.cost(),
             Node::And(parts) => parts.lead.cost(),
             Node::Or(buffered) => buffered
@@ -476,13 +442,9 @@ fn step(node: &mut Node) -> Option<u32>
             postings.advance();
             postings.doc()
         }
-        Node::Terms(terms) => {
+        Node::Terms(terms, _) => {
             terms.advance();
             terms.doc()
-        }
-        Node::Filter(filter) => {
-            filter.advance();
-            filter.doc()
         }
         Node::Phrase(phrase) => {
             phrase.advance();
@@ -528,13 +490,9 @@ fn skip(node: &mut Node, target: u32) -> Option<u32>
             postings.seek(target);
             postings.doc()
         }
-        Node::Terms(terms) => {
+        Node::Terms(terms, _) => {
             terms.seek(target);
             terms.doc()
-        }
-        Node::Filter(filter) => {
-            filter.seek(target);
-            filter.doc()
         }
         Node::Phrase(phrase) => {
             phrase.seek(target);
@@ -577,13 +535,9 @@ fn take_from(node: &mut Node, doc: Option<u32>, out: &mut [u32; 128]) -> (usize,
             let count = postings.take(out);
             (count, postings.doc())
         }
-        Node::Terms(terms) => {
+        Node::Terms(terms, _) => {
             let count = terms.take(out);
             (count, terms.doc())
-        }
-        Node::Filter(filter) => {
-            let count = filter.take(out);
-            (count, filter.doc())
         }
         Node::Phrase(phrase) => {
             let count = phrase.take(out);

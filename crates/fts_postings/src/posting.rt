@@ -139,7 +139,8 @@ impl<B: Blocks> PostingCursor<B> {
         self.len = 0;
     }
 
-    /// Goes to the beginning of a block, or to the end.
+    /// Goes to the beginning of a block, or to the end. It is kept out of what calls it, which seldom goes there.
+    #[inline(never)]
     fn enter(&mut self, block: usize)
         requires few { self.old.opened ≤ block }
         requires within { block ≤ length self.old.blocks }
@@ -248,6 +249,7 @@ impl<B: Blocks> DocSet for PostingCursor<B> {
 
 /// The first block from `from` on that ends with the target or more: the number of blocks if there is none. Looks at
 /// the next first, then at ever farther ones, and halves what is left between.
+#[inline(never)]
 fn block_of<B: Blocks>(source: &B, from: usize, target: u32) -> usize
     requires { from ≤ length (B.contents source.now) }
     ensures { IsPlaceOf (λ k. last_of (slice_index_or (B.contents source.now) k [])) from

@@ -57,7 +57,7 @@ pub(crate) fn take_without(parts: &mut Exclusion, out: &mut [u32; 128]) -> (usiz
 fn keep_lacking(dropped: &mut Tree, end: usize, docs: &mut [u32; 128]) -> usize
     requires room { end ≤ 128 }
     requires rises { IsStrictlyIncreasing (take end docs.old) }
-    ensures kept { IsKept (lacks dropped.old.remaining) 0 end docs.old docs.new result }
+    ensures kept { IsKept (lacks dropped.old.remaining) end docs.old docs.new result }
     ensures later { (d : ℕ) → All (λ doc. doc ≤ d) (take end docs.old)
         → has dropped.new.remaining d ≡ has dropped.old.remaining d }
     ensures continues { TreeContinues dropped.old dropped.new }

@@ -49,7 +49,7 @@ pub(crate) fn take_filtered(
         (tree_value (Node.Filtered filtered.new)).standing }
 {
     let taken = filtered.tree.take(out);
-    let kept = filtered.set.retain(0, taken, out);
+    let kept = filtered.set.retain(taken, out);
     let next = settle(&mut filtered.tree, &filtered.set);
     (kept, next)
 }
@@ -96,7 +96,7 @@ fn count_taken(tree: &mut Tree, set: &DocIdSet) -> usize
     let mut count = 0usize;
     while let Some(_first) = tree.doc() {
         let taken = tree.take(&mut docs);
-        let kept = set.count_in(&docs[..taken]);
+        let kept = set.count_in(taken, &mut docs);
         count = count.saturating_add(kept);
     }
     count

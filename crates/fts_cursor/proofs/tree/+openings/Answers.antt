@@ -1,5 +1,5 @@
 -- A sum goes on by one part, and a part isn't as deep as all.
-use Rattle.std.proofs.Common.{◌≡◌, ◌-◌, ◌*◌, ◌^◌, ◌<◌, ◌≤◌, None, length, ap, subst, sym, ◌∙◌, min, arith, rules}
+use Rattle.std.proofs.Common.{◌≡◌, ◌*◌, ◌<◌, ◌≤◌, None, length, ap, subst, sym, ◌∙◌, arith, rules}
 use Rattle.std.specs.List.{slice_get}
 use Rattle.fts_postings.specs.Bounds.{most_at}
 use Rattle.fts_postings.proofs.ConjoinedLemmas.{most-at_end}
@@ -68,17 +68,19 @@ Tree::openings-returns-in-Postings-clause-along t c =
 
 pub Tree::openings-returns-in-Terms-clause-sum : goal.Tree::openings-returns-in-Terms-clause-sum
 Tree::openings-returns-in-Terms-clause-sum t c =
-    let tied : AreTied c.in-Terms.terms = subst IsTiedNode (sym c.deref.ensures ∙ c.in-Terms.is) (rw c.in-Cursor.is at c.self.invariant.stands).tied in
-    c.openings-in-Terms.ensures.sum
-    ∙ ap (min (2 ^ 64 - 1)) (sym (terms-tied c.in-Terms.terms tied) ∙ ap (λ s. s.openings) (ap tree_value (sym c.in-Terms.is ∙ c.deref.ensures)
-    ∙ ap value_of (sym c.in-Cursor.is) ∙ c.self.view_is))
+    let terms = c.in-Terms.terms in
+    let tied : AreTied terms = subst IsTiedNode (sym c.deref.ensures ∙ c.in-Terms.is) (rw c.in-Cursor.is at c.self.invariant.stands).tied in
+    let is : tree_value (Terms terms c.in-Terms.opened) ≡ c.args.self.now = ap tree_value (sym c.in-Terms.is ∙ c.deref.ensures) ∙ ap value_of (sym c.in-Cursor.is)
+    ∙ c.self.view_is in
+    rw (← is) (omega (arith, terms-tied terms tied, c.openings-in-Terms.ensures.sum, c.saturating_add.ensures))
 
 pub Tree::openings-returns-in-Terms-clause-bound : goal.Tree::openings-returns-in-Terms-clause-bound
 Tree::openings-returns-in-Terms-clause-bound t c =
-    let tied : AreTied c.in-Terms.terms = subst IsTiedNode (sym c.deref.ensures ∙ c.in-Terms.is) (rw c.in-Cursor.is at c.self.invariant.stands).tied in
-    let is : tree_value (Terms c.in-Terms.terms) ≡ c.args.self.now = ap tree_value (sym c.in-Terms.is ∙ c.deref.ensures) ∙ ap value_of (sym c.in-Cursor.is)
+    let terms = c.in-Terms.terms in
+    let tied : AreTied terms = subst IsTiedNode (sym c.deref.ensures ∙ c.in-Terms.is) (rw c.in-Cursor.is at c.self.invariant.stands).tied in
+    let is : tree_value (Terms terms c.in-Terms.opened) ≡ c.args.self.now = ap tree_value (sym c.in-Terms.is ∙ c.deref.ensures) ∙ ap value_of (sym c.in-Cursor.is)
     ∙ c.self.view_is in
-    rw (← is) (omega (arith, terms-tied c.in-Terms.terms tied, c.openings-in-Terms.ensures.bound))
+    rw (← is) (omega (arith, terms-tied terms tied, c.openings-in-Terms.ensures.bound))
 
 -- a part opened no more than it does at most
 within : (a b : TreeValue) → a ≡ b → a.openings ≤ most_at a.bound (slice_get a.remaining 0) → b.openings ≤ most_at b.bound None

@@ -11,7 +11,7 @@ use Rattle.fts_cursor.specs.TreeValues.{TreeValue}
 use Rattle.fts_cursor.specs.Trees.{differ}
 use Rattle.fts_cursor.proofs.ExclusionLemmas.{Takes-without}
 use Rattle.fts_cursor.proofs.LiveLemmas.{Takes-live}
-use Rattle.fts_cursor.proofs.TermsLemmas.{terms-continue}
+use Rattle.fts_cursor.proofs.TermsLemmas.{opened-continue, terms-continue}
 use Rattle.fts_cursor.proofs.TreeLemmas.{filtered_stands}
 use Rattle.fts_cursor.proofs.tree.+take.Goals as goal
 
@@ -29,7 +29,7 @@ pub take_from-returns-in-Terms-clause-walked : goal.take_from-returns-in-Terms-c
 take_from-returns-in-Terms-clause-walked t c =
     let tied : AreTied c.in-Terms.terms = rw c.in-Terms.is at c.requires.tied in
     rw c.in-Terms.is (record {
-      continues = (terms-continue c.in-Terms.terms c.take-count-in-Terms.new.self c.take-count-in-Terms.ensures.follows tied).0 _ _;
+      continues = opened-continue c.in-Terms.terms c.take-count-in-Terms.new.self c.in-Terms.field-1 _ _ c.take-count-in-Terms.ensures.follows tied;
       whole = λ h. h;
     })
 
@@ -43,7 +43,7 @@ exclusion::take_without-returns-clause-taken t c =
     let k = c.keep_lacking-kept in
     let took = subst (λ (s : TreeValue). Takes s.remaining mid out n) c.deref_mut.ensures.value c.take-taken.ensures.taken in
     let rises = subst (λ (s : TreeValue). IsStrictlyIncreasing s.remaining) c.deref_mut.ensures.value c.take-taken.ensures.rises in
-    let picked = subst (λ (s : TreeValue). IsKept (lacks s.remaining) 0 n out k.new.docs k.result) c.deref_mut-2.ensures.value k.ensures.kept in
+    let picked = subst (λ (s : TreeValue). IsKept (lacks s.remaining) n out k.new.docs k.result) c.deref_mut-2.ensures.value k.ensures.kept in
     subst (λ left. Takes (differ c.args.parts.now) left k.new.docs k.result) (sym c.settle-next.ensures.met.is)
     (Takes-without whole mid before k.new.dropped.remaining out k.new.docs n k.result took rises picked
     (λ d all. k.ensures.later d all ∙ ap (λ (s : TreeValue). has s.remaining d) c.deref_mut-2.ensures.value) c.requires.0 c.requires.1.parts

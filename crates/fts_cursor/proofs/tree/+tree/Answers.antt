@@ -23,7 +23,7 @@ use Rattle.fts_postings.proofs.UnionLemmas.{IsLeast-none, IsLeast-some}
 use Rattle.fts_cursor.proofs.TreeLemmas.{IsNow-first, IsNow-met, Left-seek, LeftUpTo-next, Met-end, exclusion-here, exclusion-passed, intersection-continues}
 use Rattle.fts_cursor.proofs.TreeLemmas.{filtered_now, intersection-fewer, intersection-here, intersection-none, intersection-sought, stays_from_first}
 use Rattle.fts_cursor.proofs.AloneLemmas.{alone-continues, alone-follows, once_kept}
-use Rattle.fts_cursor.proofs.TermsLemmas.{terms-continue}
+use Rattle.fts_cursor.proofs.TermsLemmas.{opened-continue, terms-continue}
 use Rattle.fts_cursor.proofs.tree.+tree.Goals as goal
 use Rattle.fts_cursor.proofs.tree.+tree.Goals.{buffered_union::seek_each-in-Some, buffered_union::seek_each-in_default}
 
@@ -235,7 +235,7 @@ pub skip-returns-in-Terms-clause-continues : goal.skip-returns-in-Terms-clause-c
 skip-returns-in-Terms-clause-continues t c =
     let tied : AreTied c.in-Terms.terms = rw c.in-Terms.is at c.requires.1.tied in
     rw c.in-Terms.is (record {
-      continues = (terms-continue c.in-Terms.terms c.seek-in-Terms.new.self c.seek-in-Terms.ensures.follows tied).0 _ _;
+      continues = opened-continue c.in-Terms.terms c.seek-in-Terms.new.self c.in-Terms.field-1 _ _ c.seek-in-Terms.ensures.follows tied;
       height =
           refl;
     })
@@ -315,7 +315,7 @@ pub step-returns-in-Terms-clause-walked : goal.step-returns-in-Terms-clause-walk
 step-returns-in-Terms-clause-walked t c =
     let tied : AreTied c.in-Terms.terms = rw c.in-Terms.is at c.requires.1.tied in
     rw c.in-Terms.is (record {
-      continues = (terms-continue c.in-Terms.terms c.advance-in-Terms.new.self c.advance-in-Terms.ensures.follows tied).0 _ _;
+      continues = opened-continue c.in-Terms.terms c.advance-in-Terms.new.self c.in-Terms.field-1 _ _ c.advance-in-Terms.ensures.follows tied;
       whole =
           λ h. h;
     })

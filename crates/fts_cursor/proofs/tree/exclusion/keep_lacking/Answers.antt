@@ -8,7 +8,7 @@ use Rattle.fts_cursor.proofs.tree.exclusion.keep_lacking.Goals as goal
 
 pub loop-index-init : goal.loop-index-init
 loop-index-init c = record {
-  keeps = keeps_none (lacks c.args.dropped.now.remaining) 0 c.args.docs.now refl (omega arith);
+  keeps = keeps_none (lacks c.args.dropped.now.remaining) c.args.docs.now;
   later = λ d all. refl;
   continues = TreeContinues-same c.args.dropped.now;
 }
@@ -23,7 +23,7 @@ loop-index-preserved c =
     let low = before_low docs l.index c.args.end c.requires.rises (omega arith) (omega (arith, c.requires.room)) in
     let test : not c.meets.result ≡ p doc = ap not (c.meets.ensures.met ∙ l.invariant.later doc (rw same low)) in
     record {
-      keeps = keeps_more p 0 docs l.docs l.kept l.index doc _ (not c.meets.result) l.invariant.keeps (omega arith) refl test
+      keeps = keeps_more p docs l.docs l.kept l.index doc _ (not c.meets.result) l.invariant.keeps (omega arith) refl test
           (ap (λ n. l.kept + n) c.from-kept.ensures);
       later = λ d all.
           let front = front_all docs l.index c.args.end c.requires.rises (omega arith) (omega (arith, c.requires.room)) d all in
