@@ -1,5 +1,1 @@
-pub mod ViewsLemmas
-pub mod OrderLemmas
-pub mod StepsLemmas
-pub mod SlotsLemmas
-pub mod ResultsLemmas
+pub mod ZipLemmas

@@ -2,7 +2,7 @@
 
 /// A job that any thread may run. It is shared by the workers, and its result is sent to the caller.
 pub trait Job: Sync {
-    type Out: Send + Drop;
+    type Out: Send + Sync + Drop;
 
     /// Whether this may be the result of the job.
     ghost gives: { Self → Self.Out → Type 0 };
@@ -14,4 +14,18 @@ pub trait Job: Sync {
     /// Runs the job. A contract says nothing of a run except its result.
     fn run(&self) -> Self::Out
         ensures { gives self.now result };
+}
+
+impl<J: Job> Job for &J {
+    type Out = J::Out;
+
+    ghost gives = { λ job out. J.gives job.now out };
+
+    fn cost(&self) -> u64 {
+        (**self).cost()
+    }
+
+    fn run(&self) -> J::Out {
+        (**self).run()
+    }
 }

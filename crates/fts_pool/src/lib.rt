@@ -1,13 +1,14 @@
 //! Runs jobs on several threads, with one result per job in the order of the jobs.
 //!
 //! A search is a job per segment, and a commit is a job for each segment that it changes or builds. Segments differ in
-//! size by orders of magnitude, so jobs aren't assigned in advance: their numbers are in one deque, the dearest first,
-//! and each worker takes the next one as soon as it is free.
+//! size by orders of magnitude, so jobs aren't assigned in advance: each has a slot for its result, and each worker goes
+//! through the slots, the dearest first, and runs the jobs that nobody has begun.
 //!
 //! - [`Job`] is a job, with its cost, and a relation between it and its possible results.
-//! - [`run_all`] runs a list of jobs. The calling thread is a worker itself, and the others steal from its deque. It
-//!   runs whatever nobody else takes, so it is no refusal if a thread doesn't start or a number doesn't fit the deque;
-//!   with one worker, or one job, no thread is started.
+//! - [`run_all`] runs a list of jobs. The calling thread is a worker itself, and starts the others. It runs whatever
+//!   nobody else takes, so it is no refusal if a thread doesn't start; with one worker, or one job, none is started.
+//! - [`Pool`] has threads that stay between its calls, since a thread's start takes as long as many a job. Its jobs own
+//!   what they need.
 //! - [`Gate`] is called around each job on the thread that runs it. [`Open`] does nothing; a test uses one to hold a
 //!   job back, and checks that another worker goes on.
 //!
@@ -20,14 +21,14 @@
 //! ```
 #![tactic(auto)]
 
-mod deque;
 mod gate;
 mod job;
-mod order;
+mod job_slot;
+mod pool;
+mod pool_call;
 mod run;
-mod slots;
-mod workers;
 
 pub use gate::{Gate, Open};
 pub use job::Job;
+pub use pool::Pool;
 pub use run::run_all;

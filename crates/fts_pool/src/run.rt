@@ -1,51 +1,24 @@
 // `run_all` runs the jobs of a list and returns their results in the order of the jobs.
-ghost use Rattle.std.specs.Prelude.{◌≡◌, ℕ, ◌<◌, ◌≤◌, length, IfOk, IsOkUnless};
+ghost use Rattle.std.specs.Prelude.{◌≡◌, ◌≤◌, map, IfOk, IsOkUnless};
 ghost use Rattle.std.specs.List.{AllZip};
-ghost use Rattle.fts_pool.specs.Internals.Slots.{AreSlots, IsFilled};
 
-use crate::deque::JobWorker;
 use crate::gate::Gate;
 use crate::job::Job;
-use crate::order::dearest_first;
-use crate::slots::{empty_slots, into_results, run_in_turn, run_left};
-use crate::workers::{pop_all, push_all, share_out};
+use crate::job_slot::JobSlot;
+use crate::pool_call::{PoolCall, results_of};
 use fts_base::Refusal;
 use std::alloc::{AllocError, Global};
 use std::sync::Wait;
-use std::thread::Threads;
+use std::thread::{Threads, map_indices};
 
-// The initial capacity of the deque.
-const FIRST_ROOM: usize = 64;
-
-/// Runs the jobs on this many threads beside the calling one, the dearest first, through a deque. Once all threads are
-/// joined the calling thread has all shares, so an empty deque shows that every job in it was taken. The jobs that it
-/// had no room for are run then. With no other thread the jobs are run in turn.
-fn give_out<R: Threads + Wait + Sync, J: Job, G: Gate>(
-    rt: &R,
-    alloc: Global,
-    mut slots: Vec<Option<J::Out>>,
-    jobs: &[J],
-    helpers: usize,
-    gate: &G,
-) -> Result<Vec<Option<J::Out>>, AllocError>
-    requires few { helpers < 64 }
-    requires slots { AreSlots J.gives jobs.now slots.items }
-    ensures slots { IfOk result (λ slots. AreSlots J.gives jobs.now slots.items) }
-    ensures filled { IfOk result (λ slots. (n : ℕ) → n < length jobs.now → IsFilled slots.items n) }
+/// The slots of jobs that the caller keeps.
+fn lent_slots<'a, J: Job>(alloc: Global, jobs: &'a [J]) -> Result<Vec<JobSlot<&'a J>>, AllocError>
+    ensures { IfOk result (λ slots. map (λ slot. slot.job.now) slots.items ≡ jobs.now) }
 {
-    if helpers == 0 {
-        run_in_turn(&mut slots, jobs, gate);
-        return Ok(slots);
+    let mut slots = Vec::with_capacity(alloc, jobs.len())?;
+    for job in jobs {
+        slots.push(JobSlot::new(job))?;
     }
-    let order = dearest_first(alloc, jobs)?;
-    let mut worker = JobWorker::fifo_as(alloc, FIRST_ROOM)?;
-    let stealer = worker.stealer()?;
-    let pushed = push_all(&mut worker, &order);
-    let (mut worker, mut slots) = share_out(
-        rt, alloc, &stealer, worker, slots, jobs, gate, helpers,
-    );
-    pop_all(rt, &mut worker, &mut slots, jobs, gate);
-    run_left(&mut slots, &order[pushed..], jobs, gate);
     Ok(slots)
 }
 
@@ -64,9 +37,13 @@ pub fn run_all<R: Threads + Wait + Sync, J: Job, G: Gate>(
     ensures ok { IfOk result (λ outs. AllZip J.gives jobs.now outs.items) }
     ensures memory { IsOkUnless result Refusal.Memory }
 {
-    let slots = empty_slots(alloc, jobs.len())?;
+    let slots = lent_slots(alloc, jobs)?;
+    let call = PoolCall::new(alloc, slots)?;
     let outs = Vec::with_capacity(alloc, jobs.len())?;
-    let helpers = workers.min(jobs.len()).saturating_sub(1);
-    let slots = give_out(rt, alloc, slots, jobs, helpers, gate)?;
-    Ok(into_results(slots, outs))
+    let threads = workers.min(jobs.len());
+    if threads > 1 {
+        // What isn't run because memory was refused is run below.
+        let _ = map_indices(rt, alloc, threads, &|_| call.work(gate));
+    }
+    Ok(results_of(rt, &call.slots, outs, gate))
 }

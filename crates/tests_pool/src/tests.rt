@@ -1,9 +1,10 @@
 // fts_pool: each job is run once, between the gate's two calls, and its result is in its place, whatever the
 // workers do.
-use fts_pool::{Gate, Job, Open, run_all};
+use fts_pool::{Gate, Job, Open, Pool, run_all};
+use std::alloc::{AllocError, Global};
 use std::process::Abort;
-use std::sync::Wait;
 use std::sync::atomic::{AtomicU64, Ordering};
+use std::sync::{Arc, Wait};
 use std::thread::Threads;
 use testing_gates::Holder;
 
@@ -163,4 +164,86 @@ fn a_refusal_comes_before_the_first_job(rt: HostRuntime) {
     let squares = squares(&rt, &jobs);
     assert_eq!(rt; squares.as_slice(), [1, 4, 9, 16, 25].as_slice());
     each_ran(&rt, &jobs, 1);
+}
+
+#[test]
+fn threads_that_stay(rt: HostRuntime) {
+    let mut pool = Pool::new(rt.alloc()).expect(&rt, "a pool");
+    for workers in [1, 2, 3, 64, 2, 1usize] {
+        let jobs = thousand_jobs(&rt);
+        let squares = pool.run_all(&rt, jobs, workers).expect(&rt, "squares");
+        are_thousand_squares(&rt, &squares);
+    }
+    let none = pool
+        .run_all(&rt, Vec::new(rt.alloc()), 3)
+        .expect(&rt, "nothing");
+    assert!(rt; none.is_empty());
+    pool.close(&rt);
+}
+
+/// A number to be squared. It counts how many such jobs were run.
+#[derive(Drop)]
+struct Noted {
+    side: u32,
+    runs: Arc<AtomicU64>,
+}
+
+impl Job for Noted {
+    ghost use Rattle.std.specs.Prelude.{◌≡◌, ◌*◌};
+
+    type Out = u64;
+
+    ghost gives = { λ job out. out ≡ job.side * job.side };
+
+    fn cost(&self) -> u64 {
+        u64::from(self.side)
+    }
+
+    fn run(&self) -> u64 {
+        self.runs.fetch_add(1, Ordering::SeqCst);
+        u64::from(self.side) * u64::from(self.side)
+    }
+}
+
+/// Jobs for the numbers from 1 to 5.
+fn noted_jobs(alloc: Global, runs: &Arc<AtomicU64>) -> Result<Vec<Noted>, AllocError> {
+    let mut jobs = Vec::new(alloc);
+    for side in 1..6u32 {
+        jobs.push(Noted {
+            side,
+            runs: Arc::try_clone(runs)?,
+        })?;
+    }
+    Ok(jobs)
+}
+
+/// The squares of the numbers from 1 to 5, by a pool. If a growth was refused, that was before a job ran, and a second
+/// try returns them all.
+fn squares_by<R: AllocGlobal + Threads + Wait + Copy + Send + Abort + 'static>(
+    rt: &R,
+    pool: &mut Pool<Noted>,
+    runs: &Arc<AtomicU64>,
+) -> Vec<u64> {
+    let jobs = noted_jobs(rt.alloc(), runs).expect(rt, "jobs");
+    let before = runs.load(Ordering::SeqCst);
+    match pool.run_all(rt, jobs, 3) {
+        Ok(squares) => squares,
+        Err(_) => {
+            assert_eq!(rt; runs.load(Ordering::SeqCst), before);
+            let jobs = noted_jobs(rt.alloc(), runs).expect(rt, "jobs again");
+            pool.run_all(rt, jobs, 3).expect(rt, "squares again")
+        }
+    }
+}
+
+#[test]
+fn a_refusal_by_a_pool_comes_before_the_first_job(rt: HostRuntime) {
+    let runs = Arc::new(rt.alloc(), AtomicU64::new(0)).expect(&rt, "a count");
+    let mut pool = Pool::new(rt.alloc()).expect(&rt, "a pool");
+    for calls in 1..4u64 {
+        let squares = squares_by(&rt, &mut pool, &runs);
+        assert_eq!(rt; squares.as_slice(), [1, 4, 9, 16, 25].as_slice());
+        assert_eq!(rt; runs.load(Ordering::SeqCst), calls.wrapping_mul(5));
+    }
+    pool.close(&rt);
 }

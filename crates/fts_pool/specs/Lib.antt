@@ -1,2 +1,0 @@
--- The modules that clauses cite.
-pub mod Internals
