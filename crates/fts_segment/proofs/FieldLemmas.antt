@@ -24,42 +24,38 @@ use Rattle.fts_model.specs.declared.operation.Stamped.{Stamped}
 use Rattle.fts_model.specs.declared.operation.Term.{Term}
 use Rattle.fts_model.specs.Schemas.{holds_numbers}
 use Rattle.fts_model.specs.Documents.{DocumentValue, value_in_field, fits_i64}
-use Rattle.fts_model.specs.Operations.{has, field_has}
+use Rattle.fts_model.specs.Operations.{has, field_has, kind_at}
 use Rattle.fts_pack.specs.bits.Signed.{u64_of}
 use Rattle.fts_segment.specs.declared.field_index.FieldIndex.{FieldIndex}
 use Rattle.fts_segment.specs.declared.field_index.FieldIndex.TheVariants.{Numbers, Terms, Keywords}
+use Rattle.fts_segment.specs.declared.joining.IndexedField.{IndexedField}
 use Rattle.fts_segment.specs.declared.dictionary.Dictionary.{Dictionary}
 use Rattle.fts_segment.specs.declared.number_index.NumberIndex.{NumberIndex}
 use Rattle.fts_segment.specs.Segments.{SegmentValue, postings, column, keywords, ordinals, numbers_where, number_of}
 use Rattle.fts_segment.specs.Occurrences.{occurrences, docs_with, is_token, tokens_of, holds, values_in}
 use Rattle.fts_segment.specs.Keywords.{ordinals_of, texts_of}
 use Rattle.fts_segment.specs.Numbers.{Fits64, is_number, numbers_of}
-use Rattle.fts_segment.specs.FieldIndexes.{AreTerms, AreNumbers, IsFieldIndex, AreIndexes}
+use Rattle.fts_segment.specs.FieldIndexes.{AreTerms, AreNumbers, IsFieldIndex, IsFieldOf, AreFieldsOf}
 use Rattle.fts_segment.proofs.TermsLemmas.{slice_get_push_cases}
 use Rattle.fts_segment.proofs.HoldingLemmas.{docs_with-occurrences, numbers_where-cons, numbers_where-map, numbers_where-same, numbers_where-none}
 use Rattle.fts_segment.proofs.OccurrencesLemmas.{map-map}
 use Rattle.fts_segment.proofs.SegmentLemmas.{found_list, absent_list}
 
 -- these are the indexes of the first fields
-pub record AreFirst (schema : List Field) (documents : List (Stamped DocumentValue)) (count : ℕ) (indexes : List FieldIndex) : Type 0 where
-  pub many : length indexes ≡ count
-  pub each : (f : ℕ) (field : Field) (index : FieldIndex) → slice_get schema f ≡ Some field → slice_get indexes f ≡ Some index →
-      IsFieldIndex field.kind (values_in f documents) index
+pub record AreFirst (segment : SegmentValue) (count : ℕ) (fields : List IndexedField) : Type 0 where
+  pub many : length fields ≡ count
+  pub each : (number : ℕ) (field : IndexedField) → slice_get fields number ≡ Some field → IsFieldOf segment number field
 
-pub AreFirst-push : {schema : List Field} {documents : List (Stamped DocumentValue)} {count : ℕ} {indexes : List FieldIndex} (index : FieldIndex) (at : Field) →
-    slice_get schema count ≡ Some at →
-    IsFieldIndex at.kind (values_in count documents) index → AreFirst schema documents count indexes →
-    AreFirst schema documents (count + 1) (indexes ++ index ∷ [])
-AreFirst-push {schema} {documents} {count} {indexes} index at here is s = record {
-  many = omega (arith, length-append indexes (index ∷ []), s.many);
-  each = λ f field one there found. elim (slice_get_push_cases indexes index f one found) [
-    | inl before ↦ s.each f field one there before
+pub AreFirst-push : {segment : SegmentValue} {count : ℕ} {fields : List IndexedField} (field : IndexedField) → IsFieldOf segment count field →
+    AreFirst segment count fields → AreFirst segment (count + 1) (fields ++ field ∷ [])
+AreFirst-push {segment} {count} {fields} field is s = record {
+  many = omega (arith, length-append fields (field ∷ []), s.many);
+  each = λ number one found. elim (slice_get_push_cases fields field number one found) [
+    | inl before ↦ s.each number one before
     | inr last ↦
-        let number : f ≡ count = last.0 ∙ s.many in
-        let same : Some field ≡ Some at = sym there ∙ ap (slice_get schema) number ∙ here in
-        let fields : field ≡ at = cc in
-        let P : Kind × ℕ × FieldIndex → Type 0 = λ x. IsFieldIndex x.0 (values_in x.1 documents) x.2 in
-        let all : (at.kind, count, index) ≡ (field.kind, f, one) = cc in
+        let place : number ≡ count = last.0 ∙ s.many in
+        let P : ℕ × IndexedField → Type 0 = λ x. IsFieldOf segment x.0 x.1 in
+        let all : (count, field) ≡ (number, one) = cc in
         subst P all is
   ];
 }
@@ -316,16 +312,11 @@ field_at None kind h = absurd (let clash : None ≡ Some kind = h in cc)
 field_at (Some field) kind h = (field, refl, (let same : Some field.kind ≡ Some kind = h in cc))
 
 -- the index of a field, as it is read, is that of its values
-pub index_at : {schema : List Field} {documents : List (Stamped DocumentValue)} {indexes : List FieldIndex} (f : ℕ) (kind : Kind) (index : FieldIndex)
-    (read : List FieldIndex) → AreIndexes schema documents indexes →
-    option_map (λ f. f.kind) (slice_get schema f) ≡ Some kind → read ≡ indexes → true ≡ nat_lt f (length read) → index ≡ get_or read f index →
-    IsFieldIndex kind (values_in f documents) index
-index_at {schema} {documents} {indexes} f kind index read a here same within is =
-    let field = field_at (slice_get schema f) kind here in
-    let P : Kind → Type 0 = λ k. IsFieldIndex k (values_in f documents) index in
-    let found : slice_get indexes f ≡ Some index =
-    ap (λ xs. slice_get xs f) (sym same) ∙ slice_get-get_or read f index (ltb-true f (length read) (sym within)) ∙ ap Some (sym is) in
-    subst P field.2 (a.each f field.0 index field.1 found)
+pub index_at : {segment : SegmentValue} {fields : List IndexedField} (f : ℕ) (kind : Kind) (field : IndexedField) (read : List IndexedField) →
+    AreFieldsOf segment fields → kind_at segment.schema f ≡ Some kind → read ≡ fields → true ≡ nat_lt f (length read) → field ≡ get_or read f field →
+    IsFieldIndex kind (values_in f segment.documents) field.index
+index_at f kind field read a here same within is =
+    a.each f field (ap (λ xs. slice_get xs f) (sym same) ∙ slice_get-get_or read f field (ltb-true f (length read) (sym within)) ∙ ap Some (sym is)) kind here
 
 pub postings-kind : (segment : SegmentValue) (term : Term) (kind : Kind) → option_map (λ f. f.kind) (slice_get segment.schema term.field) ≡ Some kind →
     numbers_where (holds kind term.value) 0 (values_in term.field segment.documents) ≡ postings segment term
@@ -334,21 +325,11 @@ postings-kind segment term kind here =
     ap (λ k. numbers_where (holds k term.value) 0 (values_in term.field segment.documents)) (sym field.2) ∙ sym (postings-values segment term field.0 field.1)
 
 -- the index of a field, at a known number, is that of its values
-pub index_found : {schema : List Field} {documents : List (Stamped DocumentValue)} {indexes : List FieldIndex} (f : ℕ) (kind : Kind) (index : FieldIndex) →
-    AreIndexes schema documents indexes →
-    option_map (λ f. f.kind) (slice_get schema f) ≡ Some kind → f < length indexes → index ≡ get_or indexes f index →
-    IsFieldIndex kind (values_in f documents) index
-index_found {schema} {documents} {indexes} f kind index a here within is =
-    let field = field_at (slice_get schema f) kind here in
-    let P : Kind → Type 0 = λ k. IsFieldIndex k (values_in f documents) index in
-    subst P field.2 (a.each f field.0 index field.1 (slice_get-get_or indexes f index within ∙ ap Some (sym is)))
-
-pub stored_index : {schema : List Field} {documents : List (Stamped DocumentValue)} {indexes : List FieldIndex} (f : ℕ) (kind : Kind) (index : FieldIndex) →
-    AreIndexes schema documents indexes →
-    option_map (λ f. f.kind) (slice_get schema f) ≡ Some kind → index ≡ get_or indexes f index → IsFieldIndex kind (values_in f documents) index
-stored_index {schema} {documents} {indexes} f kind index a here is =
-    let field = field_at (slice_get schema f) kind here in
-    index_found f kind index a here (omega (arith, slice_get_within schema f field.0 field.1, a.count)) is
+pub stored_index : {segment : SegmentValue} {fields : List IndexedField} (f : ℕ) (kind : Kind) (field : IndexedField) → AreFieldsOf segment fields →
+    kind_at segment.schema f ≡ Some kind → field ≡ get_or fields f field → IsFieldIndex kind (values_in f segment.documents) field.index
+stored_index {segment} {fields} f kind field a here is =
+    let at = field_at (slice_get segment.schema f) kind here in
+    a.each f field (slice_get-get_or fields f field (omega (arith, slice_get_within segment.schema f at.0 at.1, a.count)) ∙ ap Some (sym is)) kind here
 
 -- the numbers of the values of a field are those of the documents
 pub numbers_of-values : (segment : SegmentValue) (f : ℕ) (kind : Kind) → option_map (λ f. f.kind) (slice_get segment.schema f) ≡ Some kind →

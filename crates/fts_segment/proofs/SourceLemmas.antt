@@ -4,7 +4,7 @@ use Rattle.std.proofs.Common.{count_by, replicate, sum, refl, sym, ap, ap₂, su
 use Rattle.std.specs.Prelude.{slice_get}
 use Rattle.std.specs.List.{AllByRecursion, list_any}
 use Rattle.std.specs.List.Sorted.{IsStrictlyIncreasing}
-use Rattle.std.proofs.lemmas.List.{append-nil, drop_all, drop_more, get_or-map, map-append, length-append, length-map}
+use Rattle.std.proofs.lemmas.List.{append-nil, drop_all, drop_more, get_or-map, map-append, length-append, length-map, length-replicate}
 use Rattle.std.proofs.lemmas.List.Elements.{All-head, All-tail, All-cons, All-nil, All-append}
 use Rattle.std.proofs.lemmas.Grind.{flat_map-append}
 use Rattle.std.proofs.lemmas.List.Sums.{sum_by-append, sum_by-cons}
@@ -16,15 +16,15 @@ use Rattle.fts_model.specs.Documents.{DocumentValue, fits, value_in_field}
 use Rattle.fts_model.specs.Schemas.{holds_numbers}
 use Rattle.fts_segment.specs.declared.dictionary.Dictionary.{Dictionary}
 use Rattle.fts_segment.specs.Contents.{where_set, content_of}
-use Rattle.fts_segment.specs.FieldIndexes.{AreTerms}
+use Rattle.fts_segment.specs.FieldIndexes.{AreTerms, AreTermsOf}
 use Rattle.fts_segment.specs.Occurrences.{occurrences, values_in, tokens_of, is_token, docs_with, HasFewTokens}
 use Rattle.fts_segment.specs.Positions.{position_lists_with}
 use Rattle.fts_segment.specs.Postings.{Posting, posting_at, documents}
-use Rattle.fts_segment.specs.Segments.{SegmentValue, AllFit, positions_among}
-use Rattle.fts_segment.specs.Sources.{SourceValue, AreOfOneSchema, HasBits, both, live_count, contents, schema_of, joined_segment}
+use Rattle.fts_segment.specs.Segments.{AllFit, positions_among}
+use Rattle.fts_segment.specs.Sources.{SourceValue, HasBits, live_count, contents}
 use Rattle.fts_segment.specs.Parts.{PartValue, renumbered, placed, moved, found, joined, part_from, postings_with, IsSound, IsWhole, IsPart, AreParts, IsJoined}
 use Rattle.fts_segment.proofs.HoldingLemmas.{docs_with-rise}
-use Rattle.fts_segment.proofs.MovingLemmas.{dropped_at}
+use Rattle.fts_segment.proofs.MovingLemmas.{dropped_at, length-renumbered}
 use Rattle.fts_segment.proofs.PostingsLemmas.{ArePaired, postings-cons, paired-occurrences, docs-within, documents-postings_of, found-dictionary, sound-dictionary}
 use Rattle.fts_segment.proofs.PostingsLemmas.{dictionary-joined}
 use Rattle.fts_segment.proofs.TermPositionsLemmas.{lengths-flat}
@@ -310,78 +310,73 @@ where_set-all : {X : Type 0} (xs : List X) → where_set xs (replicate (length x
 where_set-all [] = refl
 where_set-all (x ∷ xs) = ap (λ ys. x ∷ ys) (where_set-all xs)
 
-all_set : (n : ℕ) → count_by (λ bit. bit) (replicate n true) ≡ n
+pub all_set : (n : ℕ) → count_by (λ bit. bit) (replicate n true) ≡ n
 all_set zero = refl
 all_set (suc n) = omega (arith, all_set n, sum_by-cons (λ (bit : Bool). cond bit 1 0) true (replicate n true))
 
--- the segment of sources that were joined, as a source
-abbrev pub joined_source : List SourceValue → SourceValue
-joined_source ss = record { segment = joined_segment ss; live = replicate (length (contents ss)) true }
+-- documents as a source, all of them live
+abbrev pub whole_source : List (Stamped DocumentValue) → SourceValue
+whole_source xs = record { segment = record { schema = []; documents = xs }; live = replicate (length xs) true }
 
--- two sources by their segments and bits
-pub same_both : (s t : SourceValue) (first second : SegmentValue) (first_live second_live : List Bool) → first ≡ s.segment → first_live ≡ s.live →
-    second ≡ t.segment → second_live ≡ t.live →
-    both first first_live second second_live ≡ s ∷ t ∷ []
-same_both s t first second first_live second_live first_is first_bits second_is second_bits =
-    ap₂ (λ a b. both a b second second_live) first_is first_bits ∙ ap₂ (λ a b. both s.segment s.live a b) second_is second_bits
+-- the streams of two dictionaries, one after the other
+abbrev pub halves : Dictionary → ℕ → Dictionary → ℕ → List PartValue
+halves front n back m = part_from 0 front (renumbered 0 (replicate n true)) ∷ part_from 0 back (renumbered n (replicate m true)) ∷ []
 
--- joining a source with the joined others is joining all
-pub joined_in_turn : (s : SourceValue) (ss : List SourceValue) → joined_segment (s ∷ joined_source ss ∷ []) ≡ joined_segment (s ∷ ss)
-joined_in_turn s ss =
-    let all : contents (joined_source ss ∷ []) ≡ contents ss = append-nil (where_set (contents ss) (replicate (length (contents ss)) true))
-    ∙ where_set-all (contents ss) in
-    let whole : List (Stamped DocumentValue) → SegmentValue = λ ds. record { schema = s.segment.schema; documents = content_of s.segment s.live ++ ds } in
-    ap whole all
+whole-part : (kind : Kind) (field next : ℕ) (xs : List (Stamped DocumentValue)) (docs : ℕ) (dictionary : Dictionary) →
+    AreTermsOf kind field xs docs dictionary → IsPart kind field next (whole_source xs) (part_from 0 dictionary (renumbered next (replicate docs true)))
+whole-part kind field next xs docs dictionary a =
+    part-is kind field next (whole_source xs) dictionary (renumbered next (replicate docs true)) a.terms
+    (ap (λ n. renumbered next (replicate n true)) (sym a.count))
 
-pub few_in_turn : (s : SourceValue) (ss : List SourceValue) → live_count (s ∷ joined_source ss ∷ []) ≤ live_count (s ∷ ss)
-few_in_turn s ss =
-    omega (
-      arith,
-      live_count-cons s (joined_source ss ∷ []),
-      live_count-cons (joined_source ss) [],
-      live_count-cons s ss,
-      all_set (length (contents ss)),
-      length-contents ss,
-    )
+-- each document of such a dictionary has a new number
+pub whole-terms : (kind : Kind) (field next : ℕ) (xs : List (Stamped DocumentValue)) (docs : ℕ) (dictionary : Dictionary) →
+    AreTermsOf kind field xs docs dictionary → IsWhole dictionary (renumbered next (replicate docs true))
+whole-terms kind field next xs docs dictionary a =
+    terms-whole kind (values_in field xs) dictionary (renumbered next (replicate docs true)) a.terms
+    (length-renumbered next (replicate docs true) ∙ length-replicate docs true ∙ sym a.count
+    ∙ sym (length-map xs (λ (d : Stamped DocumentValue). value_in_field d.value field)))
 
--- a source has a schema
-abbrev pub SameSchema : List Field → SourceValue → Type 0
-SameSchema schema source = source.segment.schema ≡ schema
+pub parts-halves : (kind : Kind) (field : ℕ) (xs ys : List (Stamped DocumentValue)) (front : Dictionary) (n : ℕ) (back : Dictionary) (m : ℕ) →
+    AreTermsOf kind field xs n front → AreTermsOf kind field ys m back →
+    AreParts kind field 0 (whole_source xs ∷ whole_source ys ∷ []) (halves front n back m)
+parts-halves kind field xs ys front n back m a b =
+    let P : ℕ → Type 0 = λ next. IsPart kind field next (whole_source ys) (part_from 0 back (renumbered n (replicate m true))) in
+    let next : n ≡ 0 + live_in (whole_source xs) = omega (arith, a.count, all_set (length xs)) in
+    (whole-part kind field 0 xs n front a, (subst P next (whole-part kind field n ys m back b), tt))
 
-schema_of_part : (schema : List Field) (part : List SourceValue) → 0 < length part → All (SameSchema schema) part → schema_of part ≡ schema
-schema_of_part schema [] some h = absurd (omega (arith, some))
-schema_of_part schema (s ∷ ss) some h = All-head (SameSchema schema) s ss h
+pub bits-halves : (xs ys : List (Stamped DocumentValue)) → All HasBits (whole_source xs ∷ whole_source ys ∷ [])
+bits-halves xs ys =
+    All-cons HasBits (whole_source xs) (whole_source ys ∷ []) (length-replicate (length xs) true)
+    (All-cons HasBits (whole_source ys) [] (length-replicate (length ys) true) (All-nil HasBits))
 
-pub schemas_of_part : (schema : List Field) (part : List SourceValue) → 0 < length part → All (SameSchema schema) part → AreOfOneSchema part
-schemas_of_part schema part some h = subst (λ fields. All (SameSchema fields) part) (sym (schema_of_part schema part some h)) h
-
--- joining two halves that were joined is joining all
-pub joined_halves : (front back : List SourceValue) → 0 < length front →
-    joined_segment (joined_source front ∷ joined_source back ∷ []) ≡ joined_segment (front ++ back)
-joined_halves [] back some = absurd (omega (arith, some))
-joined_halves (s ∷ ss) back some =
-    let whole : List (Stamped DocumentValue) → SegmentValue = λ ds. record { schema = s.segment.schema; documents = ds } in
-    joined_in_turn (joined_source (s ∷ ss)) back
-    ∙ ap (λ ds. whole (ds ++ contents back)) (where_set-all (contents (s ∷ ss)))
-    ∙ ap whole (sym (flat_map-append (λ (t : SourceValue). content_of t.segment t.live) (s ∷ ss) back))
+-- the merged dictionary of two is that of the documents of both
+pub terms-halves : (kind : Kind) (field : ℕ) (xs ys : List (Stamped DocumentValue)) (front : Dictionary) (n : ℕ) (back : Dictionary) (m : ℕ) (dictionary : Dictionary) →
+    AreTermsOf kind field xs n front → AreTermsOf kind field ys m back →
+    IsJoined (halves front n back m) dictionary.names dictionary.lists dictionary.positions → AreTerms kind (values_in field (xs ++ ys)) dictionary
+terms-halves kind field xs ys front n back m dictionary a b joined =
+    let ss = whole_source xs ∷ whole_source ys ∷ [] in
+    let Few : SourceValue → Type 0 = λ s. All (HasFewTokens kind) (values_in field s.segment.documents) in
+    let all : contents ss ≡ xs ++ ys = ap₂ (λ ds es. ds ++ es) (where_set-all xs)
+    (append-nil (where_set ys (replicate (length ys) true)) ∙ where_set-all ys) in
+    subst (λ ds. AreTerms kind (values_in field ds) dictionary) all
+    (terms-joined kind field ss (halves front n back m) dictionary a.terms.kind_is (bits-halves xs ys) (parts-halves kind field xs ys front n back m a b)
+    (All-cons Few (whole_source xs) (whole_source ys ∷ []) a.terms.few (All-cons Few (whole_source ys) [] b.terms.few (All-nil Few))) joined)
 
 pub live_count-append : (front back : List SourceValue) → live_count (front ++ back) ≡ live_count front + live_count back
 live_count-append front back = sum_by-append (λ (s : SourceValue). count_by (λ bit. bit) s.live) front back
 
-pub few_halves : (front back : List SourceValue) → live_count (joined_source front ∷ joined_source back ∷ []) ≤ live_count (front ++ back)
-few_halves front back =
+pub contents-append : (front back : List SourceValue) → contents (front ++ back) ≡ contents front ++ contents back
+contents-append front back = flat_map-append (λ (s : SourceValue). content_of s.segment s.live) front back
+
+-- there are as many live documents as bits are set
+pub length-live : (ss : List SourceValue) → All HasBits ss → length (contents ss) ≡ live_count ss
+length-live [] h = omega arith
+length-live (s ∷ ss) h =
     omega (
       arith,
-      few_in_turn (joined_source front) back,
-      live_count-cons (joined_source front) back,
-      all_set (length (contents front)),
-      length-contents front,
-      live_count-append front back,
+      length-live ss (All-tail HasBits s ss h),
+      length-where_set s.segment.documents s.live (All-head HasBits s ss h),
+      length-append (content_of s.segment s.live) (contents ss),
+      live_count-cons s
+          ss,
     )
-
-pub schemas_halves : (schema : List Field) (front back : List SourceValue) → 0 < length front → 0 < length back → All (SameSchema schema) front →
-    All (SameSchema schema) back → AreOfOneSchema (joined_source front ∷ joined_source back ∷ [])
-schemas_halves schema front back some more h g =
-    let Same : SourceValue → Type 0 = SameSchema (schema_of front) in
-    All-cons Same (joined_source front) (joined_source back ∷ []) refl
-    (All-cons Same (joined_source back) [] (schema_of_part schema back more g ∙ sym (schema_of_part schema front some h)) (All-nil Same))

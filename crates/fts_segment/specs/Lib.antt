@@ -20,3 +20,4 @@ pub mod Postings
 pub mod Puts
 pub mod Sources
 pub mod Parts
+pub mod Joinings

@@ -15,11 +15,6 @@ pub record SourceValue : Type 0 where
 abbrev pub HasBits : SourceValue → Type 0
 HasBits source = length source.live ≡ length source.segment.documents
 
--- two segments with their bits
-abbrev pub both : SegmentValue → List Bool → SegmentValue → List Bool → List SourceValue
-both first first_live second second_live =
-    record { segment = first; live = first_live } ∷ record { segment = second; live = second_live } ∷ []
-
 -- the number of live documents of all sources
 abbrev pub live_count : List SourceValue → ℕ
 live_count sources = sum_by (λ source. count_by (λ bit. bit) source.live) sources

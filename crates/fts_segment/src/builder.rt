@@ -1,21 +1,19 @@
 // Collects documents and makes a segment of them.
-ghost use Rattle.std.specs.Prelude.{◌≡◌, ◌↔◌, ◌≢◌, ◌<◌, ◌≤◌, true, false, Err, length, IfOk, IfErr, OnOk, OnErr, ◌^◌};
+ghost use Rattle.std.specs.Prelude.{◌≡◌, ◌↔◌, ◌≢◌, ◌<◌, ◌≤◌, true, false, Err, length, IfOk, IfErr, OnOk, OnErr};
 ghost use Rattle.fts_model.specs.Limits.{most_built, most_merged};
 ghost use Rattle.fts_model.specs.Documents.{fits};
-ghost use Rattle.fts_segment.specs.FieldIndexes.{AreIndexes};
 ghost use Rattle.fts_base.specs.declared.refusal.Refusal.TheVariants.{Memory, SegmentFull};
 
-use crate::field_index::FieldIndex;
-use crate::segment::{Segment, SegmentData};
+use crate::joining::Joining;
+use crate::segment::Segment;
+use fts_base::release;
 use fts_model::{Document, MOST_BUILT, Refusal, Schema, Stamp, Stamped};
 use std::alloc::{AllocError, Global};
 use std::marker::Model;
-use std::sync::Arc;
 
-/// Collects a segment's documents. Only handles are stored; terms are extracted by `finish`.
+/// Collects a segment's documents. Only handles are stored; terms are extracted by `build`.
 ///
 /// Contracts see the documents with their schema, and whether the builder is for merging.
-#[derive(Drop)]
 pub struct Builder {
     schema: Schema,
     documents: Vec<Stamped<Document>>,
@@ -36,6 +34,17 @@ impl Model for Builder {
 
     ghost invariant = { λ b. (length b.documents.items ≤ most_merged) × AllFit b.schema b.documents.items
         × AreDocuments b.documents.items };
+}
+
+impl Drop for Builder {
+    fn drop(self) {
+        let Builder {
+            schema: _,
+            documents,
+            merging: _,
+        } = self;
+        release(documents);
+    }
 }
 
 impl Builder {
@@ -106,60 +115,41 @@ impl Builder {
         Ok(())
     }
 
+    /// Makes a segment of the documents. The builder keeps them.
+    pub fn build(&self, alloc: Global) -> Result<Segment, Refusal>
+        ensures ok { IfOk result (λ segment. segment ≡ self.now.segment) }
+        ensures memory { IfErr result (λ e. e ≡ Memory) }
+    {
+        let documents = copied(alloc, &self.documents)?;
+        let segment = Joining::of(&self.schema, documents, &[]).finish_alone(alloc)?;
+        Ok(segment)
+    }
+
     /// Makes a segment of the documents. If the allocator refuses a growth, the builder is handed back.
     pub fn finish(self, alloc: Global) -> Result<Segment, (Builder, Refusal)>
         ensures ok { IfOk result (λ segment. segment ≡ self.segment) }
         ensures err { IfErr result (λ e. e.0 ≡ self) }
         ensures memory { IfErr result (λ e. e.1 ≡ Memory) }
     {
-        match indexed(alloc, &self.schema, &self.documents) {
-            Err(AllocError) => Err((self, Refusal::Memory)),
-            Ok(indexes) => {
-                let Builder {
-                    schema,
-                    mut documents,
-                    merging,
-                } = self;
-                documents.shrink_to_fit();
-                match Arc::new(
-                    alloc,
-                    SegmentData {
-                        schema,
-                        documents,
-                        indexes,
-                    },
-                ) {
-                    Ok(stored) => Ok(Segment { stored }),
-                    Err(refused) => {
-                        let (schema, documents) = refused.value.into_documents();
-                        Err((
-                            Builder {
-                                schema,
-                                documents,
-                                merging,
-                            },
-                            Refusal::Memory,
-                        ))
-                    }
-                }
-            }
+        match self.build(alloc) {
+            Ok(segment) => Ok(segment),
+            Err(refusal) => Err((self, refusal)),
         }
     }
 }
 
-/// The indexes of the fields, in order.
-fn indexed(
+/// Copies of documents with their stamps, which are handles.
+fn copied(
     alloc: Global,
-    schema: &Schema,
     documents: &[Stamped<Document>],
-) -> Result<Vec<FieldIndex>, AllocError>
-    requires { length documents.now < 2 ^ 32 }
-    ensures { IfOk result (λ indexes. AreIndexes schema.now documents.now indexes.items) }
+) -> Result<Vec<Stamped<Document>>, AllocError>
+    ensures { IfOk result (λ copies. copies.items ≡ documents.now) }
 {
-    let mut indexes = Vec::new(alloc);
-    for field in 0..schema.fields().len() {
-        let kind = schema.kind(field);
-        indexes.push(FieldIndex::new(alloc, documents, field, kind)?)?;
+    let mut copies = Vec::with_capacity(alloc, documents.len())?;
+    for document in documents {
+        let stamp = document.stamp;
+        let value = document.value.clone()?;
+        copies.push(Stamped { stamp, value })?;
     }
-    Ok(indexes)
+    Ok(copies)
 }

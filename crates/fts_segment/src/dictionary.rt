@@ -2,11 +2,16 @@
 ghost use Rattle.std.specs.Prelude.{◌≡◌, [], Contains, List, MatchOption, None, Option};
 ghost use Rattle.fts_model.specs.declared.schema.Kind.TheVariants as kinds;
 ghost use Rattle.fts_model.specs.declared.value.FieldValue.{FieldValue};
+ghost use Rattle.fts_model.specs.Limits.{most_merged};
+ghost use Rattle.fts_model.specs.Operations.{kind_at};
+ghost use Rattle.fts_model.specs.Schemas.{holds_numbers};
 ghost use Rattle.fts_pack.specs.ListRef.{listed};
 ghost use Rattle.fts_segment.specs.FieldIndexes.{AreTerms, HasKeywordAt};
 ghost use Rattle.fts_segment.specs.Keywords.{texts_of};
 
 use crate::binary_search::find_name;
+use crate::dictionary_merge::merge_dictionaries;
+use crate::live_segment::LiveSegment;
 use crate::names::Names;
 use crate::segment::ListId;
 use crate::token_log::log_of_field;
@@ -25,26 +30,33 @@ pub(crate) struct Dictionary {
 }
 
 impl Dictionary {
-    ghost use Rattle.std.specs.Prelude.{◌≡◌, ◌≤◌, ◌^◌, [], ℕ, All, Some, IfOk, OnOk, MatchOption};
+    ghost use Rattle.std.specs.Prelude.{◌≡◌, ◌<◌, ◌≤◌, ◌^◌, [], ℕ, All, Some, IfOk, false, MatchOption};
     ghost use Rattle.std.specs.Prelude.{length, slice_get, slice_index_or};
-    ghost use Rattle.fts_segment.specs.Dictionaries.{IsDictionaryOf};
-    ghost use Rattle.fts_segment.specs.Occurrences.{occurrences, values_in, HasFewTokens};
+    ghost use Rattle.fts_segment.specs.Occurrences.{values_in};
+    ghost use Rattle.fts_segment.specs.Sources.{contents, live_count};
     ghost use Rattle.fts_segment.specs.Sorted.{Ascends};
     ghost use Rattle.fts_segment.specs.ListIds.{documents_in, positions_in};
     ghost use Rattle.fts_segment.specs.Postings.{term_positions};
 
-    /// The terms of the documents in a text or keyword field.
+    /// The terms of the documents in a text or keyword field. If they are the live ones of sources, the terms are merged
+    /// from theirs.
     pub(crate) fn new(
         alloc: Global,
+        sources: &[LiveSegment<'_>],
         documents: &[Stamped<Document>],
         field: usize,
         kind: Kind,
     ) -> Result<Dictionary, AllocError>
-        requires { length documents.now ≤ 2 ^ 32 }
-        ensures is { IfOk result (λ dictionary. IsDictionaryOf (occurrences kind 0 (values_in field documents.now))
-            dictionary.names dictionary.lists dictionary.positions) }
-        ensures few { OnOk result (All (HasFewTokens kind) (values_in field documents.now)) }
+        requires fit { length documents.now < 2 ^ 32 }
+        requires live { live_count sources.now ≤ most_merged }
+        requires kinds { All (λ source. kind_at source.segment.schema field ≡ Some kind) sources.now }
+        requires contents { 0 < length sources.now → documents.now ≡ contents sources.now }
+        requires terms { holds_numbers kind ≡ false }
+        ensures { IfOk result (AreTerms kind (values_in field documents.now)) }
     {
+        if !sources.is_empty() {
+            return merge_dictionaries(alloc, sources, field, kind);
+        }
         let log = log_of_field(alloc, documents, field, kind)?;
         log.dictionary(alloc)
     }

@@ -14,7 +14,6 @@ ghost use Rattle.fts_model.specs.Schemas.{holds_numbers, is_ordered};
 ghost use Rattle.fts_segment.specs.Sources.{contents, live_count};
 
 use crate::dictionary::Dictionary;
-use crate::dictionary_merge::merge_dictionaries;
 use crate::keyword_index::KeywordIndex;
 use crate::live_segment::LiveSegment;
 use crate::number_index::{NumberIndex, number_in};
@@ -32,23 +31,27 @@ pub(crate) enum FieldIndex {
 }
 
 impl FieldIndex {
-    /// The index of a field of this kind.
+    /// The index of a field of this kind. If the documents are the live ones of sources, the terms are merged from theirs.
     pub(crate) fn new(
         alloc: Global,
+        sources: &[LiveSegment<'_>],
         documents: &[Stamped<Document>],
         field: usize,
         kind: Kind,
     ) -> Result<FieldIndex, AllocError>
-        requires { length documents.now < 2 ^ 32 }
+        requires fit { length documents.now < 2 ^ 32 }
+        requires live { live_count sources.now ≤ most_merged }
+        requires kinds { All (λ source. kind_at source.segment.schema field ≡ Some kind) sources.now }
+        requires contents { 0 < length sources.now → documents.now ≡ contents sources.now }
         ensures { IfOk result (λ index. IsFieldIndex kind (values_in field documents.now) index) }
     {
         match kind {
             Kind::Text => {
-                let dictionary = Dictionary::new(alloc, documents, field, kind)?;
+                let dictionary = Dictionary::new(alloc, sources, documents, field, kind)?;
                 Ok(FieldIndex::Terms(dictionary))
             }
             Kind::Keyword => {
-                let index = KeywordIndex::new(alloc, documents, field)?;
+                let index = KeywordIndex::new(alloc, sources, documents, field)?;
                 Ok(FieldIndex::Keywords(index))
             }
             Kind::U64 | Kind::I64 => {
@@ -58,34 +61,14 @@ impl FieldIndex {
         }
     }
 
-    /// The index of a field of this kind over the live documents of sources.
-    pub(crate) fn joined(
-        alloc: Global,
-        sources: &[LiveSegment<'_>],
-        documents: &[Stamped<Document>],
-        field: usize,
-        kind: Kind,
-    ) -> Result<FieldIndex, AllocError>
-        requires documents { documents.now ≡ contents sources.now }
-        requires few { live_count sources.now ≤ most_merged }
-        requires fit { length documents.now < 2 ^ 32 }
-        requires kinds { All (λ source. kind_at source.segment.schema field ≡ Some kind) sources.now }
-        ensures { IfOk result (λ index. IsFieldIndex kind (values_in field documents.now) index) }
-    {
-        match kind {
-            Kind::Text => {
-                let dictionary = merge_dictionaries(alloc, sources, field, kind)?;
-                Ok(FieldIndex::Terms(dictionary))
-            }
-            Kind::Keyword => {
-                let index = KeywordIndex::joined(alloc, sources, documents, field)?;
-                Ok(FieldIndex::Keywords(index))
-            }
-            Kind::U64 | Kind::I64 => {
-                let index = NumberIndex::new(alloc, documents, field, kind)?;
-                Ok(FieldIndex::Numbers(index))
-            }
-        }
+    /// The number of documents in its lists, each counted once per list.
+    pub(crate) fn postings(&self) -> usize {
+        let lists = match self {
+            FieldIndex::Terms(dictionary) => &dictionary.lists,
+            FieldIndex::Keywords(index) => &index.dictionary.lists,
+            FieldIndex::Numbers(index) => &index.lists,
+        };
+        lists.start(lists.len())
     }
 
     /// The dictionary of a text or keyword field.

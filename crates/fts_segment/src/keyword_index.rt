@@ -12,7 +12,6 @@ ghost use Rattle.fts_segment.specs.Sources.{contents, live_count};
 ghost use Rattle.fts_segment.specs.Between.{AreKeyed, NumberColumn};
 
 use crate::dictionary::Dictionary;
-use crate::dictionary_merge::merge_dictionaries;
 use crate::live_segment::LiveSegment;
 use fts_base::release;
 use fts_model::{Document, Kind, Stamped};
@@ -30,34 +29,21 @@ pub(crate) struct KeywordIndex {
 }
 
 impl KeywordIndex {
-    /// The index of the documents in a keyword field.
+    /// The index of the documents in a keyword field. If they are the live ones of sources, the keywords are merged from
+    /// theirs.
     pub(crate) fn new(
-        alloc: Global,
-        documents: &[Stamped<Document>],
-        field: usize,
-    ) -> Result<KeywordIndex, AllocError>
-        requires { length documents.now < 2 ^ 32 }
-        ensures { IfOk result (AreKeywords kinds.Keyword (values_in field documents.now)) }
-    {
-        let dictionary = Dictionary::new(alloc, documents, field, Kind::Keyword)?;
-        let index = KeywordIndex::of(alloc, documents.len(), dictionary)?;
-        Ok(index)
-    }
-
-    /// The index of the live documents of sources in a keyword field.
-    pub(crate) fn joined(
         alloc: Global,
         sources: &[LiveSegment<'_>],
         documents: &[Stamped<Document>],
         field: usize,
     ) -> Result<KeywordIndex, AllocError>
-        requires documents { documents.now ≡ contents sources.now }
-        requires few { live_count sources.now ≤ most_merged }
         requires fit { length documents.now < 2 ^ 32 }
+        requires live { live_count sources.now ≤ most_merged }
         requires kinds { All (λ source. kind_at source.segment.schema field ≡ Some kinds.Keyword) sources.now }
+        requires contents { 0 < length sources.now → documents.now ≡ contents sources.now }
         ensures { IfOk result (AreKeywords kinds.Keyword (values_in field documents.now)) }
     {
-        let dictionary = merge_dictionaries(alloc, sources, field, Kind::Keyword)?;
+        let dictionary = Dictionary::new(alloc, sources, documents, field, Kind::Keyword)?;
         let index = KeywordIndex::of(alloc, documents.len(), dictionary)?;
         Ok(index)
     }

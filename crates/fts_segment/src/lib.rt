@@ -25,6 +25,7 @@ mod dictionary_merge;
 mod doc_map;
 mod field_index;
 mod id_cache;
+mod joining;
 mod keyword_index;
 pub mod laws;
 mod live_segment;
@@ -43,6 +44,7 @@ mod term_stream;
 mod token_log;
 
 pub use builder::Builder;
+pub use joining::{IndexedField, Joining};
 pub use live_segment::LiveSegment;
 pub use segment::{ListId, Segment};
 pub use segment_join::join;

@@ -1,6 +1,6 @@
 // A segment: documents that never change, with their terms.
 ghost use Rattle.std.specs.Prelude.{◌≡◌, ◌≢◌, ◌^◌, ◌<◌, ◌≤◌, [], length, slice_get, option_copied, option_map, Some};
-ghost use Rattle.std.specs.Prelude.{All, IfNone, IfSome, true, false};
+ghost use Rattle.std.specs.Prelude.{All, IfNone, IfOk, IfSome, true, false};
 ghost use Rattle.std.specs.Option.{option_map_or};
 ghost use Rattle.fts_model.specs.Documents.{IsDocument, fits};
 ghost use Rattle.fts_model.specs.Queries.{is_number_field, is_ordered_field};
@@ -20,14 +20,14 @@ ghost use Rattle.fts_segment.specs.ListIds.{documents_in, positions_in};
 
 use crate::binary_search::equal_range;
 use crate::dictionary::Dictionary;
-use crate::field_index::FieldIndex;
+use crate::joining::IndexedField;
 use crate::sorted_column::SortedColumn;
 use fts_base::release;
 use fts_model::{Document, FieldValue, Schema, Stamp, Stamped, Term};
 use fts_pack::column::Column;
 use fts_pack::{ListRange, ListRef};
 use fts_positions::{PositionLists, PositionReader};
-use std::alloc::AllocError;
+use std::alloc::{AllocError, Global};
 use std::marker::Model;
 use std::sync::Arc;
 
@@ -46,7 +46,7 @@ pub struct ListId<'a> {
 pub(crate) struct SegmentData {
     pub(crate) schema: Schema,
     pub(crate) documents: Vec<Stamped<Document>>,
-    pub(crate) indexes: Vec<FieldIndex>,
+    pub(crate) fields: Vec<IndexedField>,
 }
 
 impl Drop for SegmentData {
@@ -54,24 +54,9 @@ impl Drop for SegmentData {
         let SegmentData {
             schema: _,
             documents,
-            indexes: _,
+            fields: _,
         } = self;
         release(documents);
-    }
-}
-
-impl SegmentData {
-    /// Takes out the schema and the documents.
-    pub(crate) fn into_documents(self) -> (Schema, Vec<Stamped<Document>>)
-        ensures schema { result.0 ≡ self.schema }
-        ensures documents { result.1.items ≡ self.documents.items }
-    {
-        let SegmentData {
-            schema,
-            documents,
-            indexes: _,
-        } = self;
-        (schema, documents)
     }
 }
 
@@ -136,8 +121,10 @@ impl Segment {
             (λ list. positions_in list ≡ positions self.now term.now) }
     {
         let stored: &SegmentData = &self.stored;
-        let index = stored.indexes.get(term.field)?;
-        index.find(stored.schema.kind(term.field), &term.value)
+        let field = stored.fields.get(term.field)?;
+        field
+            .index
+            .find(stored.schema.kind(term.field), &term.value)
     }
 
     /// The numbers of the documents that have a term, rising.
@@ -199,7 +186,9 @@ impl Segment {
             → NumbersFit kind field self.now.documents }
     {
         let stored: &SegmentData = &self.stored;
-        stored.indexes[field].ordered(stored.schema.kind(field))
+        stored.fields[field]
+            .index
+            .ordered(stored.schema.kind(field))
     }
 
     /// The dictionary of a text or keyword field.
@@ -209,7 +198,9 @@ impl Segment {
             → AreTerms kind (values_in field self.now.documents) result.now }
     {
         let stored: &SegmentData = &self.stored;
-        stored.indexes[field].dictionary(stored.schema.kind(field))
+        stored.fields[field]
+            .index
+            .dictionary(stored.schema.kind(field))
     }
 
     /// The keyword of an ordinal, borrowed from a document that has it; none past the last ordinal.

@@ -1,4 +1,3 @@
-use Rattle.std.proofs.Common.{refl}
 use Rattle.std.proofs.lemmas.List.{length-map}
 use Rattle.fts_model.specs.Documents.{value_in_field}
 use Rattle.fts_segment.specs.Occurrences.{values_in}
@@ -8,10 +7,9 @@ pub of-requires-clause-terms : goal.of-requires-clause-terms
 of-requires-clause-terms c = (
   values_in c.args.field c.args.documents.now,
   length-map c.args.documents.now (λ d. value_in_field d.value c.args.field),
-  record { kind_is = refl; few = c.in_ok-dictionary.ensures.few; dictionary_is = c.in_ok-dictionary.ensures.is },
+  c.in_ok-dictionary.ensures,
 )
 
 pub returns : goal.returns
 returns c = c.in_ok-index.ensures (values_in c.args.field c.args.documents.now)
-    (length-map c.args.documents.now (λ d. value_in_field d.value c.args.field))
-    (record { kind_is = refl; few = c.in_ok-dictionary.ensures.few; dictionary_is = c.in_ok-dictionary.ensures.is })
+    (length-map c.args.documents.now (λ d. value_in_field d.value c.args.field)) c.in_ok-dictionary.ensures

@@ -14,7 +14,7 @@ pub dictionary-requires-clause-is : goal.dictionary-requires-clause-is
 dictionary-requires-clause-is c =
     let s = c.deref-stored.result.now in
     let k = keeps c.self.inside c.args.self.now s c.self.view_is c.self.invariant c.deref-stored.ensures in
-    (values_in c.args.field s.documents.items, stored_index c.args.field c.kind.result c.index.result.now k.indexes_are c.kind.ensures c.index.ensures)
+    (values_in c.args.field s.documents.items, stored_index c.args.field c.kind.result c.index.result.now k.fields_are c.kind.ensures c.index.ensures)
 
 pub dictionary-requires-clause-terms : goal.dictionary-requires-clause-terms
 dictionary-requires-clause-terms c =
@@ -25,7 +25,7 @@ pub returns : goal.returns
 returns c kind is =
     let s = c.deref-stored.result.now in
     let k = keeps c.self.inside c.args.self.now s c.self.view_is c.self.invariant c.deref-stored.ensures in
-    let terms = c.dictionary.ensures (values_in c.args.field s.documents.items) (stored_index c.args.field c.kind.result c.index.result.now k.indexes_are
+    let terms = c.dictionary.ensures (values_in c.args.field s.documents.items) (stored_index c.args.field c.kind.result c.index.result.now k.fields_are
     c.kind.ensures c.index.ensures) in
     let known : Some c.kind.result ≡ Some kind = sym c.kind.ensures ∙ ap (λ v. kind_at v.schema c.args.field) k.value_is ∙ is in
     let same : c.kind.result ≡ kind = cc in

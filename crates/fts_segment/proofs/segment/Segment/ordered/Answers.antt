@@ -17,7 +17,7 @@ pub ordered-requires-clause-is : goal.ordered-requires-clause-is
 ordered-requires-clause-is c =
     let s = c.deref-stored.result.now in
     let k = keeps c.self.inside c.args.self.now s c.self.view_is c.self.invariant c.deref-stored.ensures in
-    (values_in c.args.field s.documents.items, stored_index c.args.field c.kind.result c.index.result.now k.indexes_are c.kind.ensures c.index.ensures)
+    (values_in c.args.field s.documents.items, stored_index c.args.field c.kind.result c.index.result.now k.fields_are c.kind.ensures c.index.ensures)
 
 pub ordered-requires-clause-ordered : goal.ordered-requires-clause-ordered
 ordered-requires-clause-ordered c =
@@ -32,15 +32,15 @@ returns-clause-is c =
     subst (λ (column : NumberColumn). IsOrdered column c.ordered.result)
     (column_of-values v c.args.field c.kind.result c.kind.ensures ∙ ap (λ v. column_in v c.args.field) k.value_is)
     (c.ordered.ensures (values_in c.args.field s.documents.items)
-    (stored_index c.args.field c.kind.result c.index.result.now k.indexes_are c.kind.ensures c.index.ensures))
+    (stored_index c.args.field c.kind.result c.index.result.now k.fields_are c.kind.ensures c.index.ensures))
 
 pub returns-clause-fit : goal.returns-clause-fit
 returns-clause-fit c kind is =
     let s = c.deref-stored.result.now in
     let k = keeps c.self.inside c.args.self.now s c.self.view_is c.self.invariant c.deref-stored.ensures in
-    let found = stored_index c.args.field c.kind.result c.index.result.now k.indexes_are c.kind.ensures c.index.ensures in
+    let found = stored_index c.args.field c.kind.result c.index.result.now k.fields_are c.kind.ensures c.index.ensures in
     let known : Some c.kind.result ≡ Some kind = sym c.kind.ensures ∙ ap (λ v. kind_at v.schema c.args.field) k.value_is ∙ is in
     let same : c.kind.result ≡ kind = cc in
     let fit : NumbersFit c.kind.result c.args.field s.documents.items =
-    numbers_fit c.kind.result (values_in c.args.field s.documents.items) c.index.result.now found in
+    numbers_fit c.kind.result (values_in c.args.field s.documents.items) c.index.result.now.index found in
     subst (λ (v : SegmentValue). NumbersFit kind c.args.field v.documents) k.value_is (subst (λ k. NumbersFit k c.args.field s.documents.items) same fit)
