@@ -8,3 +8,4 @@ pub mod LevelsLemmas
 pub mod OrderLemmas
 pub mod CandidatesLemmas
 pub mod AloneLemmas
+pub mod FieldJobLemmas

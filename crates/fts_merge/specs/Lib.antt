@@ -1,4 +1,5 @@
 pub mod Strikes
 pub mod Levels
 pub mod Merges
+pub mod FieldJobs
 pub mod Internals

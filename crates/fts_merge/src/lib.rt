@@ -4,7 +4,8 @@
 //! is set. So applying a delete clears bits ([`strike`]), in time proportional to the documents that have its term and
 //! not to all of them. Deleted documents are dropped when segments are merged: [`merge`] makes one segment of the live
 //! documents of several. The result records the origin of each document ([`Merged`]), so that documents that are
-//! deleted in the meantime can be found in it. A merge policy chooses segments by their sizes alone ([`plan`]): those
+//! deleted in the meantime can be found in it. The indexes of its fields can be made by several threads ([`merge_by`]).
+//! A merge policy chooses segments by their sizes alone ([`plan`]): those
 //! of one level, which have about the same size, once there are eight of them.
 //!
 //! ```text
@@ -16,6 +17,8 @@
 //! ```
 #![tactic(auto)]
 
+mod field_job;
+mod join_by;
 pub mod laws;
 mod live_strike;
 mod merge_plan;
@@ -31,4 +34,4 @@ pub use merge_plan::{plan, plan_by};
 pub use merge_policy::{MergePolicy, SegmentSize};
 pub use merged::Merged;
 pub use origin::Origin;
-pub use segment_merge::merge;
+pub use segment_merge::{merge, merge_by};

@@ -1,17 +1,21 @@
 // Makes one segment of the live documents of several.
-ghost use Rattle.std.specs.Prelude.{◌≡◌, ◌≢◌, ◌↔◌, ◌<◌, ◌∷◌, ◌++◌, [], Err, All, IfOk, IfErr, OnOk, length, nat_lt};
+ghost use Rattle.std.specs.Prelude.{◌≡◌, ◌≢◌, ◌↔◌, ◌<◌, ◌≤◌, ◌∷◌, ◌++◌, [], Err, All, IfOk, IfErr, OnOk, length, nat_lt};
 ghost use Rattle.std.specs.Prelude.{if◌then◌else◌};
 ghost use Rattle.fts_base.specs.declared.refusal.Refusal.TheVariants.{Memory, TooLarge};
 ghost use Rattle.fts_model.specs.Limits.{most_merged};
 ghost use Rattle.fts_merge.specs.Merges.{merge_of, origins_in, origins_from};
 ghost use Rattle.fts_segment.specs.Sources.{HasBits, live_count, AreOfOneSchema};
 
+use crate::join_by::join_by;
 use crate::merged::Merged;
 use crate::origin::Origin;
 use fts_model::{MOST_MERGED, Refusal};
 use fts_pack::bits::Bits;
+use fts_pool::Gate;
 use fts_segment::{LiveSegment, join};
 use std::alloc::{AllocError, Global};
+use std::sync::Wait;
+use std::thread::Threads;
 
 /// Whether there are more live documents than a merged segment may have.
 fn is_too_large(sources: &[LiveSegment<'_>]) -> bool
@@ -83,5 +87,29 @@ pub fn merge(alloc: Global, sources: &[LiveSegment<'_>]) -> Result<Merged, Refus
     }
     let origins = origins_of(alloc, sources)?;
     let segment = join(alloc, sources)?;
+    Ok(Merged::new(segment, origins, sources.len()))
+}
+
+/// Merges as [`merge`] does, by up to this many threads, 1 to 64, the calling one among them: each field is a job. The
+/// gate is called around each, by the number of the field.
+pub fn merge_by<R: Threads + Wait + Sync, G: Gate>(
+    rt: &R,
+    alloc: Global,
+    sources: &[LiveSegment<'_>],
+    workers: usize,
+    gate: &G,
+) -> Result<Merged, Refusal>
+    requires some { 0 < length sources.now }
+    requires schemas { AreOfOneSchema sources.now }
+    requires workers { (1 ≤ workers) × (workers ≤ 64) }
+    ensures ok { IfOk result (λ merged. merged ≡ merge_of sources.now) }
+    ensures large { (result ≡ Err TooLarge) ↔ (most_merged < live_count sources.now) }
+    ensures other { IfErr result (λ e. e ≢ TooLarge → e ≡ Memory) }
+{
+    if is_too_large(sources) {
+        return Err(Refusal::TooLarge);
+    }
+    let origins = origins_of(alloc, sources)?;
+    let segment = join_by(rt, alloc, sources, workers, gate)?;
     Ok(Merged::new(segment, origins, sources.len()))
 }
