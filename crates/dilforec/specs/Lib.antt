@@ -38,6 +38,7 @@ pub use Rattle.fts_snapshots.specs.Successors
 pub use Rattle.fts_collect.specs.Searches
 pub use Rattle.fts_index.specs.Publications
 pub use Rattle.fts_index.specs.PublicationsShown
+pub use Rattle.fts_index.specs.SearchJobs
 pub use Rattle.fts_index.specs.Writers
 pub mod script
 pub mod text

@@ -1,18 +1,23 @@
 // An index over a writer of segments.
-ghost use Rattle.std.specs.Prelude.{◌≡◌, ◌≤◌, IfOk, IfSome, IsOkUnless};
+ghost use Rattle.std.specs.Prelude.{◌≡◌, ◌≤◌, true, IfOk, IfSome, IsOkUnless};
 ghost use Rattle.fts_engine.specs.DefaultOptions.{if_policy};
 ghost use Rattle.fts_index.specs.Publications.{IsOneCommit};
 ghost use Rattle.fts_merge.specs.Levels.{usual};
+ghost use Rattle.fts_model.specs.Answers.{answer};
 ghost use Rattle.fts_model.specs.Limits.{most_merged};
+ghost use Rattle.fts_model.specs.Queries.{query_fits, request_fits};
+ghost use Rattle.fts_model.specs.QueryValues.{query_value};
+ghost use Rattle.fts_snapshots.specs.Snapshots.{content_of};
 ghost use Rattle.fts_engine_index.specs.WriterIndexes.{IsReaderOf};
 
+use crate::lasting::Lasting;
 use crate::threads::threads_for;
 use crate::uncommitted;
 use crate::uncommitted::Uncommitted;
 use fts_engine::{Engine, EngineOver, Merge, Options};
-use fts_index::{CommitSeen, Reader, Searcher, SegmentInfo, Writer};
+use fts_index::{CommitSeen, Reader, SearchPool, Searcher, SegmentInfo, Writer};
 use fts_model::{Answer, Op, Query, Refusal, Request, Schema, Stamp};
-use fts_pool::Open;
+use fts_pool::{Open, Pool};
 use fts_snapshots::{MergePolicy, merge_all};
 use std::alloc::Global;
 use std::marker::Model;
@@ -57,6 +62,28 @@ fn last_commit(writer: &Writer, reader: &mut Option<Reader>) -> Result<Searcher,
     writer.searcher()
 }
 
+/// The answer over the documents of a commit, by this many threads: the calling one, and those of a pool. The only
+/// refusal is `Memory`.
+fn search_by<R: Threads + Wait + Sync + 'static>(
+    rt: &'static R,
+    alloc: Global,
+    pool: &mut SearchPool,
+    searcher: &Searcher,
+    query: &Query,
+    request: &Request,
+    workers: usize,
+) -> Result<Answer, Refusal>
+    requires query { query_fits searcher.now.snapshot.schema (query_value query.now) ≡ true }
+    requires request { request_fits searcher.now.snapshot.schema request.now ≡ true }
+    requires workers { (1 ≤ workers) × (workers ≤ 64) }
+    ensures answer { IfOk result (λ found. found ≡ answer searcher.now.snapshot.schema
+        (query_value query.now) request.now (content_of searcher.now.snapshot)) }
+    ensures memory { IsOkUnless result Refusal.Memory }
+{
+    let found = searcher.search_by(&rt, alloc, pool, query, request, workers)?;
+    Ok(found.answer)
+}
+
 /// Lets a reader, if there is one, look at what is shown, so that it holds no segment from before a merge.
 fn look(writer: &Writer, reader: &mut Option<Reader>)
     requires { IsReaderOf writer.now.front.seen reader.old }
@@ -91,6 +118,8 @@ pub struct IndexEngine {
     calls: u64,
     /// Whether all that was due after the last commit was merged: memory may have run out for some.
     is_merged: bool,
+    /// The threads that take part in searches.
+    pool: SearchPool,
 }
 
 impl Model for IndexEngine {
@@ -167,7 +196,7 @@ impl Engine for IndexEngine {
     }
 }
 
-impl<R: AllocGlobal + Threads + Wait + Sync> EngineOver<R> for IndexEngine {
+impl<R: AllocGlobal + Threads + Wait + Sync + Lasting> EngineOver<R> for IndexEngine {
     ghost use Rattle.std.specs.Prelude.{◌+◌, ◌^◌, ◌≤◌, OnOk};
     ghost use Rattle.std.specs.Thread.{IsSync};
     ghost use Rattle.fts_merge.specs.Levels.{usual};
@@ -178,6 +207,7 @@ impl<R: AllocGlobal + Threads + Wait + Sync> EngineOver<R> for IndexEngine {
 
     fn open(rt: &R, options: Options, schema: Schema) -> Result<Self, Refusal> {
         let alloc = rt.alloc();
+        let pool = Pool::new(alloc)?;
         let mut writer = Writer::new(rt, alloc, &schema)?;
         let reader = reader_of(&mut writer);
         Ok(IndexEngine {
@@ -189,6 +219,7 @@ impl<R: AllocGlobal + Threads + Wait + Sync> EngineOver<R> for IndexEngine {
             count: 0,
             calls: 0,
             is_merged: true,
+            pool,
         })
     }
 
@@ -239,8 +270,15 @@ impl<R: AllocGlobal + Threads + Wait + Sync> EngineOver<R> for IndexEngine {
     fn search(&mut self, rt: &R, query: &Query, request: &Request) -> Result<Answer, Refusal> {
         let searcher = last_commit(&self.writer, &mut self.reader)?;
         let workers = threads_for(self.options.workers, &searcher, query, request);
-        let found = searcher.search(rt, rt.alloc(), query, request, workers, &Open)?;
-        Ok(found.answer)
+        if workers == 1 {
+            let found = searcher.search(rt, self.alloc, query, request, 1, &Open)?;
+            return Ok(found.answer);
+        }
+        let Ok(rt) = rt.lasting() else {
+            return Err(Refusal::Memory);
+        };
+        let (alloc, pool) = (self.alloc, &mut self.pool);
+        search_by(rt, alloc, pool, &searcher, query, request, workers)
     }
 
     fn close(self, rt: &R) {
@@ -253,7 +291,9 @@ impl<R: AllocGlobal + Threads + Wait + Sync> EngineOver<R> for IndexEngine {
             count: _,
             calls: _,
             is_merged: _,
+            pool,
         } = self;
+        pool.close(rt);
         drop(reader);
         writer.close(rt);
     }

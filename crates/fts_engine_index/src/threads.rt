@@ -4,8 +4,8 @@ ghost use Rattle.std.specs.Prelude.{◌≤◌};
 use fts_index::Searcher;
 use fts_model::{Query, Request};
 
-/// For so many nanoseconds of one thread's work a further one is worth its start, which takes tens of microseconds.
-const WORTH_A_THREAD: u64 = 200_000;
+/// For so many nanoseconds of one thread's work a further one is worth waking.
+const WORTH_A_THREAD: u64 = 100_000;
 
 /// How many threads search the segments if this many are wanted. The answer is the same with any number.
 pub(crate) fn threads_for(

@@ -13,7 +13,8 @@
 //! - Commits are *published* ([`publications`]). A [`Reader`] in any thread takes the newest one by one look, without a
 //!   lock, and never goes back; a [`Searcher`] keeps the one that it was made of.
 //! - A search asks each segment by a job of its own, and joins the parts ([`Searcher::search`]).
-//!   [`Searcher::cost`] estimates its work, by which a caller chooses how many threads to take.
+//!   [`Searcher::search_by`] finds the same by the threads of a [`SearchPool`], which stay between searches.
+//!   [`Searcher::cost`] estimates the work, by which a caller chooses how many threads to take.
 //!
 //! ```text
 //! let mut writer = Writer::new(rt, alloc, &schema)?;
@@ -47,5 +48,5 @@ pub use fts_snapshots::{
     Snapshot,
 };
 pub use publications::{CommitSeen, Publisher, Reader, Searcher};
-pub use searches::Found;
+pub use searches::{Found, SearchPool, SharedSearchJob};
 pub use writer::{Committed, Writer};

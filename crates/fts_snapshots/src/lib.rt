@@ -13,7 +13,8 @@
 //! - The merges of several candidates can be run side by side: [`due_tasks`] starts them as jobs of a pool, and
 //!   [`end_due`] ends them one after the other.
 //!
-//! This crate starts no thread, waits for none and publishes nothing: the crates above do.
+//! This crate publishes nothing, and starts threads only in [`MergeJob::run_by`] and [`Snapshot::merge_by`], where the
+//! fields of a merge are jobs of a pool: otherwise the crates above do.
 //!
 //! ```text
 //! let next = snapshot.commit_alone(alloc, batch, Cut::Runs(65_536))?;

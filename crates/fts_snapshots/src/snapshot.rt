@@ -21,8 +21,11 @@ use crate::merges::named_entries::named_entries;
 use crate::merges::{MergeJob, MergedSegment, candidates_by};
 use fts_merge::MergePolicy;
 use fts_model::{Cut, Op, Refusal, Schema, Stamped};
+use fts_pool::Gate;
 use std::alloc::{AllocError, Global};
 use std::marker::Model;
+use std::sync::Wait;
+use std::thread::Threads;
 
 /// The segments of an index at one time, by rising numbers. It never changes: a commit or a merge makes another
 /// snapshot, and a refused one makes none.
@@ -143,6 +146,30 @@ impl Snapshot {
     {
         let job = self.begin_merge(alloc, ids)?;
         match job.run(alloc) {
+            Ok(merged) => self.end_merge(alloc, &merged),
+            Err((_, refusal)) => Err(refusal),
+        }
+    }
+
+    /// Merges as [`merge`](Snapshot::merge) does. Up to this many threads, 1 to 64, the calling one among them, make the
+    /// segment: each field is a job, and the gate is called around each.
+    pub fn merge_by<R: Threads + Wait + Sync, G: Gate>(
+        &self,
+        rt: &R,
+        alloc: Global,
+        ids: &[u64],
+        workers: usize,
+        gate: &G,
+    ) -> Result<Snapshot, Refusal>
+        requires workers { (1 ≤ workers) × (workers ≤ 64) }
+        ensures snapshot { Gives (λ new. new) result
+            (ok_unless (merge_fault ids.now self.now) (after_merge ids.now self.now)) }
+        ensures segments { IfOk result (λ new. map info_of new.entries ≡ infos_after_merge ids.now self.now) }
+        ensures content { IfOk result (λ new. content new.entries ≡ content self.now.entries) }
+        ensures empty { ids.now ≡ [] → result ≡ Err Refusal.NoSegments }
+    {
+        let begun = self.begin_merge(alloc, ids)?;
+        match begun.run_by(rt, alloc, workers, gate) {
             Ok(merged) => self.end_merge(alloc, &merged),
             Err((_, refusal)) => Err(refusal),
         }

@@ -5,8 +5,10 @@ ghost use Rattle.std.specs.Prelude.{◌≡◌, true};
 ghost use Rattle.dilforec.specs.Queries.{query_fits};
 ghost use Rattle.dilforec.specs.QueryValues.{query_value};
 
+use dilforec::pool::Pool;
 use dilforec::{
-    Batch, CommitSeen, Cut, Open, Reader, Refusal, Request, Schema, Searcher, Stamp, Writer, parse,
+    Batch, CommitSeen, Cut, Open, Reader, Refusal, Request, Schema, SearchPool, Searcher, Stamp,
+    Writer, parse,
 };
 use fts_model::Query;
 use std::alloc::Global;
@@ -182,4 +184,44 @@ fn a_cost_is_estimated_also_without_memory(rt: HostRuntime) {
     let counted = searcher.cost(&query, &plain);
     let grouped = searcher.cost(&query, &groups);
     assert!(rt; nothing <= counted && counted <= grouped);
+}
+
+/// How many documents a query finds, by two threads of which one stays.
+fn count_by<R: Threads + Wait + Copy + Send + Abort + 'static>(
+    rt: &R,
+    alloc: Global,
+    pool: &mut SearchPool,
+    searcher: &Searcher,
+    query: &Query,
+) -> u64
+    requires { query_fits searcher.now.snapshot.schema (query_value query.now) ≡ true }
+{
+    let schema = searcher.snapshot().schema();
+    let request = Request::new(schema, Some("tag"), None).expect(rt, "a request");
+    match searcher.search_by(rt, alloc, pool, query, &request, 2) {
+        Ok(found) => found.answer.count,
+        Err(refusal) => {
+            assert_eq!(rt; refusal, Refusal::Memory);
+            let found = searcher.search_by(rt, alloc, pool, query, &request, 2);
+            found.expect(rt, "an answer again").answer.count
+        }
+    }
+}
+
+#[test]
+fn a_search_by_threads_that_stay_can_be_tried_again(rt: HostRuntime) {
+    let alloc = rt.alloc();
+    let mut writer = writer(&rt, alloc).expect(&rt, "a writer");
+    commit_two(&rt, alloc, &mut writer);
+    let searcher = writer.searcher().expect(&rt, "a searcher");
+    writer.close(&rt);
+    let schema = searcher.snapshot().schema();
+    let text = "tag:p (+* -tag:[q TO *] -title:\"p q\" -price:>1 -temp:<0)";
+    let query = parsed(&rt, alloc, schema, text);
+    let mut pool = Pool::new(alloc).expect(&rt, "a pool");
+    for _ in 0..3usize {
+        let found = count_by(&rt, alloc, &mut pool, &searcher, &query);
+        assert_eq!(rt; found, 1);
+    }
+    pool.close(&rt);
 }

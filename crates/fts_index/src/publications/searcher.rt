@@ -10,8 +10,7 @@ ghost use Rattle.fts_index.specs.declared.publications.publication.Publication.{
 ghost use Rattle.fts_index.specs.Publications.{IsFront, IsOneCommit};
 
 use crate::publications::front::Front;
-use crate::searches::{Found, openings_of, search_cost, segment_parts};
-use fts_collect::Part;
+use crate::searches::{Found, SearchPool, found_in, search_cost, segment_parts, segment_parts_by};
 use fts_model::{Query, Refusal, Request, Stamp};
 use fts_pool::Gate;
 use fts_snapshots::Snapshot;
@@ -98,11 +97,35 @@ impl Searcher {
     {
         let snapshot = self.snapshot();
         let parts = segment_parts(rt, alloc, snapshot.entries(), query, request, workers, gate)?;
-        let openings = openings_of(&parts);
-        match Part::join(alloc, parts, request) {
-            Ok(answer) => Ok(Found { answer, openings }),
-            Err((_, refusal)) => Err(refusal),
-        }
+        found_in(alloc, snapshot, parts, request)
+    }
+
+    /// What a query finds among all documents of the commit, as by [`Searcher::search`]. The segments are searched by
+    /// up to this many threads, 1 to 64: the calling one, and those of a pool, which stay. The only refusal is
+    /// `Memory`.
+    pub fn search_by<R: Threads + Wait + Copy + Send + 'static>(
+        &self,
+        rt: &R,
+        alloc: Global,
+        pool: &mut SearchPool,
+        query: &Query,
+        request: &Request,
+        workers: usize,
+    ) -> Result<Found, Refusal>
+        requires query { query_fits self.now.snapshot.schema (query_value query.now) ≡ true }
+        requires request { request_fits self.now.snapshot.schema request.now ≡ true }
+        requires workers { (1 ≤ workers) × (workers ≤ 64) }
+        ensures answer { IfOk result (λ found. found.answer ≡ answer self.now.snapshot.schema
+            (query_value query.now) request.now (content_of self.now.snapshot)) }
+        ensures openings { IfOk result (λ found.
+            OpensInAll self.now.snapshot (query_value query.now) found.openings) }
+        ensures parts { IfOk result (λ found.
+            AreOfParts (query_value query.now) request.now self.now.snapshot found.openings) }
+        ensures memory { IsOkUnless result Refusal.Memory }
+    {
+        let snapshot = self.snapshot();
+        let parts = segment_parts_by(rt, alloc, pool, snapshot.entries(), query, request, workers)?;
+        found_in(alloc, snapshot, parts, request)
     }
 }
 

@@ -1,17 +1,20 @@
 // A merge that was started: any thread may run it, beside the writer.
-ghost use Rattle.std.specs.Prelude.{◌≡◌, ◌⊎◌, None, Some, IfOk, IfErr, OnOk, map, sum_by};
+ghost use Rattle.std.specs.Prelude.{◌≡◌, ◌≤◌, ◌⊎◌, None, Some, IfOk, IfErr, OnOk, map, sum_by};
 ghost use Rattle.fts_base.specs.Results.{Gives, ok_unless};
 ghost use Rattle.fts_snapshots.specs.Entries.{live_count};
 ghost use Rattle.fts_snapshots.specs.Merges.{size_fault};
 ghost use Rattle.fts_snapshots.specs.MergedSegments.{IsJob, ids_of, merged_of};
-ghost use Rattle.fts_snapshots.specs.Sources.{source_of};
+ghost use Rattle.fts_snapshots.specs.Sources.{IsMergeOf, source_of};
 
 use crate::entries::{Entry, ids_of_entries};
 use crate::merges::merged_segment::MergedSegment;
-use fts_merge::{LiveSegment, merge};
+use fts_merge::{LiveSegment, Merged, merge, merge_by};
 use fts_model::Refusal;
+use fts_pool::Gate;
 use std::alloc::{AllocError, Global};
 use std::marker::Model;
+use std::sync::Wait;
+use std::thread::Threads;
 
 /// The segments of a merge with the live bits that they had when it started. Contracts see these segments, in the order
 /// of the merge.
@@ -74,6 +77,28 @@ impl MergeJob {
             Err(refusal) => Err((self, refusal)),
         }
     }
+
+    /// Makes the segment as [`run`](MergeJob::run) does, by up to this many threads, 1 to 64, the calling one among them:
+    /// each field is a job. The gate is called around each.
+    pub fn run_by<R: Threads + Wait + Sync, G: Gate>(
+        self,
+        rt: &R,
+        alloc: Global,
+        workers: usize,
+        gate: &G,
+    ) -> Result<MergedSegment, (MergeJob, Refusal)>
+        requires workers { (1 ≤ workers) × (workers ≤ 64) }
+        ensures merged { IfOk result (λ merged. merged ≡ merged_of self) }
+        ensures few { OnOk result (size_fault (sum_by live_count self) ≡ None) }
+        ensures refused { IfErr result (λ e.
+            (e.1 ≡ Refusal.Memory) ⊎ (size_fault (sum_by live_count self) ≡ Some e.1)) }
+        ensures handed_back { IfErr result (λ e. e.0 ≡ self) }
+    {
+        match merged_by(rt, alloc, &self.entries, workers, gate) {
+            Ok(merged) => Ok(merged),
+            Err(refusal) => Err((self, refusal)),
+        }
+    }
 }
 
 /// Segments as the sources of a merge.
@@ -87,6 +112,25 @@ fn sources<'a>(alloc: Global, entries: &'a [Entry]) -> Result<Vec<LiveSegment<'a
     Ok(sources)
 }
 
+/// A merged segment with the numbers of its sources, if they could be merged.
+fn with_ids(
+    alloc: Global,
+    entries: &[Entry],
+    made: Result<Merged, Refusal>,
+) -> Result<MergedSegment, Refusal>
+    requires job { IsJob entries.now }
+    requires is { IsMergeOf entries.now made }
+    ensures { Gives (λ merged. merged) result
+        (ok_unless (size_fault (sum_by live_count entries.now)) (merged_of entries.now)) }
+{
+    let merged = match made {
+        Ok(merged) => merged,
+        Err(refusal) => return Err(refusal),
+    };
+    let ids = ids_of_entries(alloc, entries)?;
+    Ok(MergedSegment::new(merged, ids))
+}
+
 /// One segment of the live documents of segments.
 fn merged(alloc: Global, entries: &[Entry]) -> Result<MergedSegment, Refusal>
     requires { IsJob entries.now }
@@ -94,10 +138,22 @@ fn merged(alloc: Global, entries: &[Entry]) -> Result<MergedSegment, Refusal>
         (ok_unless (size_fault (sum_by live_count entries.now)) (merged_of entries.now)) }
 {
     let sources = sources(alloc, entries)?;
-    let merged = match merge(alloc, &sources) {
-        Ok(merged) => merged,
-        Err(refusal) => return Err(refusal),
-    };
-    let ids = ids_of_entries(alloc, entries)?;
-    Ok(MergedSegment::new(merged, ids))
+    with_ids(alloc, entries, merge(alloc, &sources))
+}
+
+/// One segment of the live documents of segments, by up to this many threads, 1 to 64.
+fn merged_by<R: Threads + Wait + Sync, G: Gate>(
+    rt: &R,
+    alloc: Global,
+    entries: &[Entry],
+    workers: usize,
+    gate: &G,
+) -> Result<MergedSegment, Refusal>
+    requires job { IsJob entries.now }
+    requires workers { (1 ≤ workers) × (workers ≤ 64) }
+    ensures { Gives (λ merged. merged) result
+        (ok_unless (size_fault (sum_by live_count entries.now)) (merged_of entries.now)) }
+{
+    let sources = sources(alloc, entries)?;
+    with_ids(alloc, entries, merge_by(rt, alloc, &sources, workers, gate))
 }

@@ -11,12 +11,12 @@ pub returns-clause-parts : goal.returns-clause-parts
 returns-clause-parts g c =
     let asked = ap (map asked_of) c.deref.ensures.value ∙ c.in_ok-jobs.ensures in
     IfOk-weaker c.parts_of.result _ _
-    (λ parts told. parts_told (query_value c.args.query.now) c.args.request.now c.deref.result.now c.in_ok-answers.answers.items c.args.entries.now parts.items
+    (λ parts told. parts_told asked_of (query_value c.args.query.now) c.args.request.now c.deref.result.now c.in_ok-answers.answers.items c.args.entries.now parts.items
     c.in_ok-answers.ensures.ok asked told)
     c.parts_of.ensures.ok
 
 pub returns-clause-memory : goal.returns-clause-memory
 returns-clause-memory g c =
     for_memory_alone c.parts_of.result _
-    (λ e refused. ⊎_elim (λ memory. memory) (refused_for_memory c.deref.result.now c.in_ok-answers.answers.items e c.in_ok-answers.ensures.ok) refused)
+    (λ e refused. ⊎_elim (λ memory. memory) (refused_for_memory asked_of c.deref.result.now c.in_ok-answers.answers.items e c.in_ok-answers.ensures.ok) refused)
     c.parts_of.ensures.err

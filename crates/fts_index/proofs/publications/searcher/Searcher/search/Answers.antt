@@ -1,39 +1,32 @@
 -- The parts of the segments make the answer over the content.
-use Rattle.std.proofs.Common.{◌-◌, ◌^◌, List, min, sum_by, subst, ap, ◌∙◌, arith}
-use Rattle.fts_model.specs.Queries.{hits}
+use Rattle.std.proofs.Common.{◌^◌, ◌<◌, length, subst, sym}
+use Rattle.std.proofs.lemmas.Result.{IfOk-weaker}
 use Rattle.fts_model.specs.QueryValues.{query_value}
-use Rattle.fts_parts.specs.Parts.{PartValue}
-use Rattle.fts_snapshots.specs.Snapshots.{IsSnapshot, SnapshotValue, content_of}
-use Rattle.fts_collect.proofs.SearchLemmas.{length-hits, of_parts, once_among_hits, opens_in_all, parts_of_snapshot}
+use Rattle.fts_snapshots.specs.Snapshots.{SnapshotValue, content_of}
+use Rattle.fts_index.proofs.SearchJobLemmas.{found_for}
 use Rattle.fts_index.proofs.publications.searcher.Searcher.search.Goals as goal
 
-pub returns-in-Ok-clause-answer : goal.returns-in-Ok-clause-answer
-returns-in-Ok-clause-answer g c =
-    let s = c.args.self.now.snapshot in
-    let query = query_value c.args.query.now in
-    let whole : IsSnapshot s = subst IsSnapshot c.snapshot-snapshot.ensures.snapshot c.entries.ensures.snapshot in
-    let entries = c.entries.ensures.entries ∙ ap (λ (x : SnapshotValue). x.entries) c.snapshot-snapshot.ensures.snapshot in
-    c.in-Ok.ensures.joined (hits s.schema query (content_of s))
-    (parts_of_snapshot s query c.args.request.now c.entries.result.now c.in_ok-parts.parts.items whole entries c.in_ok-parts.ensures.parts)
-    (once_among_hits s.schema query (content_of s) whole.stamps)
-    (omega (arith, c.snapshot-snapshot.ensures.front.stamped.few, length-hits s.schema query (content_of s)))
+pub found_in-requires-clause-few : goal.found_in-requires-clause-few
+found_in-requires-clause-few g c =
+    subst (λ (s : SnapshotValue). length (content_of s) < 2 ^ 64) (sym c.snapshot-snapshot.ensures.snapshot) c.snapshot-snapshot.ensures.front.stamped.few
 
-pub returns-in-Ok-clause-openings : goal.returns-in-Ok-clause-openings
-returns-in-Ok-clause-openings g c =
-    let s = c.args.self.now.snapshot in
-    let query = query_value c.args.query.now in
-    let whole : IsSnapshot s = subst IsSnapshot c.snapshot-snapshot.ensures.snapshot c.entries.ensures.snapshot in
-    let entries = c.entries.ensures.entries ∙ ap (λ (x : SnapshotValue). x.entries) c.snapshot-snapshot.ensures.snapshot in
-    let all = ap (λ (ps : List PartValue). min (2 ^ 64 - 1) (sum_by (λ part. part.openings) ps)) c.deref.ensures.value in
-    opens_in_all s query c.args.request.now c.entries.result.now c.in_ok-parts.parts.items whole entries c.in_ok-parts.ensures.parts
-    c.openings_of-openings.result (c.openings_of-openings.ensures ∙ all)
+pub returns-clause-answer : goal.returns-clause-answer
+returns-clause-answer g c =
+    IfOk-weaker c.found_in.result _ _ (λ found is. is.answer)
+    (found_for (query_value c.args.query.now) c.args.request.now c.snapshot-snapshot.result.now c.args.self.now.snapshot c.entries.result.now
+    c.in_ok-parts.parts.items c.found_in.result c.snapshot-snapshot.ensures.snapshot c.entries.ensures.entries c.in_ok-parts.ensures.parts
+    c.found_in.ensures.found)
 
-pub returns-in-Ok-clause-parts : goal.returns-in-Ok-clause-parts
-returns-in-Ok-clause-parts g c =
-    let s = c.args.self.now.snapshot in
-    let query = query_value c.args.query.now in
-    let whole : IsSnapshot s = subst IsSnapshot c.snapshot-snapshot.ensures.snapshot c.entries.ensures.snapshot in
-    let entries = c.entries.ensures.entries ∙ ap (λ (x : SnapshotValue). x.entries) c.snapshot-snapshot.ensures.snapshot in
-    let all = ap (λ (ps : List PartValue). min (2 ^ 64 - 1) (sum_by (λ part. part.openings) ps)) c.deref.ensures.value in
-    of_parts s query c.args.request.now c.entries.result.now c.in_ok-parts.parts.items whole entries c.in_ok-parts.ensures.parts c.openings_of-openings.result
-    (c.openings_of-openings.ensures ∙ all)
+pub returns-clause-openings : goal.returns-clause-openings
+returns-clause-openings g c =
+    IfOk-weaker c.found_in.result _ _ (λ found is. is.openings)
+    (found_for (query_value c.args.query.now) c.args.request.now c.snapshot-snapshot.result.now c.args.self.now.snapshot c.entries.result.now
+    c.in_ok-parts.parts.items c.found_in.result c.snapshot-snapshot.ensures.snapshot c.entries.ensures.entries c.in_ok-parts.ensures.parts
+    c.found_in.ensures.found)
+
+pub returns-clause-parts : goal.returns-clause-parts
+returns-clause-parts g c =
+    IfOk-weaker c.found_in.result _ _ (λ found is. is.parts)
+    (found_for (query_value c.args.query.now) c.args.request.now c.snapshot-snapshot.result.now c.args.self.now.snapshot c.entries.result.now
+    c.in_ok-parts.parts.items c.found_in.result c.snapshot-snapshot.ensures.snapshot c.entries.ensures.entries c.in_ok-parts.ensures.parts
+    c.found_in.ensures.found)
