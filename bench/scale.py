@@ -5,8 +5,8 @@
 
 It needs `distributed` (tests/cluster.py says how to get it) and the shared object of bindings/python/link.py. Without an argument there are
 100,000, 1,000,000 and 10,000,000 documents, which take 16 GB of memory and 2 GB of disk. Each way runs in a process of its own. Those that are
-compared are there at the same time and take turns, TURNS rounds each, of which the quickest counts; the quickest of BUILDS builds counts too. All
-ways read the same files of JSON lines, and must give the same counts, groups and values of top lists.
+compared are there at the same time and take turns, TURNS rounds each, of which the quickest counts (SMALL_TURNS of the small clusters); the quickest
+of BUILDS builds counts too. All ways read the same files of JSON lines, and must give the same counts, groups and values of top lists.
 
 `many` has the documents cut into many small partitions: long top lists beside one index, and searches from many threads. `model` takes its
 constants from some of the points, which `FITTED` names, and is judged by the others.
@@ -44,6 +44,8 @@ WORKERS = 4
 # Fewer than other timings have, so that ten million documents fit into a small machine.
 WORDS_EACH = 10
 TURNS, BUILDS = 4, 2
+# Rounds of the small clusters, whose searches are short.
+SMALL_TURNS = 12
 # How near the model has to come: within a third.
 NEAR = 1 / 3
 # Documents of the small partitions, so few that their searches take next to nothing.
@@ -273,11 +275,23 @@ def many() -> dict[str, Any]:
                 "second": second, "build": cluster.ready["build"]}
 
 
-def small(workers: int, partitions: int) -> dict[str, Any]:
-    """Partitions of few documents: what a search costs besides itself."""
-    with written(partitions * FEW, partitions) as paths, Way("dask", paths, workers) as cluster:
-        found = [cluster.ask("mixed") for _ in range(TURNS)]
-        return {"workers": workers, "partitions": partitions, "mean": min(each["mean"] for each in found), **cluster.ready}
+def in_few() -> float:
+    """Mean milliseconds of a search in one partition of few documents."""
+    with written(FEW, 1) as paths, Way("one", paths) as index:
+        return min(float(index.ask("mixed")["mean"]) for _ in range(TURNS))
+
+
+def small() -> list[dict[str, Any]]:
+    """Clusters with partitions of few documents, which take turns: what a search costs besides itself."""
+    sizes = (*FITTED, *JUDGED)
+    most = max(partitions for _, partitions in sizes)
+    means: list[list[float]] = []
+    with written(most * FEW, most) as paths, contextlib.ExitStack() as stack:
+        clusters = [stack.enter_context(Way("dask", paths[:partitions], workers)) for workers, partitions in sizes]
+        for _ in range(SMALL_TURNS):
+            means.append([cluster.ask("mixed")["mean"] for cluster in clusters])
+    return [{"workers": workers, "partitions": partitions, "mean": min(each), **cluster.ready}
+            for (workers, partitions), cluster, each in zip(sizes, clusters, zip(*means))]
 
 
 def read_alone(path: str) -> float:
@@ -294,7 +308,11 @@ def read_alone(path: str) -> float:
 
 
 class Join(NamedTuple):
-    """Microseconds of a hit or a group: to read it from a partition's reply, to send it, to join it with others', to print it."""
+    """Microseconds of a hit or a group: to split it from a partition's reply, to read it, to send it, to join it with others', to print it.
+
+    A group that several partitions of a worker have is read once.
+    """
+    split: float
     read: float
     sent: float
     joined: float
@@ -313,11 +331,12 @@ def joining() -> dict[str, Join]:
     for name, reply, k in ("hit", hits, parts * size), ("group", groups, None):
         line = joins.encoded(reply)
         times = [time.perf_counter()]
-        answers = []
+        joinings = []
         for rank in range(parts):
-            joining = _partials.Joining(k, False)
-            joining.add(line, rank, b'"source"')
-            answers.append(joining.answer())
+            joinings.append(_partials.Joining(k, False))
+            joinings[-1].add(line, rank, b'"source"')
+        times.append(time.perf_counter())
+        answers = [joining.answer() for joining in joinings]
         times.append(time.perf_counter())
         sent = pickle.loads(_requests.Reply(answers, ()).pickled()).results
         times.append(time.perf_counter())
@@ -326,7 +345,7 @@ def joining() -> dict[str, Join]:
         _partials.encoded(answer)
         times.append(time.perf_counter())
         # Of equal groups there is one in the end.
-        counts = [parts * size] * 3 + [size if k is None else parts * size]
+        counts = [parts * size] * 4 + [size if k is None else parts * size]
         took[name] = Join(*((end - begin) / count * 1e6 for begin, end, count in zip(times, times[1:], counts)))
     return took
 
@@ -335,7 +354,7 @@ def measure(counts: tuple[int, ...] = COUNTS) -> dict[str, Any]:
     with written(100_000, 1) as (path,):
         reading = min(read_alone(path) for _ in range(TURNS)) / 100_000 * 1e6
     return {
-        "small": [small(*each) for each in (*FITTED, *JUDGED)], "many": many(), "points": [point(count) for count in counts],
+        "few": in_few(), "small": small(), "many": many(), "points": [point(count) for count in counts],
         "reading": reading, "joining": {name: list(took) for name, took in joining().items()},
         "processors": os.cpu_count(), "words each": WORDS_EACH, "event loop": "uvloop" if EVENT_LOOP else "asyncio",
     }
@@ -343,14 +362,30 @@ def measure(counts: tuple[int, ...] = COUNTS) -> dict[str, Any]:
 
 # The model.
 
-def groups_of(documents: float) -> float:
-    """How many different tags a tenth of the documents has, which is how many groups a partition sends."""
-    return corpus.TAGS * (1 - math.exp(-documents / 10 / corpus.TAGS))
+class Groups(NamedTuple):
+    """How many groups a partition has; how many a worker has, and how many texts of these, with their counts, differ; how many there are in all."""
+    partition: float
+    worker: float
+    texts: float
+    whole: float
+
+
+def groups_of(documents: float, partitions: int, workers: int) -> Groups:
+    """The groups of a tenth of the documents by their tags, with so many documents in each partition."""
+    share, hits = partitions / workers, documents / 10
+    mean = hits / corpus.TAGS
+    # Each tag's count is that of a Poisson distribution. Nearly none is over ten deviations above its mean.
+    chances = [math.exp(count * math.log(mean) - mean - math.lgamma(count + 1)) for count in range(1, math.ceil(mean + 10 * math.sqrt(mean) + 10))]
+    tags = [corpus.TAGS * (1 - math.exp(-mean * many)) for many in (1, share, partitions)]
+    return Groups(tags[0], tags[1], corpus.TAGS * sum(1 - (1 - chance) ** share for chance in chances), tags[2])
 
 
 def searched(constants: dict[str, float], documents: float) -> float:
-    """Mean milliseconds of a search in one partition of `documents` documents."""
-    return constants["alone"] + constants["million"] * documents / 1e6
+    """Mean milliseconds of a search in one partition of `documents` documents: two straight lines, which meet at the fewest of `point`."""
+    bend, at_bend = constants["bend"], constants["alone"] + constants["million"] * constants["bend"] / 1e6
+    if documents >= bend:
+        return constants["alone"] + constants["million"] * documents / 1e6
+    return constants["few"] + (at_bend - constants["few"]) * max(documents - FEW, 0) / max(bend - FEW, 1)
 
 
 def asked(constants: dict[str, float], workers: int) -> float:
@@ -376,27 +411,26 @@ def lists(workers: int) -> int:
     return workers if workers <= FAN_OUT else 1 + below(workers, FAN_OUT)
 
 
-def groups_joined(constants: dict[str, float], groups: float, partitions: int, workers: int) -> float:
-    """Milliseconds of joining groups, of which each partition has as many."""
-    share = partitions / workers
-    own = share * groups * (constants["group read"] + (constants["group joined"] if share > 1 else 0))
-    others = lists(workers) * groups * (constants["group sent"] + constants["group joined"])
-    return (own + others + groups * constants["group printed"]) / 1e3
+def groups_joined(constants: dict[str, float], groups: Groups, partitions: int, workers: int) -> float:
+    """Milliseconds of joining groups."""
+    own = partitions / workers * groups.partition * constants["group split"] + groups.texts * constants["group read"]
+    others = lists(workers) * groups.worker * (constants["group sent"] + constants["group joined"])
+    return (own + others + groups.whole * constants["group printed"]) / 1e3
 
 
 def hits_joined(constants: dict[str, float], k: float, partitions: int, workers: int) -> float:
-    """Milliseconds of joining a top list of k hits."""
+    """Milliseconds of joining a top list of k hits. A worker sends no more than k."""
     from dilforec import joins
 
     share = joins.share(int(k), partitions)
-    own = partitions / workers * share * (constants["hit read"] + constants["hit joined"])
-    others = partitions * share * (constants["hit sent"] + constants["hit joined"])
+    own = partitions / workers * share * (constants["hit split"] + constants["hit read"])
+    others = min(partitions * share, lists(workers) * k) * (constants["hit sent"] + constants["hit joined"])
     return (own + others + k * constants["hit printed"]) / 1e3
 
 
 def joined(constants: dict[str, float], documents: float, partitions: int, workers: int) -> float:
     """Mean milliseconds of joining. One search in four has groups, one a top ten."""
-    groups = groups_joined(constants, groups_of(documents), partitions, workers)
+    groups = groups_joined(constants, groups_of(documents, partitions, workers), partitions, workers)
     return (groups + hits_joined(constants, 10, partitions, workers)) / 4
 
 
@@ -410,8 +444,8 @@ def of_cluster(constants: dict[str, float], documents: float, partitions: int, w
 def model(raw: dict[str, Any]) -> dict[str, float]:
     """The constants, in microseconds, bytes and milliseconds.
 
-    Searches and memory are taken from one process over the fewest and the most documents, builds from the most, what threads add from the fewest
-    documents, and what Dask adds from the clusters of FITTED.
+    Searches and memory are taken from one process over the fewest and the most documents, searches in few documents from a partition of FEW, builds
+    from the most, what threads add from the fewest documents, and what Dask adds from the clusters of FITTED.
     """
     least, most = raw["points"][0], raw["points"][-1]
     documents, more = most["documents"], max(most["documents"] - least["documents"], 1)
@@ -423,6 +457,7 @@ def model(raw: dict[str, Any]) -> dict[str, float]:
         "turns": most["threads"]["build"] / documents * 1e6, "reading": raw["reading"], "start": start,
         "resident": resident, "of lines": most["one"]["resident"] / most["json"],
         "held": max(least["one"]["resident"] - resident * least["documents"], 0), "empty": most["dask"]["empty"],
+        "few": raw["few"], "bend": least["documents"],
         "alone": max(least["one"]["mean"] - million * least["documents"] / 1e6, 0), "million": million,
         **{f"{name} {part}": value for name, took in raw["joining"].items() for part, value in zip(Join._fields, took)},
         "round": 0.0, "worker": 0.0, "partition": 0.0, "handing": 0.0,
@@ -477,8 +512,8 @@ def is_fitted(way: str, name: str, place: int, count: int) -> bool:
 
 def shown(raw: dict[str, Any]) -> str:
     """The tables of docs/MEASURED.md."""
-    if "small" not in raw:
-        return "These weren't measured since searches go to the workers themselves."
+    if "few" not in raw:
+        return "These weren't measured since the model tells searches in few documents apart."
     constants = model(raw)
     points, ratios = points_shown(raw, constants)
     clusters, more = clusters_shown(raw, constants)
@@ -543,7 +578,8 @@ def constants_shown(constants: dict[str, float]) -> str:
         ("and per byte of JSON", constants["of lines"]),
         ("resident megabytes per partition beside these", constants["held"] / 1e6),
         ("resident megabytes of a worker without documents", constants["empty"] / 1e6),
-        ("milliseconds of a search in one partition", constants["alone"]),
+        (f"milliseconds of a search in one partition of {FEW:,} documents", constants["few"]),
+        (f"of {constants['bend']:,.0f} documents or more, without what grows with them", constants["alone"]),
         ("and per million of its documents", constants["million"]),
         ("milliseconds to hand a search to threads", constants["handing"]),
         ("seconds to make a cluster", constants["start"]),
@@ -567,7 +603,7 @@ def machines_shown(constants: dict[str, float], machines: int = 100, documents: 
         ("of these in the partitions, side by side", alone), ("and to ask all workers", asked(constants, workers)),
         ("searches a second, many at a time", 1e3 / (alone + constants["partition"])),
         (f"seconds of joining a top list of {LONG_TOP:,}", hits_joined(constants, LONG_TOP, workers, workers) / 1e3),
-        ("seconds of joining a million groups from each partition", groups_joined(constants, 1e6, workers, workers) / 1e3),
+        ("seconds of joining a million groups from each partition", groups_joined(constants, Groups(1e6, 1e6, 1e6, 1e6), workers, workers) / 1e3),
         ("minutes until a lost machine's partitions are made again", constants["beside"] * documents / workers / 1e6 / 60),
     ]
     title = f"the model: {machines} machines of {WORKERS} workers, {documents:,.0f} documents"
