@@ -150,7 +150,7 @@ def many_documents() -> list[str]:
 
 
 def searches_by_threads() -> None:
-    """Searches of many documents: the replies are those of the plain list. Threads are started for each that takes long, and for no other."""
+    """Searches of many documents: the replies are those of the plain list. The first that takes long starts threads for all that do."""
     soon = [{"query": "*"}, {"query": "w7", "groups": "tag"}, {"query": "price:[5 TO 50]"}, {"query": "tag:t6"}]
     tops = [{"by": "price", "k": k, "order": order} for k, order in ((10, "falling"), (1_000, "rising"))]
     long = [{"query": "*", "groups": "price"}, {"query": '"b a a"', "top": tops[0]}, {"query": "+a -tag:t1", "groups": "tag", "top": tops[1]}]
@@ -170,7 +170,7 @@ def searches_by_threads() -> None:
     with faults.shim() as shim:
         # A commit starts threads too, so the script without its searches is looked at as well.
         alone, (before, cheap, dear) = ([int(faults.run(shim, words, script, THREADS=1)[2].split()[-1]) for script in scripts] for words in by[:2])
-    check("threads of searches", alone == [0, 0, 0] and before == cheap and dear - cheap >= len(long), (alone, before, cheap, dear))
+    check("threads of searches", alone == [0, 0, 0] and before == cheap and dear - cheap in (1, 2), (alone, before, cheap, dear))
 
 
 def main() -> int:
