@@ -154,7 +154,7 @@ impl<'a> DocIdSet<'a> {
         ensures { IsKept (has self.now) end docs.old docs.new result }
     {
         let passed = retain::keep_each(&self.all, end, docs);
-        if self.any.is_empty() && retain::are_below(self.docs, &docs[..passed]) {
+        if self.any.is_empty() && retain::are_first(self.docs, &self.all, &docs[..passed]) {
             return retain::drop_each(&self.none, passed, docs);
         }
         retain::keep_rest(self.docs, &self.any, &self.none, passed, docs)

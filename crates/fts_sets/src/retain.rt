@@ -42,6 +42,16 @@ pub(crate) fn are_below(count: usize, docs: &[u32]) -> bool
     true
 }
 
+/// Whether some documents that pass each of these are below a number: a test may show it, or else each document is
+/// looked at.
+#[inline]
+pub(crate) fn are_first(count: usize, leaves: &[Leaf], docs: &[u32]) -> bool
+    requires { All (λ d. all_have leaves.now d ≡ true) docs.now }
+    ensures { result ≡ true → All (λ d. d < count) docs.now }
+{
+    show_below(count, leaves) || are_below(count, docs)
+}
+
 /// Moves those of the first documents that pass each of these to the front. Returns how many these are.
 pub(crate) fn keep_each(leaves: &[Leaf], end: usize, docs: &mut [u32; 128]) -> usize
     requires { end ≤ 128 }
@@ -73,22 +83,36 @@ fn keep_if(leaf: &Leaf, passing: bool, end: usize, docs: &mut [u32; 128]) -> usi
     ensures { IsKept (λ d. beq (leaf_has leaf.now d) passing) end docs.old docs.new result }
 {
     match leaf {
-        Leaf::Set(bits) => keep_set(bits, passing, end, docs),
+        Leaf::Set(bits) if passing => keep_set(bits, end, docs),
+        Leaf::Set(bits) => drop_set(bits, end, docs),
         Leaf::Below(_) | Leaf::Within { .. } => keep_tested(leaf, passing, end, docs),
     }
 }
 
-/// As `keep_if`, for a bit. No branch depends on a document.
-#[inline]
-fn keep_set(bits: &Bits, set: bool, end: usize, docs: &mut [u32; 128]) -> usize
+/// As `keep_if`, for those whose bit is set. No branch depends on a document.
+fn keep_set(bits: &Bits, end: usize, docs: &mut [u32; 128]) -> usize
     requires { end ≤ 128 }
-    ensures { IsKept (λ d. beq (is_set bits.now d) set) end docs.old docs.new result }
+    ensures { IsKept (λ d. beq (is_set bits.now d) true) end docs.old docs.new result }
 {
     let mut kept = 0;
     for index in 0..end {
         let doc = docs[index];
         docs[kept] = doc;
-        kept += usize::from(bits.contains(doc as usize) == set);
+        kept += usize::from(bits.contains(doc as usize));
+    }
+    kept
+}
+
+/// As `keep_if`, for those whose bit isn't set.
+fn drop_set(bits: &Bits, end: usize, docs: &mut [u32; 128]) -> usize
+    requires { end ≤ 128 }
+    ensures { IsKept (λ d. beq (is_set bits.now d) false) end docs.old docs.new result }
+{
+    let mut kept = 0;
+    for index in 0..end {
+        let doc = docs[index];
+        docs[kept] = doc;
+        kept += usize::from(!bits.contains(doc as usize));
     }
     kept
 }

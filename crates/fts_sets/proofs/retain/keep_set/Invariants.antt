@@ -1,8 +1,9 @@
--- Those of the documents so far that pass are at the front.
+-- Those of the documents so far whose bit is set are at the front.
+use Rattle.std.proofs.Common.{true}
 use Rattle.std.specs.Bool.{beq}
 use Rattle.std.proofs.lemmas.List.Filters.{FiltersInPlace}
 use Rattle.fts_postings.specs.Windows.{is_set}
 use Rattle.fts_sets.proofs.retain.keep_set.Given as goal
 
 abbrev pub invariant-loop-index : goal.invariant-loop-index
-invariant-loop-index l = FiltersInPlace (λ d. beq (is_set l.bits d) l.set) l.initial.docs l.docs l.kept l.index
+invariant-loop-index l = FiltersInPlace (λ d. beq (is_set l.bits d) true) l.initial.docs l.docs l.kept l.index
