@@ -53,7 +53,7 @@ numbers_where-has {X} p n (y ∷ xs) (suc k) x at is = by (p y) refl (numbers_wh
         numbers_where-cons p n y xs ∙ ap (λ b. cond b (n ∷ numbers_where p (n + 1) xs) (numbers_where p (n + 1) xs)) is in
         subst (λ ns. Contains ns (n + suc k)) (sym e) (i, less, at_next i at)
 
-numbers_where-at : {X : Type 0} (p : X → Bool) (xs : List X) (k : ℕ) (x : X) → slice_get xs k ≡ Some x → p x ≡ true → Contains (numbers_where p 0 xs) k
+pub numbers_where-at : {X : Type 0} (p : X → Bool) (xs : List X) (k : ℕ) (x : X) → slice_get xs k ≡ Some x → p x ≡ true → Contains (numbers_where p 0 xs) k
 numbers_where-at p xs k x at is = let start : 0 + k ≡ k = omega arith in subst (Contains (numbers_where p 0 xs)) start (numbers_where-has p 0 xs k x at is)
 
 -- the lists from one index to another have the documents with a number within bounds

@@ -179,18 +179,6 @@ numbers_apart p n (x ∷ xs) =
       | false ↦ numbers_apart p (n + 1) xs
     ])
 
-pub numbers_where-dedup : {X : Type 0} (p : X → Bool) (n : ℕ) (xs : List X) → dedup nat_eq (numbers_where p n xs) ≡ numbers_where p n xs
-numbers_where-dedup p n [] = refl
-numbers_where-dedup p n (x ∷ xs) =
-    let ns = numbers_where p (n + 1) xs in
-    let above : All (λ k. n < k) ns = All-weaker (λ (k : ℕ). n + 1 ≤ k) (λ (k : ℕ). n < k) (λ k h. omega arith) ns (numbers_from p (n + 1) xs) in
-    ap (dedup nat_eq) (numbers_where-cons p n x xs)
-    ∙ (elim (p x) as (λ b. dedup nat_eq (cond b (n ∷ ns) ns) ≡ cond b (n ∷ ns) ns) [
-      | true ↦ document_ends n ns above ∙ ap (λ ks. n ∷ ks) (numbers_where-dedup p (n + 1) xs)
-      | false ↦ numbers_where-dedup p (n + 1) xs
-    ])
-    ∙ sym (numbers_where-cons p n x xs)
-
 -- numbers of elements rise
 pub numbers_rise : {X : Type 0} (p : X → Bool) (n : ℕ) (xs : List X) → IsStrictlyIncreasing (numbers_where p n xs)
 numbers_rise p n xs k within = numbers_apart p n xs k (k + 1) 0 (omega arith) within

@@ -1,145 +1,235 @@
 -- The numbers of a field.
-use Rattle.std.proofs.Common.{◌≡◌, ◌+◌, ◌<◌, ◌==◌, ℕ, suc, zero, true, false, cond, List, [], ◌∷◌, ◌++◌, Option, Some, None, map, filter, length, get_or, refl}
-use Rattle.std.proofs.Common.{sym, ap, subst, ◌∙◌, inl, inr, arith, All, Contains, nat_eq, append-nil}
-use Rattle.std.specs.Prelude.{slice_get}
-use Rattle.std.specs.List.{dedup}
-use Rattle.std.specs.List.Sorted.{IsStrictlyIncreasing}
-use Rattle.std.proofs.lemmas.Bool.{cases_eq, cases_order}
+use Rattle.std.proofs.Common.{◌≡◌, ◌+◌, ◌<◌, ◌≤◌, ◌==◌, ℕ, suc, Bool, true, false, cond, List, [], ◌∷◌, ◌++◌, ◌⊎◌, map, filter, length, Option, Some, None, not, ◌&&◌, refl}
+use Rattle.std.proofs.Common.{sym, ap, ◌∙◌, inl, inr, arith, All, Contains, append-nil, get_or}
+use Rattle.std.specs.List.Sorted.{IsNonDecreasingBy, IsStrictlyIncreasing, IsStableByKey, ties}
+use Rattle.std.specs.Ordering.{is_lt, nat_cmp}
+use Rattle.std.proofs.lemmas.Bool.{cases_eq, cases_lt, cases_order, false≢true}
 use Rattle.std.proofs.lemmas.Bool.Decides.{nat_tests}
-use Rattle.std.proofs.lemmas.Option.{slice_get_within, get_or_from_slice_get}
-use Rattle.std.proofs.lemmas.List.{map-append, get_or-map, length-map, get_or_default, same_lists}
-use Rattle.std.proofs.lemmas.List.Elements.{filter-append, All-push}
-use Rattle.std.proofs.lemmas.List.Kept.{AllPairs-from_increasing}
-use Rattle.fts_segment.specs.declared.term_log.Occurrence.{Occurrence}
-use Rattle.fts_segment.specs.declared.term_groups.DocPosition.{DocPosition}
-use Rattle.fts_segment.specs.TermGroups.{is_of, place, places_of}
-use Rattle.fts_segment.specs.Dictionaries.{docs_in}
+use Rattle.std.proofs.lemmas.Option.{slice_get_within, slice_get-get_or, get_or_from_slice_get}
+use Rattle.std.proofs.lemmas.List.{length-append, map-append, map_push, length_push, get_or_append_left, get_or_push}
+use Rattle.std.proofs.lemmas.List.Elements.{filter-append, filter_agree, All-nil, All-push, All-tail, All-head, All-weaker, All-contains, Contains-push, Contains-append_left, Contains-get_or}
 use Rattle.fts_segment.specs.Segments.{numbers_where}
-use Rattle.fts_segment.specs.Numbers.{present, is_number, IsNumberIndex}
-use Rattle.fts_segment.specs.NumberLogs.{NumberLog}
-use Rattle.fts_segment.proofs.HoldingLemmas.{numbers_where-push, numbers_where-dedup, numbers_rise}
+use Rattle.fts_segment.specs.Numbers.{is_number, IsNumberIndex}
+use Rattle.fts_segment.proofs.HoldingLemmas.{numbers_where-push, numbers_where-holds}
+use Rattle.fts_segment.proofs.FieldLemmas.{is_number-is}
+use Rattle.fts_segment.proofs.BetweenLemmas.{numbers_where-at}
+use Rattle.fts_segment.specs.NumberPairs.{docs_of_number, begins_with, AreGroups}
 
-pub present-append : (us vs : List (Option ℕ)) → present (us ++ vs) ≡ present us ++ present vs
-present-append [] vs = refl
-present-append (None ∷ us) vs = present-append us vs
-present-append (Some x ∷ us) vs = ap (λ xs. x ∷ xs) (present-append us vs)
+pub docs_of_number-append : (x : ℕ) (ps qs : List (ℕ × ℕ)) → docs_of_number x (ps ++ qs) ≡ docs_of_number x ps ++ docs_of_number x qs
+docs_of_number-append x ps qs =
+    ap (map (λ (p : ℕ × ℕ). p.1)) (filter-append (λ (p : ℕ × ℕ). p.0 == x) ps qs)
+    ∙ map-append (λ (p : ℕ × ℕ). p.1) (filter (λ p. p.0 == x) ps) (filter (λ p. p.0 == x) qs)
 
-pub present-contains : (vs : List (Option ℕ)) (x : ℕ) → Contains vs (Some x) → Contains (present vs) x
-present-contains [] x c = absurd (let h = c.1 in omega arith)
-present-contains (None ∷ vs) x (zero, h, e) = absurd (let clash : None ≡ Some x = e in cc)
-present-contains (None ∷ vs) x (suc k, h, e) = present-contains vs x (k, omega arith, e)
-present-contains (Some y ∷ vs) x (zero, h, e) = (zero, omega arith, let same : Some y ≡ Some x = e in cc)
-present-contains (Some y ∷ vs) x (suc k, h, e) =
-    let rest = present-contains vs x (k, omega arith, e) in (suc rest.0, omega (arith, rest.1), rest.2)
+pub docs_of_number-cons : (x : ℕ) (p : ℕ × ℕ) (ps : List (ℕ × ℕ)) → docs_of_number x (p ∷ ps) ≡ cond (p.0 == x) (p.1 ∷ docs_of_number x ps) (docs_of_number x ps)
+docs_of_number-cons x p ps = elim (p.0 == x) as (λ b. map (λ (p : ℕ × ℕ). p.1) (cond b (p ∷ filter (λ p. p.0 == x) ps) (filter (λ p. p.0 == x) ps))
+    ≡ cond b (p.1 ∷ docs_of_number x ps) (docs_of_number x ps)) [ true ↦ refl | false ↦ refl ]
 
-later : {X : Type 0} (v x : X) (vs : List X) → Contains vs x → Contains (v ∷ vs) x
-later v x vs c = (suc c.0, omega (arith, c.1), c.2)
+pub docs_of_number-push : (x : ℕ) (ps : List (ℕ × ℕ)) (p : ℕ × ℕ) →
+    docs_of_number x (ps ++ p ∷ []) ≡ docs_of_number x ps ++ cond (p.0 == x) (p.1 ∷ []) []
+docs_of_number-push x ps p = docs_of_number-append x ps (p ∷ []) ∙ ap (λ ds. docs_of_number x ps ++ ds) (docs_of_number-cons x p [])
 
-pub present-from : (vs : List (Option ℕ)) → All (λ x. Contains vs (Some x)) (present vs)
-present-from [] k d h = absurd (omega arith)
-present-from (None ∷ vs) k d h = later None (Some (get_or (present vs) k d)) vs (present-from vs k d h)
-present-from (Some y ∷ vs) k d h = elim k as (λ k. k < length (present (Some y ∷ vs)) → Contains (Some y ∷ vs) (Some (get_or (y ∷ present vs) k d))) [
-  | zero ↦ λ h. (zero, omega arith, refl)
-  | suc k ↦ λ h. later (Some y) (Some (get_or (present vs) k d)) vs (present-from vs k d (omega arith))
-] h
+docs_of_number-none : (x : ℕ) (ps : List (ℕ × ℕ)) → All (λ p. x < p.0) ps → docs_of_number x ps ≡ []
+docs_of_number-none x [] above = refl
+docs_of_number-none x (p ∷ ps) above =
+    let here : x < p.0 = All-head (λ (p : ℕ × ℕ). x < p.0) p ps above in
+    docs_of_number-cons x p ps ∙ ap (λ b. cond b (p.1 ∷ docs_of_number x ps) (docs_of_number x ps)) (let other : (p.0 == x) ≡ false = grind (arith, nat_tests) in other)
+    ∙ docs_of_number-none x ps (All-tail (λ (p : ℕ × ℕ). x < p.0) p ps above)
 
--- a number has one index among rising ones
-pub one_index : (numbers : List ℕ) → IsStrictlyIncreasing numbers → (i j x : ℕ) → slice_get numbers i ≡ Some x → slice_get numbers j ≡ Some x → i ≡ j
-one_index numbers up i j x first second =
-    let pairs = AllPairs-from_increasing numbers up in
-    let at_i : get_or numbers i 0 ≡ x = get_or_from_slice_get numbers i x 0 first in
-    let at_j : get_or numbers j 0 ≡ x = get_or_from_slice_get numbers j x 0 second in
-    elim (cases_order i j) [
-      | inl same ↦ same
-      | inr (inl lower) ↦ absurd (omega (arith, pairs i j 0 lower (slice_get_within numbers j x second), at_i, at_j))
-      | inr (inr higher) ↦ absurd (omega (arith, pairs j i 0 higher (slice_get_within numbers i x first), at_i, at_j))
+-- a number that begins other pairs is greater, and so are those after it
+above : (x d : ℕ) (ps : List (ℕ × ℕ)) → IsNonDecreasingBy (λ p. p.0) ((x, d) ∷ ps) → begins_with x ps ≡ false → All (λ p. x < p.0) ps
+above x d [] up other k e within = absurd (omega arith)
+above x d (p ∷ ps) up other k e within =
+    let first : x ≤ p.0 = up 0 1 e (omega arith) (omega (arith, within)) in
+    let rest : p.0 ≤ (get_or (p ∷ ps) k e).0 = up 1 (suc k) e (omega arith) (omega (arith, within)) in
+    elim (cases_eq p.0 x) [
+      | inl same ↦ absurd (false≢true (sym other ∙ (let is : (p.0 == x) ≡ true = grind (arith, nat_tests) in is)))
+      | inr differ ↦ let apart : p.0 ≡ x → ⊥ = differ in omega (arith, first, rest, apart)
     ]
 
--- the log has the documents of each of the numbers
-pub record IsLogged (numbers : List ℕ) (vs : List (Option ℕ)) (log : List Occurrence) : Type 0 where
-  pub named : All (λ e. e.term < length numbers) log
-  pub docs : (t x : ℕ) → slice_get numbers t ≡ Some x → map (λ (p : DocPosition). p.doc) (places_of t log) ≡ numbers_where (is_number x) 0 vs
+rises_push : (xs : List ℕ) (x : ℕ) → IsStrictlyIncreasing xs → All (λ n. n < x) xs → IsStrictlyIncreasing (xs ++ x ∷ [])
+rises_push xs x up below k within =
+    elim (cases_lt (k + 1) (length xs)) [
+      | inl inside ↦ rw (get_or_append_left xs (x ∷ []) 0 k (omega arith)) (rw (get_or_append_left xs (x ∷ []) 0 (k + 1) inside) (up k inside))
+      | inr last ↦
+          let end : length xs ≡ k + 1 = omega (arith, within, length_push xs x) in
+          rw (get_or_append_left xs (x ∷ []) 0 k (omega arith)) (rw (get_or_push xs x 0 (k + 1) end) (below k 0 (omega arith)))
+    ]
 
-docs-push : (t : ℕ) (log : List Occurrence) (e : Occurrence) → map (λ (p : DocPosition). p.doc) (places_of t (log ++ e ∷ []))
-    ≡ map (λ (p : DocPosition). p.doc) (places_of t log) ++ cond (e.term == t) (e.doc ∷ []) []
-docs-push t log e =
-    ap (λ es. map (λ (p : DocPosition). p.doc) (map place es)) (filter-append (is_of t) log (e ∷ []))
-    ∙ ap (map (λ (p : DocPosition). p.doc)) (map-append place (filter (is_of t) log) (filter (is_of t) (e ∷ [])))
-    ∙ map-append (λ (p : DocPosition). p.doc) (places_of t log) (map place (filter (is_of t) (e ∷ [])))
-    ∙ ap (λ ns. map (λ (p : DocPosition). p.doc) (places_of t log) ++ ns)
-    (elim (e.term == t) as (λ b. map (λ (p : DocPosition). p.doc) (map place (cond b (e ∷ []) [])) ≡ cond b (e.doc ∷ []) []) [ true ↦ refl | false ↦ refl ])
+-- The numbers and lists of the pairs so far, `done`, and the documents of the number that the rest begins with, which are no list yet.
+pub record AreGrouped (all done rest : List (ℕ × ℕ)) (numbers : List ℕ) (lists : List (List ℕ)) (docs : List ℕ) : Type 0 where
+  pub rises : IsStrictlyIncreasing numbers
+  pub below : All (λ n. All (λ p. n < p.0) rest) numbers
+  pub listed : lists ≡ map (λ x. docs_of_number x all) numbers
+  pub begun : (x : ℕ) → begins_with x rest ≡ true → docs ≡ docs_of_number x done
+  pub occur : All (λ x. 0 < length (docs_of_number x all)) numbers
+  pub whole : (x : ℕ) → 0 < length (docs_of_number x done) → Contains numbers x ⊎ (begins_with x rest ≡ true)
 
-same_test : (numbers : List ℕ) → IsStrictlyIncreasing numbers → (s t y x : ℕ) → slice_get numbers s ≡ Some y → slice_get numbers t ≡ Some x →
-    (s == t) ≡ (y == x)
-same_test numbers up s t y x at_s at_t = elim (cases_eq s t) [
-  | inl same ↦
-      let values : Some y ≡ Some x = sym at_s ∙ ap (slice_get numbers) same ∙ at_t in
-      let equal : y ≡ x = cc in
-      let left : (s == t) ≡ true = grind (arith, nat_tests) in
-      let right : (y == x) ≡ true = grind (arith, nat_tests) in left ∙ sym right
-  | inr other ↦
-      let differ : y ≡ x → ⊥ = λ e. other (one_index numbers up s t y at_s (at_t ∙ ap Some (sym e))) in
-      let left : (s == t) ≡ false = grind (arith, nat_tests) in
-      let right : (y == x) ≡ false = elim (cases_eq y x) [ inl e ↦ absurd (differ e) | inr e ↦ grind (arith, nat_tests) ] in left ∙ sym right
+pub AreGrouped-none : (all : List (ℕ × ℕ)) (numbers : List ℕ) (lists : List (List ℕ)) (docs : List ℕ) → numbers ≡ [] → lists ≡ [] → docs ≡ [] →
+    AreGrouped all [] all numbers lists docs
+AreGrouped-none all numbers lists docs n l d = rw n (rw l (rw d (record {
+  rises = λ k within. absurd (omega arith);
+  below = All-nil (λ (n : ℕ). All (λ (p : ℕ × ℕ). n < p.0) all);
+  listed = refl;
+  begun = λ x begins. refl;
+  occur = All-nil (λ (x : ℕ). 0 < length (docs_of_number x all));
+  whole = λ x some. absurd (omega (arith, some));
+})))
+
+-- the next pair is one of the number that the rest begins with
+same_number : (x y : ℕ) (rest : List (ℕ × ℕ)) → begins_with x rest ≡ true → begins_with y rest ≡ true → x ≡ y
+same_number x y [] at_x at_y = absurd (false≢true at_x)
+same_number x y (p ∷ rest) at_x at_y = elim (cases_eq p.0 x) [
+  | inl is ↦ elim (cases_eq p.0 y) [
+    | inl same ↦ sym is ∙ same
+    | inr other ↦ absurd (false≢true (sym (let is_not : (p.0 == y) ≡ false = grind (arith, nat_tests) in is_not) ∙ at_y))
+  ]
+  | inr other ↦ absurd (false≢true (sym (let is_not : (p.0 == x) ≡ false = grind (arith, nat_tests) in is_not) ∙ at_x))
 ]
 
--- a document's number is logged
-pub IsLogged-push : {numbers : List ℕ} {vs : List (Option ℕ)} {old : List Occurrence} (doc : ℕ) (v : Option ℕ) (new : List Occurrence) →
-    IsStrictlyIncreasing numbers → doc ≡ length vs →
-    NumberLog numbers doc v old new → IsLogged numbers vs old → IsLogged numbers (vs ++ v ∷ []) new
-IsLogged-push {numbers} {vs} {old} doc None new up at same s =
-    let P : List Occurrence → Type 0 = λ es. All (λ e. e.term < length numbers) es in
-    record {
-      named = subst P (sym same) s.named;
-      docs = λ t x there. ap (λ es. map (λ (p : DocPosition). p.doc) (places_of t es)) same ∙ s.docs t x there
-          ∙ sym (numbers_where-push (is_number x) 0 vs None ∙ append-nil (numbers_where (is_number x) 0 vs));
-    }
-IsLogged-push {numbers} {vs} {old} doc (Some y) new up at put s =
-    let e : Occurrence = record { term = put.0; doc = doc; position = 0 } in
-    let P : List Occurrence → Type 0 = λ es. All (λ e. e.term < length numbers) es in
-    record {
-      named = subst P (sym put.2) (All-push (λ (e : Occurrence). e.term < length numbers) old e s.named (slice_get_within numbers put.0 y put.1));
-      docs = λ t x there. ap (λ es. map (λ (p : DocPosition). p.doc) (places_of t es)) put.2 ∙ docs-push t old e
-          ∙ ap (λ b. map (λ (p : DocPosition). p.doc) (places_of t old) ++ cond b (doc ∷ []) []) (same_test numbers up put.0 t y x put.1 there)
-          ∙ ap (λ ns. ns ++ cond (y == x) (doc ∷ []) []) (s.docs t x there)
-          ∙ ap (λ n. numbers_where (is_number x) 0 vs ++ cond (y == x) (n ∷ []) []) (let here : doc ≡ 0 + length vs = omega arith in here)
-          ∙ sym (numbers_where-push (is_number x) 0 vs (Some y));
-    }
+-- a number with documents among the pairs and one more has that pair, or documents among the others
+has_docs : (x : ℕ) (done : List (ℕ × ℕ)) (p : ℕ × ℕ) → 0 < length (docs_of_number x (done ++ p ∷ [])) → ◌⊎◌ (p.0 ≡ x) ((p.0 ≡ x → ⊥) × (0 < length (docs_of_number x done)))
+has_docs x done p some = elim (cases_eq p.0 x) [
+  | inl same ↦ inl same
+  | inr other ↦
+      let is_not : (p.0 == x) ≡ false = grind (arith, nat_tests) in
+      let same = docs_of_number-push x done p ∙ ap (λ b. docs_of_number x done ++ cond b (p.1 ∷ []) []) is_not ∙ append-nil (docs_of_number x done) in
+      inr (other, omega (arith, some, ap length same))
+]
 
--- the groups of the log have the documents of each number
-pub group_docs : (numbers : List ℕ) (vs : List (Option ℕ)) (log : List Occurrence) (groups : List (List DocPosition)) (numbers_read : List ℕ)
-    (vs_read : List (Option ℕ)) (log_read : List Occurrence) →
-    numbers_read ≡ numbers → vs_read ≡ vs → log_read ≡ log →
-    ((t : ℕ) → t < length numbers_read → map (λ (p : DocPosition). p.doc) (places_of t log) ≡ numbers_where (is_number (get_or numbers_read t 0)) 0 vs_read) →
-    ((t : ℕ) → t < length numbers → get_or groups t [] ≡ places_of t log_read) →
-    (t : ℕ) → t < length numbers → docs_in (get_or groups t []) ≡ numbers_where (is_number (get_or numbers t 0)) 0 vs
-group_docs numbers vs log groups numbers_read vs_read log_read n v l docs grouped t below =
-    ap docs_in (grouped t below ∙ ap (places_of t) l) ∙ ap (dedup nat_eq) (docs t (omega (arith, ap length n)))
-    ∙ numbers_where-dedup (is_number (get_or numbers_read t 0)) 0 vs_read
-    ∙ ap (λ xs. numbers_where (is_number (get_or xs t 0)) 0 vs_read) n ∙ ap (λ us. numbers_where (is_number (get_or numbers t 0)) 0 us) v
+push_own : (done : List (ℕ × ℕ)) (p : ℕ × ℕ) → docs_of_number p.0 (done ++ p ∷ []) ≡ docs_of_number p.0 done ++ p.1 ∷ []
+push_own done p = docs_of_number-push p.0 done p ∙ ap (λ b. docs_of_number p.0 done ++ cond b (p.1 ∷ []) []) (let is : (p.0 == p.0) ≡ true = grind (arith, nat_tests) in is)
 
--- the documents of each group rise
-pub groups_rise : (numbers : List ℕ) (vs : List (Option ℕ)) (groups : List (List DocPosition)) → length groups ≡ length numbers →
-    ((t : ℕ) → t < length numbers → docs_in (get_or groups t []) ≡ numbers_where (is_number (get_or numbers t 0)) 0 vs) →
-    All (λ places. IsStrictlyIncreasing (docs_in places)) groups
-groups_rise numbers vs groups count grouped k d within =
-    let P : List ℕ → Type 0 = IsStrictlyIncreasing in
-    let same : docs_in (get_or groups k d) ≡ numbers_where (is_number (get_or numbers k 0)) 0 vs = ap docs_in (get_or_default groups k d [] within)
-    ∙ grouped k (omega arith) in
-    subst P (sym same) (numbers_rise (is_number (get_or numbers k 0)) 0 vs)
+own_begins : (p : ℕ × ℕ) (rest : List (ℕ × ℕ)) → begins_with p.0 (p ∷ rest) ≡ true
+own_begins p rest = let is : (p.0 == p.0) ≡ true = grind (arith, nat_tests) in is
 
--- the numbers with their groups are the index
-pub IsNumberIndex-listed : (numbers : List ℕ) (vs : List (Option ℕ)) (groups : List (List DocPosition)) → length groups ≡ length numbers →
-    ((t : ℕ) → t < length numbers → docs_in (get_or groups t []) ≡ numbers_where (is_number (get_or numbers t 0)) 0 vs) →
-    IsStrictlyIncreasing numbers → All (λ x. Contains vs (Some x)) numbers → ((x : ℕ) → Contains vs (Some x) → Contains numbers x) →
-    IsNumberIndex vs numbers (map docs_in groups)
-IsNumberIndex-listed numbers vs groups count grouped up occur whole =
-    let g : ℕ → List ℕ = λ x. numbers_where (is_number x) 0 vs in
-    record {
-      rises = up;
-      listed = same_lists (map docs_in groups) (map g numbers) (length-map groups docs_in ∙ count ∙ sym (length-map numbers g)) (λ k d h.
-          let within : k < length groups = rw (length-map groups docs_in) at h in
-          get_or-map docs_in groups k [] d within ∙ grouped k (omega arith) ∙ sym (get_or-map g numbers k 0 d (omega arith)));
-      occur = occur;
-      whole = whole;
-    }
+-- the documents of the number of the last pair
+pub ended_docs : (all done rest : List (ℕ × ℕ)) (p : ℕ × ℕ) {numbers : List ℕ} {lists : List (List ℕ)} {docs : List ℕ} → done ++ p ∷ rest ≡ all →
+    IsNonDecreasingBy (λ p. p.0) (p ∷ rest) → begins_with p.0 rest ≡ false → AreGrouped all done (p ∷ rest) numbers lists docs →
+    docs ++ p.1 ∷ [] ≡ docs_of_number p.0 all
+ended_docs all done rest p parts up ends s =
+    ap (λ ds. ds ++ p.1 ∷ []) (s.begun p.0 (own_begins p rest))
+    ∙ ap (λ ds. docs_of_number p.0 done ++ ds) (sym (docs_of_number-cons p.0 p rest ∙ ap (λ b. cond b (p.1 ∷ docs_of_number p.0 rest) (docs_of_number p.0 rest)) (own_begins p rest)
+    ∙ ap (λ ds. p.1 ∷ ds) (docs_of_number-none p.0 rest (above p.0 p.1 rest up ends))))
+    ∙ sym (docs_of_number-append p.0 done (p ∷ rest)) ∙ ap (docs_of_number p.0) parts
+
+-- more pairs of the same number follow
+pub AreGrouped-within : (all done rest : List (ℕ × ℕ)) (p : ℕ × ℕ) {numbers : List ℕ} {lists : List (List ℕ)} {docs : List ℕ} →
+    begins_with p.0 rest ≡ true → AreGrouped all done (p ∷ rest) numbers lists docs → AreGrouped all (done ++ p ∷ []) rest numbers lists (docs ++ p.1 ∷ [])
+AreGrouped-within all done rest p {numbers} {lists} {docs} begins s = record {
+  rises = s.rises;
+  below = All-weaker (λ (n : ℕ). All (λ (q : ℕ × ℕ). n < q.0) (p ∷ rest)) (λ (n : ℕ). All (λ (q : ℕ × ℕ). n < q.0) rest)
+      (λ n under. All-tail (λ (q : ℕ × ℕ). n < q.0) p rest under) numbers s.below;
+  listed = s.listed;
+  begun = λ x is. rw (same_number x p.0 rest is begins) (ap (λ ds. ds ++ p.1 ∷ []) (s.begun p.0 (own_begins p rest)) ∙ sym (push_own done p));
+  occur = s.occur;
+  whole = λ x some. elim (has_docs x done p some) [
+    | inl same ↦ inr (rw (sym same) begins)
+    | inr earlier ↦ elim (s.whole x earlier.1) [
+      | inl there ↦ inl there
+      | inr is ↦ inr (rw (sym (same_number p.0 x (p ∷ rest) (own_begins p rest) is)) begins)
+    ]
+  ];
+}
+
+-- no pair of the same number follows
+pub AreGrouped-ended : (all done rest : List (ℕ × ℕ)) (p : ℕ × ℕ) {numbers : List ℕ} {lists : List (List ℕ)} {docs : List ℕ} → done ++ p ∷ rest ≡ all →
+    IsNonDecreasingBy (λ p. p.0) (p ∷ rest) → begins_with p.0 rest ≡ false → AreGrouped all done (p ∷ rest) numbers lists docs →
+    AreGrouped all (done ++ p ∷ []) rest (numbers ++ p.0 ∷ []) (lists ++ (docs ++ p.1 ∷ []) ∷ []) []
+AreGrouped-ended all done rest p {numbers} {lists} {docs} parts up ends s = record {
+  rises = rises_push numbers p.0 s.rises (All-weaker (λ (n : ℕ). All (λ (q : ℕ × ℕ). n < q.0) (p ∷ rest)) (λ (n : ℕ). n < p.0)
+      (λ n under. All-head (λ (q : ℕ × ℕ). n < q.0) p rest under) numbers s.below);
+  below = below;
+  listed = ap (λ ls. ls ++ (docs ++ p.1 ∷ []) ∷ []) s.listed ∙ ap (λ ds. map g numbers ++ ds ∷ []) is ∙ sym (map_push g numbers p.0);
+  begun = λ x begins. none x begins (docs_of_number x (done ++ p ∷ [])) refl;
+  occur = All-push (λ (x : ℕ). 0 < length (docs_of_number x all)) numbers p.0 s.occur (omega (arith, ap length is, length-append docs (p.1 ∷ [])));
+  whole = λ x some. inl (whole x some);
+}
+  where
+    g : ℕ → List ℕ
+    g x = docs_of_number x all
+
+    is : docs ++ p.1 ∷ [] ≡ docs_of_number p.0 all
+    is = ended_docs all done rest p parts up ends s
+
+    below : All (λ n. All (λ q. n < q.0) rest) (numbers ++ p.0 ∷ [])
+    below = All-push (λ (n : ℕ). All (λ (q : ℕ × ℕ). n < q.0) rest) numbers p.0
+        (All-weaker (λ (n : ℕ). All (λ (q : ℕ × ℕ). n < q.0) (p ∷ rest)) (λ (n : ℕ). All (λ (q : ℕ × ℕ). n < q.0) rest)
+        (λ n under. All-tail (λ (q : ℕ × ℕ). n < q.0) p rest under) numbers s.below) (above p.0 p.1 rest up ends)
+
+    whole : (x : ℕ) → 0 < length (docs_of_number x (done ++ p ∷ [])) → Contains (numbers ++ p.0 ∷ []) x
+    whole x some = elim (has_docs x done p some) [
+      | inl same ↦ rw (sym same) (Contains-push numbers p.0)
+      | inr earlier ↦ elim (s.whole x earlier.1) [
+        | inl there ↦ Contains-append_left numbers (p.0 ∷ []) x there
+        | inr begins ↦ absurd (earlier.0 (same_number p.0 x (p ∷ rest) (own_begins p rest) begins))
+      ]
+    ]
+
+    none : (x : ℕ) → begins_with x rest ≡ true → (ds : List ℕ) → docs_of_number x (done ++ p ∷ []) ≡ ds → [] ≡ ds
+    none x begins [] at = refl
+    none x begins (d ∷ ds) at =
+        let some : 0 < length (docs_of_number x (done ++ p ∷ [])) = omega (arith, ap length at) in
+        absurd (unequal rest x begins (All-contains (λ (n : ℕ). All (λ (q : ℕ × ℕ). n < q.0) rest) (numbers ++ p.0 ∷ []) x below (whole x some)))
+      where
+        unequal : (rest : List (ℕ × ℕ)) (x : ℕ) → begins_with x rest ≡ true → All (λ q. x < q.0) rest → ⊥
+        unequal [] x begins above = false≢true begins
+        unequal (q ∷ rest) x begins above =
+            let more : x < q.0 = All-head (λ (q : ℕ × ℕ). x < q.0) q rest above in
+            let is_not : (q.0 == x) ≡ false = grind (arith, nat_tests) in false≢true (sym is_not ∙ begins)
+
+pub AreGroups-all : (all : List (ℕ × ℕ)) {numbers : List ℕ} {lists : List (List ℕ)} {docs : List ℕ} →
+    AreGrouped all all [] numbers lists docs → AreGroups all numbers lists
+AreGroups-all all s = record {
+  rises = s.rises;
+  listed = s.listed;
+  occur = s.occur;
+  whole = λ x some. elim (s.whole x some) [ inl there ↦ there | inr begins ↦ absurd (false≢true begins) ];
+}
+
+-- a document with a number is one more pair
+pub numbered-some : (x : ℕ) (ps : List (ℕ × ℕ)) (vs : List (Option ℕ)) (y doc : ℕ) → doc ≡ length vs →
+    docs_of_number x ps ≡ numbers_where (is_number x) 0 vs → docs_of_number x (ps ++ (y, doc) ∷ []) ≡ numbers_where (is_number x) 0 (vs ++ Some y ∷ [])
+numbered-some x ps vs y doc at same =
+    docs_of_number-push x ps (y, doc) ∙ ap (λ ds. ds ++ cond (y == x) (doc ∷ []) []) same
+    ∙ ap (λ n. numbers_where (is_number x) 0 vs ++ cond (y == x) (n ∷ []) []) (let here : doc ≡ 0 + length vs = omega arith in here)
+    ∙ sym (numbers_where-push (is_number x) 0 vs (Some y))
+
+pub numbered-none : (x : ℕ) (vs : List (Option ℕ)) → numbers_where (is_number x) 0 vs ≡ numbers_where (is_number x) 0 (vs ++ None ∷ [])
+numbered-none x vs = sym (numbers_where-push (is_number x) 0 vs None ∙ append-nil (numbers_where (is_number x) 0 vs))
+
+tie : (x y : ℕ) → (not (is_lt (nat_cmp x y)) && not (is_lt (nat_cmp y x))) ≡ (y == x)
+tie x y = elim (cases_order x y) [
+  | inl same ↦ grind (arith, nat_tests)
+  | inr (inl lower) ↦ grind (arith, nat_tests)
+  | inr (inr higher) ↦ grind (arith, nat_tests)
+]
+
+-- a stable sort by number keeps the documents of each number
+pub stable_docs : (x : ℕ) (ps qs : List (ℕ × ℕ)) → IsStableByKey (λ p. p.0) nat_cmp ps qs → docs_of_number x qs ≡ docs_of_number x ps
+stable_docs x ps qs stable =
+    let t : ℕ × ℕ → Bool = ties (λ a b. is_lt (nat_cmp a.0 b.0)) (x, 0) in
+    let q : ℕ × ℕ → Bool = λ p. p.0 == x in
+    ap (map (λ (p : ℕ × ℕ). p.1)) (sym (filter_agree t q (λ p. tie x p.0) qs) ∙ stable (x, 0) ∙ filter_agree t q (λ p. tie x p.0) ps)
+
+-- the groups of the numbers of a column are its index
+pub IsNumberIndex-grouped : (vs : List (Option ℕ)) (pairs : List (ℕ × ℕ)) {numbers : List ℕ} {lists : List (List ℕ)} →
+    ((x : ℕ) → docs_of_number x pairs ≡ numbers_where (is_number x) 0 vs) → AreGroups pairs numbers lists → IsNumberIndex vs numbers lists
+IsNumberIndex-grouped vs pairs {numbers} same s = record {
+  rises = s.rises;
+  listed = s.listed ∙ all_same numbers;
+  occur = All-weaker (λ (x : ℕ). 0 < length (docs_of_number x pairs)) (λ (x : ℕ). Contains vs (Some x)) occurs numbers s.occur;
+  whole = λ x there.
+      let at = numbers_where-at (is_number x) vs there.0 (Some x) (slice_get-get_or vs there.0 (Some x) there.1 ∙ ap Some there.2) (let is : (x == x) ≡ true = grind (arith, nat_tests) in is) in
+      s.whole x (omega (arith, ap length (same x), at.1));
+}
+  where
+    all_same : (xs : List ℕ) → map (λ x. docs_of_number x pairs) xs ≡ map (λ x. numbers_where (is_number x) 0 vs) xs
+    all_same [] = refl
+    all_same (x ∷ xs) = ap (λ ds. ds ∷ map (λ x. docs_of_number x pairs) xs) (same x) ∙ ap (λ ls. numbers_where (is_number x) 0 vs ∷ ls) (all_same xs)
+
+    occurs : (x : ℕ) → 0 < length (docs_of_number x pairs) → Contains vs (Some x)
+    occurs x some =
+        let ns = numbers_where (is_number x) 0 vs in
+        let at = numbers_where-holds (is_number x) 0 vs (get_or ns 0 0) (Contains-get_or ns 0 0 (omega (arith, some, ap length (same x)))) in
+        let here = at.3 ∙ ap Some (is_number-is x at.2 at.4) in
+        (at.0, slice_get_within vs at.0 (Some x) here, get_or_from_slice_get vs at.0 (Some x) (Some x) here)

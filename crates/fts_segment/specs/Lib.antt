@@ -11,7 +11,7 @@ pub mod Dictionaries
 pub mod Numbers
 pub mod Keywords
 pub mod Between
-pub mod NumberLogs
+pub mod NumberPairs
 pub mod FieldIndexes
 pub mod SortedColumns
 pub mod SegmentData

@@ -1,5 +1,5 @@
 -- The numbers of a number field.
-use Rattle.std.specs.Prelude.{◌≡◌, ℕ, ◌==◌, Bool, true, false, List, [], ◌∷◌, map, Option, Some, None, All, Contains}
+use Rattle.std.specs.Prelude.{◌≡◌, ℕ, ◌==◌, Bool, true, false, List, map, Option, Some, None, All, Contains}
 use Rattle.std.specs.List.Sorted.{IsStrictlyIncreasing}
 use Rattle.fts_model.specs.declared.schema.Kind.{Kind}
 use Rattle.fts_model.specs.declared.schema.Kind.TheVariants as kinds
@@ -20,12 +20,6 @@ Fits64 kinds.I64 value = Unit {0}
 -- the numbers of values
 abbrev pub numbers_of : Kind → List (Option FieldValue) → List (Option ℕ)
 numbers_of kind vs = map (number_of kind) vs
-
--- the numbers that are present
-abbrev pub present : List (Option ℕ) → List ℕ
-present [] = []
-present (None ∷ vs) = present vs
-present (Some x ∷ vs) = x ∷ present vs
 
 -- whether an optional number is this one
 abbrev pub is_number : ℕ → Option ℕ → Bool

@@ -1,20 +1,15 @@
 // The index of a number field: a column, and the documents of each number.
-ghost use Rattle.std.specs.Prelude.{◌≡◌, ℕ, ◌<◌, ◌≤◌, ◌^◌, ◌++◌, ◌∷◌, [], Some, length, map, All, Contains, IfOk};
-ghost use Rattle.std.specs.Prelude.{IfSome, OnOk, option_copied, slice_get, slice_index, slice_index_or, MatchOption};
-ghost use Rattle.std.specs.List.Sorted.{IsStrictlyIncreasing};
-ghost use Rattle.fts_segment.specs.TermGroups.{places_of};
-ghost use Rattle.fts_segment.specs.Dictionaries.{docs_in};
+ghost use Rattle.std.specs.Prelude.{◌≡◌, ℕ, ◌<◌, ◌≤◌, ◌^◌, [], Some, length, All, IfOk};
+ghost use Rattle.std.specs.Prelude.{IfSome, OnOk, drop, option_copied, slice_get, slice_index_or, MatchOption};
+ghost use Rattle.std.specs.List.Sorted.{IsNonDecreasingBy, IsStrictlyIncreasing};
 ghost use Rattle.fts_segment.specs.Occurrences.{values_in};
 ghost use Rattle.fts_segment.specs.Segments.{number_of, numbers_where};
-ghost use Rattle.fts_segment.specs.Numbers.{Fits64, numbers_of, present, is_number, IsNumberIndex};
+ghost use Rattle.fts_segment.specs.Numbers.{Fits64, numbers_of, is_number, IsNumberIndex};
+ghost use Rattle.fts_segment.specs.NumberPairs.{docs_of_number, begins_with, AreGroups};
 ghost use Rattle.fts_segment.specs.ListIds.{documents_in, positions_in};
-ghost use Rattle.fts_segment.specs.NumberLogs.{NumberLog};
 
 use crate::binary_search::find_number;
-use crate::postings_writer::set_docs;
 use crate::segment::ListId;
-use crate::term_groups::TermGroups;
-use crate::term_log::Occurrence;
 use fts_base::release;
 use fts_model::{Document, FieldValue, Kind, Number, Stamped};
 use fts_pack::Lists;
@@ -60,12 +55,9 @@ impl NumberIndex {
             index.numbers.items index.lists) }
     {
         let values = numbers_of(alloc, documents, field, kind)?;
-        let numbers = different(alloc, &values)?;
-        let log = logged(alloc, &values, &numbers)?;
-        let groups = TermGroups::new(alloc, &log, numbers.len())?;
-        release(log);
-        let lists = lists_of(alloc, &groups, numbers.len())?;
-        groups.release();
+        let pairs = sorted_pairs(alloc, &values)?;
+        let (numbers, lists) = grouped(alloc, &pairs)?;
+        release(pairs);
         let Ok(column) = Column::build(alloc, &values) else {
             return Err(AllocError);
         };
@@ -134,96 +126,52 @@ fn numbers_of(
     Ok(numbers)
 }
 
-/// Appends a number, if there is one.
-fn push_present(numbers: &mut Vec<u64>, value: Option<u64>) -> Result<(), AllocError>
-    ensures { OnOk result (numbers.new.items ≡ numbers.old.items ++ present (value ∷ [])) }
+/// The numbers of documents, each with its document: the numbers rise, and equal ones stay in the order of documents.
+fn sorted_pairs(alloc: Global, values: &[Option<u64>]) -> Result<Vec<(u64, u32)>, AllocError>
+    requires few { length values.now ≤ 2 ^ 32 }
+    ensures rise { IfOk result (λ v. IsNonDecreasingBy (λ p. p.0) v.items) }
+    ensures docs { IfOk result
+        (λ v. (x : ℕ) → docs_of_number x v.items ≡ numbers_where (is_number x) 0 values.now) }
 {
-    if let Some(number) = value {
-        numbers.push(number)?;
+    let mut pairs = Vec::with_capacity(alloc, values.len())?;
+    for (doc, value) in values.iter().enumerate() {
+        if let Some(number) = value {
+            pairs.push((*number, doc as u32))?;
+        }
     }
-    Ok(())
+    pairs.sort_by_key(|pair| pair.0)?;
+    Ok(pairs)
 }
 
-/// The distinct numbers, rising.
-fn different(alloc: Global, values: &[Option<u64>]) -> Result<Vec<u64>, AllocError>
-    ensures rises { IfOk result (λ v. IsStrictlyIncreasing v.items) }
-    ensures occur { IfOk result (λ v. All (λ x. Contains values.now (Some x)) v.items) }
-    ensures whole { IfOk result (λ v. (x : ℕ) → Contains values.now (Some x) → Contains v.items x) }
+/// Whether the pair at this index is one of this number.
+fn has_number(pairs: &[(u64, u32)], index: usize, number: u64) -> bool
+    ensures { result ≡ begins_with number (drop index pairs.now) }
+{
+    match pairs.get(index) {
+        Some(pair) => pair.0 == number,
+        None => false,
+    }
+}
+
+/// The distinct numbers of sorted pairs, rising, and the documents of each.
+fn grouped(alloc: Global, pairs: &[(u64, u32)]) -> Result<(Vec<u64>, Lists), AllocError>
+    requires rise { IsNonDecreasingBy (λ p. p.0) pairs.now }
+    requires docs { (x : ℕ) → IsStrictlyIncreasing (docs_of_number x pairs.now) }
+    ensures { IfOk result (λ r. AreGroups pairs.now r.0.items r.1) }
 {
     let mut numbers = Vec::new(alloc);
-    for value in values {
-        push_present(&mut numbers, *value)?;
-    }
-    numbers.sort_unstable();
-    numbers.dedup();
-    numbers.shrink_to_fit();
-    Ok(numbers)
-}
-
-/// Appends a document's number, by its index among the distinct numbers.
-fn push_number(
-    log: &mut Vec<Occurrence>,
-    numbers: &[u64],
-    doc: u32,
-    value: Option<u64>,
-) -> Result<(), AllocError>
-    requires rises { IsStrictlyIncreasing numbers.now }
-    requires whole { IfSome value (λ x. Contains numbers.now x) }
-    ensures { OnOk result (NumberLog numbers.now doc value log.old.items log.new.items) }
-{
-    let Some(number) = value else {
-        return Ok(());
-    };
-    let Some(term) = find_number(numbers, number) else {
-        return Ok(());
-    };
-    // It fits: there are no more distinct numbers than documents.
-    let Ok(term) = u32::try_from(term) else {
-        return Err(AllocError);
-    };
-    log.push(Occurrence {
-        term,
-        doc,
-        position: 0,
-    })?;
-    Ok(())
-}
-
-/// The numbers of documents, each by its index among the distinct numbers.
-fn logged(
-    alloc: Global,
-    values: &[Option<u64>],
-    numbers: &[u64],
-) -> Result<Vec<Occurrence>, AllocError>
-    requires few { length values.now ≤ 2 ^ 32 }
-    requires rises { IsStrictlyIncreasing numbers.now }
-    requires whole { (x : ℕ) → Contains values.now (Some x) → Contains numbers.now x }
-    ensures named { IfOk result (λ log. All (λ e. e.term < length numbers.now) log.items) }
-    ensures docs { IfOk result
-        (λ log. (t : ℕ) → t < length numbers.now
-        → map (λ p. p.doc) (places_of t log.items)
-        ≡ numbers_where (is_number (slice_index numbers.now t)) 0 values.now) }
-{
-    let mut log = Vec::with_capacity(alloc, values.len())?;
-    for (doc, value) in values.iter().enumerate() {
-        push_number(&mut log, numbers, doc as u32, *value)?;
-    }
-    Ok(log)
-}
-
-/// The documents of each group, without duplicates.
-fn lists_of(alloc: Global, groups: &TermGroups, count: usize) -> Result<Lists, AllocError>
-    requires count { length groups.now ≡ count }
-    requires rise { All (λ places. IsStrictlyIncreasing (docs_in places)) groups.now }
-    ensures { IfOk result (λ lists. lists ≡ map docs_in groups.now) }
-{
-    let mut lists = Lists::with_capacity(alloc, count)?;
+    let mut lists = Lists::new(alloc);
     let mut docs = Vec::new(alloc);
-    for number in 0..count {
-        set_docs(&mut docs, groups.get(number))?;
-        lists.push(alloc, &docs)?;
+    for (index, (number, doc)) in pairs.iter().enumerate() {
+        docs.push(*doc)?;
+        if !has_number(pairs, index + 1, *number) {
+            numbers.push(*number)?;
+            lists.push(alloc, &docs)?;
+            docs.clear();
+        }
     }
     release(docs);
+    numbers.shrink_to_fit();
     lists.shrink_to_fit();
-    Ok(lists)
+    Ok((numbers, lists))
 }

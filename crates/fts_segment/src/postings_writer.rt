@@ -87,7 +87,7 @@ impl PostingsWriter {
 }
 
 /// Sets `docs` to the documents of places, without duplicates.
-pub(crate) fn set_docs(docs: &mut Vec<u32>, places: &[DocPosition]) -> Result<(), AllocError>
+fn set_docs(docs: &mut Vec<u32>, places: &[DocPosition]) -> Result<(), AllocError>
     ensures { OnOk result (docs.new.items ≡ docs_in places.now) }
 {
     docs.clear();
