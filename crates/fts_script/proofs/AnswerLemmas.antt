@@ -11,13 +11,14 @@ use Rattle.serde_json.specs.View.{items_of}
 use Rattle.serde_json.specs.Written.{compact_text, members_text, has_float, items_have_float, members_have_float}
 use Rattle.fts_model.specs.declared.schema.Field.{Field}
 use Rattle.fts_model.specs.declared.value.GroupValue.{GroupValue}
+use Rattle.fts_model.specs.declared.value.Number.{Number}
 use Rattle.fts_model.specs.declared.value.Number.TheVariants as numbers
 use Rattle.fts_model.specs.declared.value.FieldValue.{FieldValue}
 use Rattle.fts_model.specs.declared.value.FieldValue.TheVariants as values
 use Rattle.fts_model.specs.declared.answer.Hit.{Hit}
-use Rattle.fts_model.specs.Documents.{data_of, with_value, with_values}
+use Rattle.fts_model.specs.Documents.{DocumentValue, data_of, json_of, with_value, with_values}
 use Rattle.fts_model.specs.Answers.{AnswerValue}
-use Rattle.fts_script.specs.command.AnswerData.{groups_data, hits_data, list_member, answer_data}
+use Rattle.fts_script.specs.command.AnswerData.{groups_data, hit_data, hits_data, number_data, list_member, answer_data}
 use Rattle.fts_script.specs.command.AnswerTexts.{groups_label, list_text, top_label}
 use Rattle.fts_script.specs.command.Cuts.{cut_answer, cut_hits}
 
@@ -59,11 +60,11 @@ all_plain ms [] vs h = h
 all_plain ms (field ∷ fields) [] h = h
 all_plain ms (field ∷ fields) (v ∷ vs) h = all_plain (with_value ms field v) fields vs (one_plain ms field v h)
 
-pub hits_plain : (hits : List Hit) → items_have_float (hits_data hits) ≡ false
-hits_plain [] = refl
-hits_plain (hit ∷ hits) =
-    neither (neither (all_plain no_members hit.document.schema hit.document.values refl) (neither (value_plain (values.Number hit.value)) refl))
-    (hits_plain hits)
+pub document_plain : (document : DocumentValue) → has_float (json_of document) ≡ false
+document_plain document = all_plain no_members document.schema document.values refl
+
+pub number_plain : (n : Number) → has_float (number_data n) ≡ false
+number_plain n = value_plain (values.Number n)
 
 -- the members of an answer, each list by itself
 groups_texts : (items : Option Items) (ms : Members) → members_text true (list_member (codes "groups") items ms) ≡ list_text groups_label items ++ members_text true ms
@@ -105,6 +106,30 @@ answer_texts (Some names) a = parts_text a.count (option_map groups_data a.group
 
 regrouped : (a b c d e : List ℕ) → a ++ b ++ c ++ d ++ e ≡ a ++ (b ++ (c ++ (d ++ e)))
 regrouped a b c d e = append_assoc (a ++ b ++ c) d e ∙ append_assoc (a ++ b) c (d ++ e) ∙ append_assoc a b (c ++ (d ++ e))
+
+-- the text of a hit, part by part
+hit_parts : (hit : Hit) → compact_text (hit_data hit) ≡ codes "{\"doc\":" ++ (compact_text (json_of hit.document)
+    ++ (codes ",\"stamp\":" ++ (decimal hit.stamp ++ (codes ",\"value\":" ++ (compact_text (number_data hit.value) ++ 125 ∷ [])))))
+unfolding escape_byte
+hit_parts hit = refl
+
+-- a hit's text is made part by part
+pub hit_made : (hit : Hit) (document digits value a b c d e f text : List ℕ) → document ≡ compact_text (json_of hit.document) → digits ≡ decimal hit.stamp →
+    value ≡ compact_text (number_data hit.value) → a ≡ codes "{\"doc\":" → b ≡ a ++ document → c ≡ b ++ codes ",\"stamp\":" → d ≡ c ++ digits →
+    e ≡ d ++ codes ",\"value\":" → f ≡ e ++ value → text ≡ f ++ 125 ∷ [] → text ≡ compact_text (hit_data hit)
+hit_made hit document digits value a b c d e f text p q r s t u v w x y =
+    let D = compact_text (json_of hit.document) in
+    let N = decimal hit.stamp in
+    let V = compact_text (number_data hit.value) in
+    let start = codes "{\"doc\":" in
+    let stamp = codes ",\"stamp\":" in
+    let label = codes ",\"value\":" in
+    let end : List ℕ = 125 ∷ [] in
+    let last = append_assoc (start ++ D ++ stamp ++ N ++ label) V end in
+    let before = append_assoc (start ++ D ++ stamp ++ N) label (V ++ end) in
+    let front = regrouped start D stamp N (label ++ (V ++ end)) in
+    let all = hit_parts hit in
+    cc
 
 -- an answer's text is made part by part
 pub text_made : (names : Option (List (List ℕ))) (a : AnswerValue) (groups : Option (List (GroupValue × ℕ))) (hits : Option (List Hit))

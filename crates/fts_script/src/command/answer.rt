@@ -2,7 +2,7 @@
 ghost use Rattle.std.specs.Prelude.{◌≡◌, ◌++◌, IfOk, OnOk, option_map, string_bytes};
 ghost use Rattle.serde_json.specs.Data.{array};
 ghost use Rattle.serde_json.specs.View.{view};
-ghost use Rattle.serde_json.specs.Written.{compact_text};
+ghost use Rattle.serde_json.specs.Written.{comma_if, compact_text};
 ghost use Rattle.fts_model.specs.Documents.{json_of};
 ghost use Rattle.fts_script.specs.command.AnswerData.{answer_data, groups_data, hit_data, hits_data, number_data};
 ghost use Rattle.fts_script.specs.command.AnswerTexts.{IsWritten, groups_label, list_text, top_label};
@@ -13,7 +13,7 @@ ghost use Rattle.std.specs.Option.{option_copied};
 use fts_model::{Answer, GroupValue, Hit, Number, Text};
 use itoa::Buffer;
 use json::Writer;
-use serde_json::{Map, Value, put};
+use serde_json::Value;
 use std::alloc::{AllocError, Global};
 
 // A group of a number takes about as many bytes.
@@ -79,40 +79,51 @@ fn document_value(alloc: Global, hit: &Hit, names: Option<&[Text]>) -> Result<Va
     }
 }
 
-/// Returns a hit as JSON. If there are names, its document shows only their fields.
-fn hit_value(alloc: Global, hit: &Hit, names: Option<&[Text]>) -> Result<Value, AllocError>
-    ensures { IfOk result (λ value. view value ≡ hit_data (cut_hit (option_copied names.entry) hit.now)) }
-{
-    let mut members = Map::new(alloc);
-    put(
-        &mut members,
-        alloc,
-        "doc",
-        document_value(alloc, hit, names)?,
-    )?;
-    put(&mut members, alloc, "stamp", Value::from(hit.stamp))?;
-    put(&mut members, alloc, "value", number_value(hit.value))?;
-    Ok(Value::Object(members))
-}
-
-/// Returns hits as JSON, in their order. There is no float in them.
-fn hits_value(alloc: Global, hits: &[Hit], names: Option<&[Text]>) -> Result<Value, AllocError>
-    ensures { IfOk result (λ value. view value ≡ array (hits_data (cut_hits (option_copied names.entry) hits.now))) }
-{
-    let mut list = Vec::with_capacity(alloc, hits.len())?;
-    for hit in hits {
-        list.push(hit_value(alloc, hit, names)?)?;
-    }
-    Ok(Value::Array(list))
-}
-
-/// Returns hits as the text of a JSON array, in their order.
-fn hits_text(alloc: Global, hits: &[Hit], names: Option<&[Text]>) -> Result<String, AllocError>
+/// Returns a hit as the text of a JSON object. If there are names, its document shows only their fields.
+fn hit_text(alloc: Global, hit: &Hit, names: Option<&[Text]>) -> Result<String, AllocError>
     ensures { IfOk result (λ text. string_bytes text
-        ≡ compact_text (array (hits_data (cut_hits (option_copied names.entry) hits.now)))) }
+        ≡ compact_text (hit_data (cut_hit (option_copied names.entry) hit.now))) }
 {
-    let value = hits_value(alloc, hits, names)?;
-    value.to_string(alloc)
+    // There is no float in these two.
+    let document = document_value(alloc, hit, names)?.to_string(alloc)?;
+    let value = number_value(hit.value).to_string(alloc)?;
+    let mut text = String::from_str(alloc, "{\"doc\":")?;
+    text.push_str(document.as_str())?;
+    text.push_str(",\"stamp\":")?;
+    text.push_str(Buffer::new().format(hit.stamp))?;
+    text.push_str(",\"value\":")?;
+    text.push_str(value.as_str())?;
+    text.push_str("}")?;
+    Ok(text)
+}
+
+/// Appends the text of an item to that of a list, behind a comma if it is a later one.
+fn push_item(item: &str, is_later: bool, list: &mut String) -> Result<(), AllocError>
+    ensures { OnOk result (string_bytes list.new ≡ string_bytes list.old ++ (comma_if is_later ++ item.now)) }
+{
+    if is_later {
+        list.push_str(",")?;
+    }
+    list.push_str(item)
+}
+
+/// Appends hits as the text of a JSON array, in their order. What is made of a hit is given back before the next.
+fn push_hits(
+    alloc: Global,
+    hits: &[Hit],
+    names: Option<&[Text]>,
+    text: &mut String,
+) -> Result<(), AllocError>
+    ensures { OnOk result (string_bytes text.new ≡ string_bytes text.old
+        ++ compact_text (array (hits_data (cut_hits (option_copied names.entry) hits.now)))) }
+{
+    text.push_str("[")?;
+    for (index, hit) in hits.iter().enumerate() {
+        let hit = hit_text(alloc, hit, names)?;
+        push_item(hit.as_str(), index > 0, text)?;
+    }
+    text.push_str("]")?;
+    Ok(())
 }
 
 /// Appends the groups to the members of an answer, if they were asked for.
@@ -147,8 +158,7 @@ fn push_top(
         return Ok(());
     };
     text.push_str(",\"top\":")?;
-    let hits = hits_text(alloc, hits, names)?;
-    text.push_str(hits.as_str())?;
+    push_hits(alloc, hits, names, text)?;
     Ok(())
 }
 
