@@ -16,7 +16,8 @@ use std::alloc::Global;
 use std::sync::Wait;
 use std::thread::Threads;
 
-/// Makes a segment for each candidate that is due, by up to this many threads, 1 to 64.
+/// Makes a segment for each candidate that is due, by up to this many threads, 1 to 64: side by side, or the fields of
+/// one if it alone is due.
 fn made<R: Threads + Wait + Sync, G: Gate>(
     rt: &R,
     alloc: Global,
@@ -30,16 +31,14 @@ fn made<R: Threads + Wait + Sync, G: Gate>(
         AreMadeFor (due (map (λ ids. ids.items) candidates.now)) snapshot.now made.items) }
 {
     let tasks = due_tasks(alloc, snapshot, candidates)?;
-    run_all(rt, alloc, &tasks, workers, gate)
+    if tasks.len() != 1 {
+        return run_all(rt, alloc, &tasks, workers, gate);
+    }
+    Ok(vec![in alloc; tasks[0].run_by(rt, workers, gate)]?)
 }
 
-/// Whether at least two of these candidates are due: after one of a single segment none is.
-fn are_several_due(candidates: &[Vec<u64>]) -> bool {
-    candidates.len() > 1 && candidates[0].len() > 1
-}
-
-/// Merges candidates in order, up to the first of one segment, as `merge_due` does. If several are due, up to this many
-/// threads make their segments; if that can't begin, they are merged one after the other.
+/// Merges candidates in order, up to the first of one segment, as `merge_due` does. Up to this many threads make their
+/// segments; if that can't begin, they are merged one after the other.
 fn merge_candidates<R: Threads + Wait + Sync, G: Gate>(
     rt: &R,
     alloc: Global,
@@ -55,7 +54,7 @@ fn merge_candidates<R: Threads + Wait + Sync, G: Gate>(
     ensures merges { Merges 1 writer.old.front.snapshot writer.new.front.snapshot }
     ensures keeps { KeepsRounds writer.old writer.new }
 {
-    if workers == 1 || !are_several_due(candidates) {
+    if workers == 1 {
         return merge_due(rt, alloc, writer, candidates);
     }
     match made(rt, alloc, writer.snapshot(), candidates, workers, gate) {

@@ -28,7 +28,8 @@ use fts_model::{Cut, Op, Refusal, Schema, Stamp, Stamped};
 use fts_pool::Gate;
 use fts_rounds::{Batch, Lane, Round, RoundLimits, open_round};
 use fts_snapshots::{
-    ID_LIMIT, LateMergeable, MergeJob, MergePolicy, Mergeable, MergedSegment, SegmentInfo, Snapshot,
+    ID_LIMIT, LateMergeable, MergeJob, MergePolicy, Mergeable, MergedSegment, SegmentInfo,
+    Snapshot, whole,
 };
 use std::alloc::Global;
 use std::marker::Model;
@@ -281,11 +282,74 @@ impl Writer {
         Ok(())
     }
 
+    /// Merges as [`merge`](Writer::merge) does. Up to this many threads, 1 to 64, the calling one among them, make the
+    /// segment: each field is a job, and the gate is called around each.
+    pub fn merge_by<R: Threads + Wait + Sync, G: Gate>(
+        &mut self,
+        rt: &R,
+        alloc: Global,
+        ids: &[u64],
+        workers: usize,
+        gate: &G,
+    ) -> Result<(), Refusal>
+        requires workers { (1 ≤ workers) × (workers ≤ 64) }
+        ensures writer { OnOk result (self.new ≡ with_merge ids.now self.old) }
+        ensures refused { IsRefusedFor (merge_fault ids.now self.old.front.snapshot) result }
+        ensures empty { ids.now ≡ [] → result ≡ Err Refusal.NoSegments }
+        ensures segments { OnOk result (map info_of self.new.front.snapshot.entries
+            ≡ infos_after_merge ids.now self.old.front.snapshot) }
+        ensures content { OnOk result
+            (content_of self.new.front.snapshot ≡ content_of self.old.front.snapshot) }
+        ensures follows { Follows self.old.front.snapshot self.new.front.snapshot }
+        ensures same { OnErr result (self.new ≡ self.old) }
+    {
+        let merged = self
+            .publisher
+            .snapshot()
+            .merge_by(rt, alloc, ids, workers, gate)?;
+        self.publisher.publish_again(rt, alloc, merged)?;
+        Ok(())
+    }
+
+    /// Merges all segments into one, if there are any, as [`merge_by`](Writer::merge_by) does, and returns the number of
+    /// live documents. It is refused as `TooLarge` if there are over 1,048,576. Neither that nor an index without a
+    /// segment takes memory.
+    pub fn merge_all<R: Threads + Wait + Sync, G: Gate>(
+        &mut self,
+        rt: &R,
+        alloc: Global,
+        workers: usize,
+        gate: &G,
+    ) -> Result<u64, Refusal>
+        requires workers { (1 ≤ workers) × (workers ≤ 64) }
+        requires room { 0 < length self.old.front.snapshot.entries
+            → self.old.front.snapshot.next_id + 1 ≤ 2 ^ 62 }
+        ensures merges { OnOk result (Merges 1 self.old.front.snapshot self.new.front.snapshot) }
+        ensures one { OnOk result (length self.new.front.snapshot.entries ≤ 1) }
+        ensures keeps { KeepsRounds self.old self.new }
+        ensures empty { self.old.front.snapshot.entries ≡ [] → result ≡ Ok 0 }
+        ensures count { IfOk result (λ n. n ≡ length (content_of self.old.front.snapshot)) }
+        ensures few { IfOk result (λ n. n ≤ most_merged) }
+        ensures large { most_merged < length (content_of self.old.front.snapshot)
+            → result ≡ Err Refusal.TooLarge }
+        ensures same { OnErr result (self.new ≡ self.old) }
+        ensures refused { IfErr result (λ e. (e ≡ Refusal.Memory) ⊎ ((e ≡ Refusal.TooLarge)
+            × (most_merged < length (content_of self.old.front.snapshot)))) }
+    {
+        let snapshot = self.publisher.snapshot();
+        if snapshot.entries().is_empty() {
+            return Ok(0);
+        }
+        let (live, ids) = whole(alloc, snapshot)?;
+        self.merge_by(rt, alloc, &ids, workers, gate)?;
+        Ok(live)
+    }
+
     /// Merges what a policy says of the last commit, if there is a policy, up to the first candidate of one segment. Up
-    /// to this many threads, 1 to 64, the calling one among them, make the segments of several candidates side by side;
-    /// the gate is called around each. All of these segments are held in memory until the last has been made; then they
-    /// replace their sources in the order of the candidates. With one thread, or if one candidate alone is due, each
-    /// segment replaces its sources before the next is made.
+    /// to this many threads, 1 to 64, the calling one among them, make the segments of several candidates side by side,
+    /// or the fields of one if it alone is due; the gate is called around each. Segments of several candidates are held
+    /// in memory until the last has been made; then they replace their sources in the order of the candidates. With one
+    /// thread each segment replaces its sources before the next is made.
     ///
     /// `Memory` if memory ran out for a candidate, also when it was tried alone: it stays until a later commit, and the
     /// others are merged. A candidate that can't be merged stays.

@@ -24,3 +24,4 @@ pub mod ChangeLemmas
 pub mod MadeLemmas
 pub mod MergedInfoLemmas
 pub mod CountedLemmas
+pub mod WholeLemmas

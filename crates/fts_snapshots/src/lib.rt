@@ -40,6 +40,6 @@ pub use entries::{Entry, EntryIter, EntryList, ID_LIMIT, SegmentInfo};
 pub use fts_merge::MergePolicy;
 pub use fts_model::Cut;
 pub use made_merges::{LateMergeable, end_due};
-pub use mergeable::{Mergeable, merge_all, merge_due, merge_planned};
+pub use mergeable::{Mergeable, merge_all, merge_due, merge_planned, whole};
 pub use merges::{MergeJob, MergeTask, MergedSegment, due_tasks};
 pub use snapshot::Snapshot;

@@ -111,6 +111,24 @@ fn ids_in(alloc: Global, entries: &EntryList) -> Result<Vec<u64>, AllocError>
     Ok(ids)
 }
 
+/// What a merge of all segments takes: how many live documents there are, and the ids of the segments. `TooLarge` if
+/// there are over 1,048,576 documents; that takes no memory.
+pub fn whole(alloc: Global, snapshot: &Snapshot) -> Result<(u64, Vec<u64>), Refusal>
+    ensures count { IfOk result (λ whole. whole.0 ≡ length (content_of snapshot.now)) }
+    ensures few { IfOk result (λ whole. whole.0 ≤ most_merged) }
+    ensures ids { IfOk result (λ whole. whole.1.items ≡ ids_of snapshot.now.entries) }
+    ensures large { most_merged < length (content_of snapshot.now) → result ≡ Err Refusal.TooLarge }
+    ensures refused { IfErr result (λ e. (e ≡ Refusal.Memory) ⊎ ((e ≡ Refusal.TooLarge)
+        × (most_merged < length (content_of snapshot.now)))) }
+{
+    let entries = snapshot.entries();
+    let Some(live) = live_in(entries) else {
+        return Err(Refusal::TooLarge);
+    };
+    let ids = ids_in(alloc, entries)?;
+    Ok((live as u64, ids))
+}
+
 /// Merges all segments into one, if there are any, and returns the number of live documents. It is refused as
 /// `TooLarge` if there are over 1,048,576. Neither that nor an index without a segment takes memory.
 pub fn merge_all<R, S: Mergeable<R>>(rt: &R, alloc: Global, index: &mut S) -> Result<u64, Refusal>
@@ -126,16 +144,13 @@ pub fn merge_all<R, S: Mergeable<R>>(rt: &R, alloc: Global, index: &mut S) -> Re
     ensures refused { IfErr result (λ e. (e ≡ Refusal.Memory) ⊎ ((e ≡ Refusal.TooLarge)
         × (most_merged < length (content_of (S.left index.old))))) }
 {
-    let entries = index.last_commit().entries();
-    if entries.is_empty() {
+    let snapshot = index.last_commit();
+    if snapshot.entries().is_empty() {
         return Ok(0);
     }
-    let Some(live) = live_in(entries) else {
-        return Err(Refusal::TooLarge);
-    };
-    let ids = ids_in(alloc, entries)?;
+    let (live, ids) = whole(alloc, snapshot)?;
     index.merge_segments(rt, alloc, &ids)?;
-    Ok(live as u64)
+    Ok(live)
 }
 
 /// Merges the segments of a candidate. If they can't be merged, they are unchanged.

@@ -5,7 +5,7 @@ ghost use Rattle.dilforec.specs.MergedSegments.{merged_of};
 ghost use Rattle.dilforec.specs.Successors.{Fits};
 
 use crate::steps::commit;
-use dilforec::{MergeJob, MergedSegment, Refusal, Searcher, Writer};
+use dilforec::{MergeJob, MergedSegment, Open, Refusal, Searcher, Writer};
 use std::alloc::Global;
 use std::process::Abort;
 use std::sync::Wait;
@@ -87,9 +87,9 @@ fn merge_later<R: Threads + Wait + Sync + Abort>(rt: &R, alloc: Global, writer: 
     shows(rt, alloc, writer, "4: (2,1,1) (3,2,2) 3r 1p 2q");
 }
 
-/// Merges the rest at once.
-fn merge<R: Wait + Abort>(rt: &R, alloc: Global, writer: &mut Writer) {
-    if let Err(refusal) = writer.merge(rt, alloc, &[2, 3]) {
+/// Merges the rest at once, by two threads.
+fn merge<R: Threads + Wait + Sync + Abort>(rt: &R, alloc: Global, writer: &mut Writer) {
+    if let Err(refusal) = writer.merge_by(rt, alloc, &[2, 3], 2, &Open) {
         assert_eq!(rt; refusal, Refusal::Memory);
         shows(rt, alloc, writer, "4: (2,1,1) (3,2,2) 3r 1p 2q");
         writer.merge(rt, alloc, &[2, 3]).expect(rt, "a merge again");

@@ -1,6 +1,7 @@
 // What a query is thought to find in a segment, and what that takes: an estimate, of which no contract speaks.
 
-/// To go from one document to the next by the cursors of several queries, in picoseconds.
+/// To go from one document to the next by the cursors of several queries, in picoseconds. What a set filters takes no
+/// such step.
 const STEP: u64 = 20_000;
 
 /// What a query finds. A number past the greatest `u64` stays at it.
@@ -39,7 +40,7 @@ impl Findings {
         self.beside(other, hits, self.work.saturating_add(other.work))
     }
 
-    /// These, each of which is tested for another query; at worst all that it finds is found.
+    /// These, each of which is tested for another query, one by one; at worst all that it finds is found.
     pub(crate) fn tested_for(self, other: Findings) -> Findings {
         let steps = self.hits.saturating_mul(STEP);
         let tests = self.hits.saturating_mul(other.test).min(other.work);

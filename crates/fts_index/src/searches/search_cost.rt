@@ -1,7 +1,9 @@
 // How long one thread takes for a search: an estimate, of which no contract speaks.
 //
 // The query's terms are looked up in the segment with the most documents, and the others are taken to be like it. The
-// constants are picoseconds, from what was measured (docs/DECISIONS.md).
+// constants are picoseconds, measured when cursors went document by document. Since then what filters others tests up
+// to 128 documents at once, and columns are compared by words beside bits (docs/DECISIONS.md), so most musts and
+// must-nots are taken to be dearer than they are.
 ghost use Rattle.std.specs.Prelude.{◌≡◌, Some};
 ghost use Rattle.fts_model.specs.Operations.{kind_at};
 ghost use Rattle.fts_model.specs.declared.schema.Kind.TheVariants as kinds;
@@ -22,7 +24,7 @@ const UNPACK: u64 = 800;
 /// To combine the bit of a document.
 const COMBINE: u64 = 100;
 
-/// To test a document by the bits of a list.
+/// To test a document by the bits of a list, or for a range that few documents are in.
 const TEST_BIT: u64 = 2_000;
 
 /// To test a document by a list without bits.
@@ -34,7 +36,8 @@ const COMPARE: u64 = 500;
 /// To take a document within a range.
 const WITHIN: u64 = 5_000;
 
-/// To test a document for a range if it isn't near the last.
+/// To test a document for a range by a cursor, if the document isn't near the last. A set that filters others compares
+/// one number, which takes less.
 const TEST_RANGE: u64 = 150_000;
 
 /// To look for a phrase's terms in a document of its rarest.
@@ -157,7 +160,7 @@ fn documents_within(
     segment.documents_between(field, low, high) as u64
 }
 
-/// What a range finds. If it finds few, no column is read.
+/// What a range finds. If it finds few, lists are read and no column, unless it is a must-not.
 fn of_range(
     segment: &Segment,
     field: usize,
@@ -250,7 +253,8 @@ fn of_all(segment: &Segment, queries: &[Query]) -> Findings {
     found
 }
 
-/// How many hits are offered to a top list. If there are many, the documents with the best numbers are enough.
+/// How many hits are offered to a top list. If there are many, and bits and columns tell them, the documents with the
+/// best numbers are enough; all hits are taken to be such.
 fn offered(hits: u64, docs: u64, k: u64) -> u64 {
     let best = k.saturating_mul(docs).saturating_mul(6) / hits.max(1);
     hits.min(best)

@@ -61,6 +61,22 @@ impl MergeJob {
         merged(alloc, &self.entries)
     }
 
+    /// Makes the segment as [`make`](MergeJob::make) does, by up to this many threads, 1 to 64, the calling one among
+    /// them: each field is a job. The gate is called around each.
+    pub(crate) fn make_by<R: Threads + Wait + Sync, G: Gate>(
+        &self,
+        rt: &R,
+        alloc: Global,
+        workers: usize,
+        gate: &G,
+    ) -> Result<MergedSegment, Refusal>
+        requires workers { (1 ≤ workers) × (workers ≤ 64) }
+        ensures { Gives (λ merged. merged) result
+            (ok_unless (size_fault (sum_by live_count self.now)) (merged_of self.now)) }
+    {
+        merged_by(rt, alloc, &self.entries, workers, gate)
+    }
+
     /// Makes one segment of the live documents, in the order of the segments. It needs no writer, and no search result
     /// changes by it.
     ///
@@ -94,7 +110,7 @@ impl MergeJob {
             (e.1 ≡ Refusal.Memory) ⊎ (size_fault (sum_by live_count self) ≡ Some e.1)) }
         ensures handed_back { IfErr result (λ e. e.0 ≡ self) }
     {
-        match merged_by(rt, alloc, &self.entries, workers, gate) {
+        match self.make_by(rt, alloc, workers, gate) {
             Ok(merged) => Ok(merged),
             Err(refusal) => Err((self, refusal)),
         }

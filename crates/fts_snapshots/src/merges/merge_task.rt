@@ -1,15 +1,17 @@
 // Started merges as jobs of a pool.
-ghost use Rattle.std.specs.Prelude.{IfOk, map};
+ghost use Rattle.std.specs.Prelude.{◌≤◌, IfOk, map};
 ghost use Rattle.std.specs.List.{AllZip};
 ghost use Rattle.fts_snapshots.specs.Candidates.{due};
-ghost use Rattle.fts_snapshots.specs.MadeMerges.{IsTaskFor};
+ghost use Rattle.fts_snapshots.specs.MadeMerges.{IsTaskFor, Makes};
 
 use crate::merges::merge_job::MergeJob;
 use crate::merges::merged_segment::MergedSegment;
 use crate::snapshot::Snapshot;
 use fts_model::Refusal;
-use fts_pool::Job;
+use fts_pool::{Gate, Job};
 use std::alloc::Global;
+use std::sync::Wait;
+use std::thread::Threads;
 
 /// The merge of a candidate as a job of a pool, which makes one segment of the live documents.
 #[derive(Drop)]
@@ -37,6 +39,22 @@ impl Job for MergeTask {
     /// Makes the segment, as [`MergeJob::make`] does.
     fn run(&self) -> Result<MergedSegment, Refusal> {
         self.job.make(self.alloc)
+    }
+}
+
+impl MergeTask {
+    /// Makes the segment by up to this many threads, 1 to 64, the calling one among them: each field is a job. The gate
+    /// is called around each.
+    pub fn run_by<R: Threads + Wait + Sync, G: Gate>(
+        &self,
+        rt: &R,
+        workers: usize,
+        gate: &G,
+    ) -> Result<MergedSegment, Refusal>
+        requires { (1 ≤ workers) × (workers ≤ 64) }
+        ensures { Makes self.now result }
+    {
+        self.job.make_by(rt, self.alloc, workers, gate)
     }
 }
 
