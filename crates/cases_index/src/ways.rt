@@ -96,9 +96,11 @@ fn difference_by_cut<R: AllocGlobal + Threads + Wait + Sync, S: EngineOver<R>, O
 ) -> Result<Option<String>, AllocError> {
     let unended = input.strip_suffix('\n').unwrap_or(input);
     for (workers, merge) in &WORK {
-        let Some(options) = Options::new(*workers, cut, *merge) else {
+        let Some(mut options) = Options::new(*workers, cut, *merge) else {
             return Ok(Some(String::from_str(rt.alloc(), "options beyond their limits")?));
         };
+        // However small a script is, its searches take a thread for each segment, up to the number of workers.
+        options.worth_a_thread = 1;
         let input = if *merge == Merge::Off { input } else { unended };
         let other = difference_by::<_, S, O>(rt, input, wanted, options)?;
         if other.is_some() {

@@ -38,9 +38,8 @@ use crate::raw_box::RawBox;
 use codes::{CLOSED, MEMORY, NO_BYTE, NO_LIMIT, NO_REPLY, OK};
 use core::mem::replace_with;
 use core::ptr::null_mut;
-use fts_engine::{Cut, Merge, Options};
+use fts_engine::{Merge, Options};
 use fts_engine_local::{LocalEngine, Stats};
-use fts_model::MOST_BUILT;
 use fts_query::syntax_at;
 use fts_script::session::Session;
 use state::{Call, State};
@@ -138,14 +137,12 @@ fn unwrap(handle: Handle) -> Box<State, Global>
     handle.into_raw().into_box()
 }
 
-/// The options of a session: segments of up to 65,536 documents, and merges after commits, so that many small commits
+/// The options of a session: those that hold if none are given, but merges after commits, so that many small commits
 /// leave few segments.
 fn options() -> Options {
-    Options {
-        workers: 1,
-        cut: Cut::Runs(MOST_BUILT),
-        merge: Merge::Policy,
-    }
+    let mut options = Options::default();
+    options.merge = Merge::Policy;
+    options
 }
 
 /// Puts a session into a place, or returns that memory was refused.

@@ -6,9 +6,10 @@ use Rattle.fts_engine.specs.declared.options.Options.{Options}
 use Rattle.fts_engine.specs.declared.options.Merge.{Merge}
 use Rattle.fts_engine.specs.declared.options.Merge.TheVariants.{Off, Policy}
 
--- one worker, segments of up to 65,536 documents, and no merges
+-- one worker, segments of up to 65,536 documents, and no merges; a tenth of a millisecond of work is worth a thread
 abbrev pub AreDefault : Options → Type 0
 AreDefault options = (options.workers ≡ 1) × (options.cut ≡ Runs most_built) × (options.merge ≡ Off)
+    × (options.worth_a_thread ≡ 100000)
 
 -- a policy, if merges go by one
 abbrev pub if_policy : {P : Type 0} → Merge → P → Option P

@@ -79,7 +79,8 @@ pub trait EngineOver<R: AllocGlobal + Sync>: Engine {
     /// Merges the segments of the last commit, and returns how many documents there are. It is refused as `TooLarge` if
     /// there are over 1,048,576. Uncommitted operations stay uncommitted.
     fn merge(&mut self, rt: &R) -> Result<u64, Refusal>
-        requires { Self.changes self.old ≤ 2 ^ 61 }
+        requires changes { Self.changes self.old ≤ 2 ^ 61 }
+        requires sync { IsSync R.row }
         ensures step { Steps (merge indexes (Self.index self.old)) (Self.index self.old)
             (Self.index self.new) result }
         ensures one { OnOk result (Self.segments self.new ≤ 1) }

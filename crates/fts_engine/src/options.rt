@@ -5,6 +5,9 @@ ghost use Rattle.fts_engine.specs.Limits.{is_cut};
 pub use fts_model::Cut;
 use fts_model::MOST_BUILT;
 
+/// For so many nanoseconds of one thread's work a further one is worth waking.
+const WORTH_A_THREAD: u64 = 100_000;
+
 /// How many workers build segments, and when segments end and merge.
 #[derive(Clone, Copy, Debug, Drop, PartialEq, Eq)]
 pub struct Options {
@@ -14,6 +17,9 @@ pub struct Options {
     pub cut: Cut,
     /// When segments are merged.
     pub merge: Merge,
+    /// A search takes a thread for each time this many nanoseconds of its estimated work, and at least one. 0 counts as
+    /// 1.
+    pub worth_a_thread: u64,
     ghost a_worker: { 1 ≤ workers },
     ghost few_workers: { workers ≤ 64 },
     ghost cut_in_range: { IsTrue (is_cut cut) },
@@ -34,6 +40,7 @@ impl Options {
     pub fn new(workers: usize, cut: Cut, merge: Merge) -> Option<Options>
         ensures some { IfSome result (λ options.
             (options.workers ≡ workers) × (options.cut ≡ cut) × (options.merge ≡ merge)) }
+        ensures worth { IfSome result (λ options. options.worth_a_thread ≡ 100000) }
         ensures none { IsNone result → IsTrue (is_cut cut) → 1 ≤ workers → workers ≤ 64 → ⊥ }
     {
         let cut_in_range = match cut {
@@ -45,6 +52,7 @@ impl Options {
                 workers,
                 cut,
                 merge,
+                worth_a_thread: WORTH_A_THREAD,
             })
         } else {
             None
@@ -63,6 +71,7 @@ impl Default for Options {
             workers: 1,
             cut: Cut::Runs(MOST_BUILT),
             merge: Merge::Off,
+            worth_a_thread: WORTH_A_THREAD,
         }
     }
 }

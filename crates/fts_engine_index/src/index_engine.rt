@@ -18,7 +18,7 @@ use fts_engine::{Engine, EngineOver, Merge, Options};
 use fts_index::{CommitSeen, Reader, SearchPool, Searcher, SegmentInfo, Writer};
 use fts_model::{Answer, Op, Query, Refusal, Request, Schema, Stamp};
 use fts_pool::{Open, Pool};
-use fts_snapshots::{MergePolicy, merge_all};
+use fts_snapshots::MergePolicy;
 use std::alloc::Global;
 use std::marker::Model;
 use std::sync::Wait;
@@ -262,14 +262,15 @@ impl<R: AllocGlobal + Threads + Wait + Sync + Lasting> EngineOver<R> for IndexEn
 
     fn merge(&mut self, rt: &R) -> Result<u64, Refusal> {
         self.calls += 1;
-        let live = merge_all(rt, self.alloc, &mut self.writer)?;
+        let (alloc, workers) = (self.alloc, self.options.workers);
+        let live = self.writer.merge_all(rt, alloc, workers, &Open)?;
         look(&self.writer, &mut self.reader);
         Ok(live)
     }
 
     fn search(&mut self, rt: &R, query: &Query, request: &Request) -> Result<Answer, Refusal> {
         let searcher = last_commit(&self.writer, &mut self.reader)?;
-        let workers = threads_for(self.options.workers, &searcher, query, request);
+        let workers = threads_for(self.options, &searcher, query, request);
         if workers == 1 {
             let found = searcher.search(rt, self.alloc, query, request, 1, &Open)?;
             return Ok(found.answer);

@@ -1,26 +1,25 @@
 // How many threads search the segments.
 ghost use Rattle.std.specs.Prelude.{◌≤◌};
 
+use fts_engine::Options;
 use fts_index::Searcher;
 use fts_model::{Query, Request};
 
-/// For so many nanoseconds of one thread's work a further one is worth waking.
-const WORTH_A_THREAD: u64 = 100_000;
-
-/// How many threads search the segments if this many are wanted. The answer is the same with any number.
+/// How many of the workers search the segments: as many as the estimated work is worth, and at least one. The answer is
+/// the same with any number.
 pub(crate) fn threads_for(
-    wanted: usize,
+    options: Options,
     searcher: &Searcher,
     query: &Query,
     request: &Request,
 ) -> usize
-    requires { 1 ≤ wanted }
     ensures some { 1 ≤ result }
-    ensures most { result ≤ wanted }
+    ensures most { result ≤ options.workers }
 {
+    let wanted = options.workers;
     if wanted == 1 {
         return 1;
     }
-    let worth = searcher.cost(query, request) / WORTH_A_THREAD;
+    let worth = searcher.cost(query, request) / options.worth_a_thread.max(1);
     wanted.min(worth.max(1) as usize)
 }

@@ -25,11 +25,7 @@ fn opened<R: AllocGlobal + Abort + Sync, E: EngineOver<R>>(rt: &R, merge: Merge)
     ensures { E.changes result ≡ 0 }
 {
     let schema = schema(rt.alloc()).expect(rt, "a schema");
-    let options = Options {
-        workers: 1,
-        cut: Cut::Runs(1),
-        merge,
-    };
+    let options = Options::new(1, Cut::Runs(1), merge).expect(rt, "options");
     E::open(rt, options, schema).expect(rt, "an index")
 }
 
