@@ -3,6 +3,7 @@
  *     FAIL_GROWTH=N    the Nth call for memory finds none
  *     COUNT=1          at the end the numbers of calls for memory and of reads are told on standard error
  *     THREADS=1        at the end the number of threads that were started is told there
+ *     FAIL_THREAD=N    the Nth thread isn't started, nor is a later one
  *     FAIL_READ=N      the Nth read of standard input fails with FAIL_ERRNO (5, an input or output error, without it)
  *     FAIL_WRITE=N     the Nth write to standard output fails so
  *     ZERO_WRITE=N     the Nth write to standard output takes no byte
@@ -16,11 +17,12 @@
 #include <stdlib.h>
 #include <unistd.h>
 
-static long growth_at, read_at, write_at, zero_at, error = EIO, growths, reads, writes, threads;
+static long growth_at, thread_at, read_at, write_at, zero_at, error = EIO, growths, tries, threads, reads, writes;
 static int is_ready, is_short;
 static void *(*next_malloc)(size_t);
 static void *(*next_realloc)(void *, size_t);
 static int (*next_memalign)(void **, size_t, size_t);
+static int (*next_create)(pthread_t *, const pthread_attr_t *, void *(*)(void *), void *);
 static ssize_t (*next_read)(int, void *, size_t);
 static ssize_t (*next_write)(int, const void *, size_t);
 
@@ -35,9 +37,11 @@ static void begin(void) {
     next_malloc = dlsym(RTLD_NEXT, "malloc");
     next_realloc = dlsym(RTLD_NEXT, "realloc");
     next_memalign = dlsym(RTLD_NEXT, "posix_memalign");
+    next_create = dlsym(RTLD_NEXT, "pthread_create");
     next_read = dlsym(RTLD_NEXT, "read");
     next_write = dlsym(RTLD_NEXT, "write");
     growth_at = number("FAIL_GROWTH");
+    thread_at = number("FAIL_THREAD");
     read_at = number("FAIL_READ");
     write_at = number("FAIL_WRITE");
     zero_at = number("ZERO_WRITE");
@@ -76,8 +80,12 @@ ssize_t write(int file, const void *from, size_t n) {
 }
 
 int pthread_create(pthread_t *thread, const pthread_attr_t *how, void *(*run)(void *), void *with) {
-    __atomic_add_fetch(&threads, 1, __ATOMIC_SEQ_CST);
-    return ((int (*)(pthread_t *, const pthread_attr_t *, void *(*)(void *), void *))dlsym(RTLD_NEXT, "pthread_create"))(thread, how, run, with);
+    begin();
+    long nth = __atomic_add_fetch(&tries, 1, __ATOMIC_SEQ_CST);
+    if (thread_at && nth >= thread_at) return EAGAIN;
+    int refused = next_create(thread, how, run, with);
+    if (!refused) __atomic_add_fetch(&threads, 1, __ATOMIC_SEQ_CST);
+    return refused;
 }
 
 __attribute__((destructor)) static void tell(void) {

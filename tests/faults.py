@@ -1,4 +1,4 @@
-"""Runs a program whose calls for memory, reads and writes fail as it is told (faults.c says how)."""
+"""Runs a program whose calls for memory and threads, reads and writes fail as it is told (faults.c says how)."""
 import contextlib
 import os
 import pathlib
@@ -18,19 +18,21 @@ def compiler():
 def shim():
     """Gives the path of faults.c, compiled to be called in place of the C library."""
     with tempfile.TemporaryDirectory() as folder:
+        # Another user may read it.
+        os.chmod(folder, 0o755)
         made = f"{folder}/faults.so"
         subprocess.run([compiler(), "-shared", "-fPIC", "-O1", "-o", made, HERE / "faults.c", "-ldl"], check=True)
         yield made
 
 
-def run(path, command, script=b"", **faults):
-    """Returns the status, the output and the words on standard error of a run."""
+def run(path, command, script=b"", before=None, **faults):
+    """Returns the status, the output and the words on standard error of a run, before which its process calls a function."""
     env = {**os.environ, "LD_PRELOAD": path, **{name: str(value) for name, value in faults.items()}}
     # A file, since a pipe gives a read no more than was written so far.
     with tempfile.TemporaryFile() as given:
         given.write(script)
         given.seek(0)
-        done = subprocess.run(command, stdin=given, capture_output=True, env=env)
+        done = subprocess.run(command, stdin=given, capture_output=True, env=env, preexec_fn=before)
     return done.returncode, done.stdout, done.stderr
 
 

@@ -1,18 +1,20 @@
 #!/usr/bin/env python3
 """Tests of the built program that no case can be: what it says of a fault and of wrong arguments, help that can't be written, an
-input of no byte, the limits of lanes and merges, whose scripts have a million lines, and searches that start threads.
+input of no byte, the limits of lanes and merges, whose scripts have a million lines, and searches that start threads or can't.
 
     python3 tests/program.py
 
-Build fts and fts_list first, or name them (tests/built.py). What needs a C compiler is skipped, and counted, if there is none. The last
-lines are 'N skipped', if any, and 'N passed, M failed'.
+Build fts and fts_list first, or name them (tests/built.py). What needs a C compiler, or another user, is skipped, and counted, if there
+is none. The last lines are 'N skipped', if any, and 'N passed, M failed'.
 """
 from __future__ import annotations
 
+import functools
 import itertools
 import json
 import os
 import pathlib
+import pwd
 import resource
 import subprocess
 import sys
@@ -149,8 +151,9 @@ def many_documents() -> list[str]:
     return list(map(json.dumps, [*lines, *({"add": each} for each in adds[: MANY // 7 + 1]), {"commit": True}]))
 
 
-def searches_by_threads() -> None:
-    """Searches of many documents: the replies are those of the plain list. The first that takes long starts threads for all that do."""
+@functools.cache
+def scripts_of_searches() -> list[bytes]:
+    """Scripts of many documents: one without a search, one with searches that end soon, and one with these and some that take long."""
     soon = [{"query": "*"}, {"query": "w7", "groups": "tag"}, {"query": "price:[5 TO 50]"}, {"query": "tag:t6"}]
     tops = [{"by": "price", "k": k, "order": order} for k, order in ((10, "falling"), (1_000, "rising"))]
     long = [{"query": "*", "groups": "price"}, {"query": '"b a a"', "top": tops[0]}, {"query": "+a -tag:t1", "groups": "tag", "top": tops[1]}]
@@ -159,6 +162,17 @@ def searches_by_threads() -> None:
     for searches in ([], soon, long):
         lines += [json.dumps({"search": search}) for search in searches]
         scripts.append("\n".join(lines).encode() + b"\n")
+    return scripts
+
+
+def started(shim: str, words: list[str], script: bytes) -> int:
+    """How many threads a run starts."""
+    return int(faults.run(shim, words, script, THREADS=1)[2].split()[-1])
+
+
+def searches_by_threads() -> None:
+    """Searches of many documents: the replies are those of the plain list. The first that takes long starts threads for all that do."""
+    scripts = scripts_of_searches()
     wanted = subprocess.run([PLAIN], input=scripts[-1], capture_output=True).stdout
     by = [[PROGRAM, "run", "--runs", cut, "--workers", workers] for cut, workers in (("65536", "1"), ("65536", "3"), ("20000", "64"))]
     for words in by:
@@ -169,12 +183,44 @@ def searches_by_threads() -> None:
         return
     with faults.shim() as shim:
         # A commit starts threads too, so the script without its searches is looked at as well.
-        alone, (before, cheap, dear) = ([int(faults.run(shim, words, script, THREADS=1)[2].split()[-1]) for script in scripts] for words in by[:2])
+        alone, (before, cheap, dear) = ([started(shim, words, script) for script in scripts] for words in by[:2])
     check("threads of searches", alone == [0, 0, 0] and before == cheap and dear - cheap in (1, 2), (alone, before, cheap, dear))
 
 
+def without_threads() -> None:
+    """Lets this process start no thread. No limit holds for root, who becomes another user first."""
+    if os.geteuid() == 0:
+        user = pwd.getpwnam("nobody")
+        os.setgroups([])
+        os.setgid(user.pw_gid)
+        os.setuid(user.pw_uid)
+    resource.setrlimit(resource.RLIMIT_NPROC, (0, 0))
+
+
+def refused_threads() -> None:
+    """Searches that are worth threads, where none is started, or not all that are wanted: the replies are those of one worker."""
+    none, _, script = scripts_of_searches()
+    alone, by_four = ([PROGRAM, "run", "--runs", "20000", "--workers", workers] for workers in ("1", "4"))
+    wanted = subprocess.run(alone, input=script, capture_output=True).stdout
+    if not faults.compiler():
+        skip("refused threads", "there is no C compiler", 4)
+        return
+    with faults.shim() as shim:
+        # A commit starts threads too.
+        before = started(shim, by_four, none)
+        for first in (1, before + 1, before + 2):
+            status, out, told = faults.run(shim, by_four, script, THREADS=1, FAIL_THREAD=first)
+            check(f"refused from the thread {first} on", (status, out, int(told)) == (0, wanted, first - 1), (status, out[-400:], told))
+        try:
+            status, out, told = faults.run(shim, by_four, script, without_threads, THREADS=1)
+        except (OSError, subprocess.SubprocessError) as error:
+            skip("threads beyond a limit", f"no other user may run the program ({error})")
+            return
+        check("threads beyond a limit", (status, out, int(told)) == (0, wanted, 0), (status, out[-400:], told))
+
+
 def main() -> int:
-    for test in (said_of_faults, refused_arguments, unwritable, of_no_byte, limits, searches_by_threads):
+    for test in (said_of_faults, refused_arguments, unwritable, of_no_byte, limits, searches_by_threads, refused_threads):
         test()
     return counts.end()
 
