@@ -31,7 +31,7 @@ pub(crate) struct Dictionary {
 
 impl Dictionary {
     ghost use Rattle.std.specs.Prelude.{◌≡◌, ◌<◌, ◌≤◌, ◌^◌, [], ℕ, All, Some, IfOk, false, MatchOption};
-    ghost use Rattle.std.specs.Prelude.{length, slice_get, slice_index_or};
+    ghost use Rattle.std.specs.Prelude.{length, option_copied, slice_get, slice_index_or};
     ghost use Rattle.fts_segment.specs.Occurrences.{values_in};
     ghost use Rattle.fts_segment.specs.Sources.{contents, live_count};
     ghost use Rattle.fts_segment.specs.Sorted.{Ascends};
@@ -79,6 +79,17 @@ impl Dictionary {
             start: self.lists.start(number),
             end: self.lists.start(number + 1),
         })
+    }
+
+    /// The name of this number, if there is one.
+    pub(crate) fn name(&self, number: usize) -> Option<&[u8]>
+        ensures { option_copied result ≡ slice_get self.now.names number }
+    {
+        if number < self.names.len() {
+            Some(self.names.get(number))
+        } else {
+            None
+        }
     }
 
     /// A document that has the keyword of an ordinal.

@@ -203,12 +203,25 @@ impl Segment {
             .dictionary(stored.schema.kind(field))
     }
 
-    /// The keyword of an ordinal, borrowed from a document that has it; none past the last ordinal.
+    /// The keyword of an ordinal; none past the last ordinal.
     pub fn keyword(&self, field: usize, ordinal: u64) -> Option<&str>
         requires { kind_at self.now.schema field ≡ Some kinds.Keyword }
         ensures { option_copied result ≡ slice_get (keywords self.now field) ordinal }
     {
-        let doc = self.dictionary(field).document_with(ordinal as usize)?;
+        let name = self.dictionary(field).name(ordinal as usize)?;
+        match str::from_utf8(name) {
+            Ok(keyword) => Some(keyword),
+            // A name is bytes to contracts, so they can't rule this out.
+            Err(_) => self.keyword_of_document(field, ordinal as usize),
+        }
+    }
+
+    /// The keyword of an ordinal, borrowed from a document that has it; none past the last ordinal.
+    fn keyword_of_document(&self, field: usize, ordinal: usize) -> Option<&str>
+        requires { kind_at self.now.schema field ≡ Some kinds.Keyword }
+        ensures { option_copied result ≡ slice_get (keywords self.now field) ordinal }
+    {
+        let doc = self.dictionary(field).document_with(ordinal)?;
         text_of(self.document(doc as usize).value(field)?)
     }
 
