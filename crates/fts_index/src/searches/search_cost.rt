@@ -1,9 +1,7 @@
 // How long one thread takes for a search: an estimate, of which no contract speaks.
 //
 // The query's terms are looked up in the segment with the most documents, and the others are taken to be like it. The
-// constants are picoseconds, measured when cursors went document by document. Since then what filters others tests up
-// to 128 documents at once, and columns are compared by words beside bits (docs/DECISIONS.md), so most musts and
-// must-nots are taken to be dearer than they are.
+// constants are picoseconds; docs/DECISIONS.md says how near the estimates come to what searches take.
 ghost use Rattle.std.specs.Prelude.{◌≡◌, Some};
 ghost use Rattle.fts_model.specs.Operations.{kind_at};
 ghost use Rattle.fts_model.specs.declared.schema.Kind.TheVariants as kinds;
@@ -18,36 +16,44 @@ use std::ops::Bound;
 /// To make a cursor and join a part.
 const SEGMENT: u64 = 1_000_000;
 
+/// To look a term up, and to open its list.
+const TERM: u64 = 1_000_000;
+
 /// To unpack a document of a list.
 const UNPACK: u64 = 800;
 
 /// To combine the bit of a document.
-const COMBINE: u64 = 100;
+const COMBINE: u64 = 50;
 
 /// To test a document by the bits of a list, or for a range that few documents are in.
-const TEST_BIT: u64 = 2_000;
+const TEST_BIT: u64 = 3_000;
 
 /// To test a document by a list without bits.
 const TEST_LIST: u64 = 40_000;
 
 /// To compare a document's number, if those of all documents are compared.
-const COMPARE: u64 = 500;
+const COMPARE: u64 = 750;
 
 /// To take a document within a range.
 const WITHIN: u64 = 5_000;
 
-/// To test a document for a range by a cursor, if the document isn't near the last. A set that filters others compares
-/// one number, which takes less.
-const TEST_RANGE: u64 = 150_000;
+/// To look a document's number up, and to compare it.
+const TEST_RANGE: u64 = 25_000;
 
 /// To look for a phrase's terms in a document of its rarest.
-const TERMS: u64 = 40_000;
+const TERMS: u64 = 15_000;
 
 /// To compare the positions of a phrase's terms in a document that has all.
-const POSITIONS: u64 = 500_000;
+const POSITIONS: u64 = 80_000;
 
 /// To count a hit in its group.
-const GROUP: u64 = 3_000;
+const GROUP: u64 = 2_000;
+
+/// To look at a hit's number for a top list.
+const LOOK: u64 = 1_000;
+
+/// To find that a document's number is none of the best by those of its block.
+const LOOK_AT_ALL: u64 = 150;
 
 /// To offer a hit to a top list.
 const OFFER: u64 = 30_000;
@@ -73,7 +79,7 @@ fn documents_with_text(segment: &Segment, field: usize, text: &Text) -> u64 {
 fn of_term(segment: &Segment, term: &Term) -> Findings {
     let docs = segment.docs() as u64;
     let hits = documents_with(segment, term);
-    let work = hits.saturating_mul(UNPACK);
+    let work = hits.saturating_mul(UNPACK).saturating_add(TERM);
     if hits < docs / 64 {
         return Findings {
             hits,
@@ -86,7 +92,7 @@ fn of_term(segment: &Segment, term: &Term) -> Findings {
         hits,
         work,
         test: TEST_BIT,
-        bits: Some(docs.saturating_mul(COMBINE)),
+        bits: Some(docs.saturating_mul(COMBINE).saturating_add(TERM)),
     }
 }
 
@@ -96,15 +102,20 @@ fn of_phrase(segment: &Segment, field: usize, pattern: &[(u32, Text)]) -> Findin
     let mut rarest = docs;
     // How many documents have all terms, if these are independent.
     let mut all = docs;
+    let mut lookups = 0u64;
     for (_, text) in pattern {
         let hits = documents_with_text(segment, field, text);
+        lookups = lookups.saturating_add(TERM);
         rarest = rarest.min(hits);
         all = all.saturating_mul(hits) / docs.max(1);
     }
     let positions = all.saturating_mul(POSITIONS);
     Findings {
         hits: rarest,
-        work: rarest.saturating_mul(TERMS).saturating_add(positions),
+        work: rarest
+            .saturating_mul(TERMS)
+            .saturating_add(positions)
+            .saturating_add(lookups),
         test: TERMS.saturating_add(positions / docs.max(1)),
         bits: None,
     }
@@ -160,7 +171,8 @@ fn documents_within(
     segment.documents_between(field, low, high) as u64
 }
 
-/// What a range finds. If it finds few, lists are read and no column, unless it is a must-not.
+/// What a range finds. If it finds few, lists are read and no column, unless it is a must-not. Beside others, the column
+/// is compared into bits.
 fn of_range(
     segment: &Segment,
     field: usize,
@@ -178,11 +190,12 @@ fn of_range(
             bits: None,
         };
     }
+    let compare = docs.saturating_mul(COMPARE);
     Findings {
         hits,
-        work: docs.saturating_mul(COMPARE).saturating_add(take),
+        work: compare.saturating_add(take),
         test: TEST_RANGE,
-        bits: None,
+        bits: Some(compare),
     }
 }
 
@@ -233,9 +246,13 @@ fn of_some(segment: &Segment, queries: &[Query]) -> Findings {
     let Some((first, others)) = queries.split_first() else {
         return of_any_document(0);
     };
-    let mut found = findings(segment, first);
+    let only = findings(segment, first);
+    if others.is_empty() {
+        return only;
+    }
+    let mut found = only.marked();
     for query in others {
-        found = found.or(findings(segment, query));
+        found = found.or(findings(segment, query).marked());
     }
     found
 }
@@ -268,7 +285,11 @@ fn of_request(hits: u64, docs: u64, request: &Request) -> u64 {
     };
     let top = match request.top {
         None => 0,
-        Some(top) => offered(hits, docs, top.k).saturating_mul(OFFER),
+        Some(top) => {
+            let look = if hits == docs { LOOK_AT_ALL } else { LOOK };
+            let offers = offered(hits, docs, top.k).saturating_mul(OFFER);
+            hits.saturating_mul(look).saturating_add(offers)
+        }
     };
     groups.saturating_add(top)
 }
