@@ -12,7 +12,7 @@ the goals, and which fall short. With --instructions it runs `fts run` and the l
 instructions a search, which other work on the machine doesn't change. With --picture it draws the times as an SVG.
 
 With --before it compares two builds of `fts` alone, by turns: the one above and an earlier one. Its table ends with how many times as long a search
-of each kind takes as before.
+of each kind takes as before: the median of the passes, whose order is turned around each time, since a processor's speed changes from second to second.
 
 bench/report.py writes the same into docs/MEASURED.md. bench/corpus.py describes the documents, bench/searches.py the searches.
 """
@@ -42,19 +42,24 @@ class Comparison:
     def __init__(self, asked: Sequence[Index], drawn: dict[str, list[Search]]) -> None:
         self.asked, self.drawn = asked, drawn
         self.micros: dict[str, dict[str, float]] = {kind: {} for kind in drawn}
+        # The same of each pass.
+        self.passes: dict[str, list[dict[str, float]]] = {kind: [] for kind in drawn}
         self.answers: dict[str, list[str]] = {}
         self.compared = 0
 
     def one_pass(self) -> None:
         for kind, given in self.drawn.items():
-            for index in self.asked:
+            times: dict[str, float] = {}
+            for index in [*self.asked][::-1 if len(self.passes[kind]) % 2 else 1]:
                 before = self.micros[kind].get(index.name)
                 is_long = before is not None and before * len(given) > LONG * 1e6
                 if is_long or given[0].form in index.lacks:
                     continue
                 answers, micros = index.ask(given)
                 self.compare(kind, index, answers)
-                self.micros[kind][index.name] = min(micros / len(given), before or float("inf"))
+                times[index.name] = micros / len(given)
+                self.micros[kind][index.name] = min(times[index.name], before or float("inf"))
+            self.passes[kind].append(times)
 
     def compare(self, kind: str, index: Index, answers: list[str]) -> None:
         """Every answer, but not the count of a top list if the program tells none."""
@@ -76,21 +81,17 @@ def compared(asked: Sequence[Index], drawn: dict[str, list[Search]], passes: int
     return comparison
 
 
-def measure(count: int = 100_000, each: int = 200, names: Sequence[str] = indexes.NAMES, before: pathlib.Path | None = None,
-            passes: int = PASSES) -> dict[str, Any]:
-    """The raw results, which `floor_table` shows: microseconds a search by condition, kind and program, and what is told beside. With an earlier
-    build of `fts`, it is asked beside the others."""
+def measure(count: int = 100_000, each: int = 200, names: Sequence[str] = indexes.NAMES) -> dict[str, Any]:
+    """The raw results, which `floor_table` shows: microseconds a search by condition, kind and program, and what is told beside."""
     documents = list(corpus.documents(count))
     prices, numbers = corpus.doomed(documents)
     drawn = searches.drawn(count, each)
     with tempfile.TemporaryDirectory(dir=indexes.SHARED) as folder:
         asked, left_out = indexes.gathered(documents, folder, names)
-        if before:
-            asked.append(indexes.Fts(documents, name=indexes.BEFORE, program=before))
-        live = compared(asked, drawn, passes)
+        live = compared(asked, drawn, PASSES)
         for index in asked:
             index.delete(prices, numbers)
-        deleted = compared(asked, drawn, passes)
+        deleted = compared(asked, drawn, PASSES)
         for index in asked:
             index.end()
     return {
@@ -99,6 +100,21 @@ def measure(count: int = 100_000, each: int = 200, names: Sequence[str] = indexe
         "built": next((index.built for index in asked if isinstance(index, indexes.Fts)), None),
         "live": live.micros, "deleted": deleted.micros,
     }
+
+
+def beside(before: pathlib.Path, count: int, each: int, passes: int) -> str:
+    """The table of two builds of `fts`."""
+    documents = list(corpus.documents(count))
+    prices, numbers = corpus.doomed(documents)
+    drawn = searches.drawn(count, each)
+    asked = [indexes.Fts(documents), indexes.Fts(documents, name=indexes.BEFORE, program=before)]
+    found = {"live": compared(asked, drawn, passes).passes}
+    for index in asked:
+        index.delete(prices, numbers)
+    found["deleted"] = compared(asked, drawn, passes).passes
+    for index in asked:
+        index.end()
+    return beside_before(found)
 
 
 def main() -> None:
@@ -112,7 +128,7 @@ def main() -> None:
     arguments.add_argument("--passes", type=int, default=PASSES)
     given = arguments.parse_args()
     if given.before:
-        print(beside_before(measure(given.documents, given.searches, (indexes.FTS,), given.before, given.passes)))
+        print(beside(given.before, given.documents, given.searches, given.passes))
         return
     if given.instructions:
         print(floor_instructions.shown(floor_instructions.measure(given.documents, given.searches)))

@@ -142,12 +142,16 @@ def shown(raw: dict[str, Any]) -> str:
     return "\n\n".join(parts)
 
 
-def beside_before(raw: dict[str, Any]) -> str:
-    """A table of the times of two builds and their ratios, with a row of the ratios' geometric mean for each condition."""
+def beside_before(passes: dict[str, dict[str, list[dict[str, float]]]]) -> str:
+    """A table of the least times of two builds and of the medians of their ratios, with the geometric mean of these for each condition. It is made
+    of the times of each pass, by condition and kind."""
     rows = []
     for condition, heading in HEADINGS.items():
-        ratios = {kind: row[FTS] / row[BEFORE] for kind, row in raw[condition].items()}
-        rows += [[heading, kind, number(row[BEFORE]), number(row[FTS]), f"{ratios[kind]:.3f}"] for kind, row in raw[condition].items()]
+        both = {kind: [times for times in each if {FTS, BEFORE} <= times.keys()] for kind, each in passes[condition].items()}
+        ratios = {kind: statistics.median(times[FTS] / times[BEFORE] for times in each) for kind, each in both.items()}
+        for kind, each in both.items():
+            least = {name: min(times[name] for times in each) for name in (BEFORE, FTS)}
+            rows.append([heading, kind, number(least[BEFORE]), number(least[FTS]), f"{ratios[kind]:.3f}"])
         rows.append([heading, "all kinds", "–", "–", f"{statistics.geometric_mean(ratios.values()):.3f}"])
     return table(["", "microseconds a search", "before", "now", "times"], rows)
 
