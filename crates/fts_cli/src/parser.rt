@@ -58,7 +58,7 @@ fn run<'a>(alloc: Global) -> Result<Command<'a>, AllocError>
         "workers",
         "N",
         ValueParser::Unsigned(1, 64),
-        "How many threads commit and search, 1 to 64 [default: 1]",
+        "How many threads commit, merge and search, 1 to 64 [default: 1]",
     );
     let runs = option(
         alloc,
