@@ -9,6 +9,7 @@ use Rattle.fts_model.specs.declared.operation.Op.{Op}
 use Rattle.fts_model.specs.declared.operation.Op.TheVariants.{Add, Delete, DeleteAll}
 use Rattle.fts_model.specs.declared.operation.Stamped.{Stamped}
 use Rattle.fts_model.specs.Documents.{DocumentValue}
+use Rattle.fts_segment.specs.Segments.{BuilderValue}
 use Rattle.fts_model.specs.Operations.{alive, adds, added, added_by, survives, strikes_later, StampsRise}
 use Rattle.fts_model.proofs.OperationsByStamps.{alive-survives, All-added, added-adds}
 use Rattle.fts_snapshots.specs.Order.{in_stamp_order}
@@ -16,6 +17,7 @@ use Rattle.fts_snapshots.specs.Entries.{EntryValue, live_in, content}
 use Rattle.fts_model.specs.declared.cut.Cut.{Cut}
 use Rattle.fts_snapshots.specs.Cuts.{groups_of}
 use Rattle.fts_snapshots.specs.Commits.{struck, fresh, fresh_from, committed}
+use Rattle.fts_snapshots.specs.Groups.{built_from, documents_in}
 use Rattle.fts_snapshots.proofs.OrderLemmas.{ByStamp, rises_from_pairs, pairs_from_rises, permutation_in_order, in_stamp_order-permutation}
 use Rattle.fts_snapshots.proofs.OrderLemmas.{in_stamp_order-rises, filter-in_stamp_order}
 use Rattle.fts_snapshots.proofs.EntryLemmas.{joined, entry_with, live_in-filter, live_in-struck, live_in-fresh}
@@ -96,26 +98,25 @@ content-committed cut schema batch id es a rise =
     ∙ ap (filter (survives schema history)) (sym (added-adds (content es) batch))
     ∙ sym (alive-survives schema history rise)
 
+map_agree : {X Y : Type 0} (f g : X → Y) → ((x : X) → f x ≡ g x) → (xs : List X) → map f xs ≡ map g xs
+map_agree f g same [] = refl
+map_agree f g same (x ∷ xs) = ap (λ y. y ∷ map f xs) (same x) ∙ ap (λ ys. g x ∷ ys) (map_agree f g same xs)
+
 -- operations that delete the same documents leave the same segments
-pub same_after : (schema : List Field) (ops batch : List (Stamped Op)) →
-    ((s : List Field) (d : Stamped DocumentValue) → survives s ops d ≡ survives s batch d) →
-    (es : List EntryValue) (id : ℕ) (groups : List (List (Stamped DocumentValue))) →
-    map (struck ops) es ++ fresh_from schema ops id groups ≡ map (struck batch) es ++ fresh_from schema batch id groups
-same_after schema ops batch same es id groups = ap (λ fs. fs ++ fresh_from schema ops id groups) (same_struck es)
-    ∙ ap (λ fs. map (struck batch) es ++ fs) (same_fresh id groups) where
-      same_struck : (es : List EntryValue) → map (struck ops) es ≡ map (struck batch) es
-      same_struck [] = refl
-      same_struck (e ∷ es) =
-          ap (λ bits. entry_with e.id e.segment bits ∷ map (struck ops) es) (bits_where-same (survives e.segment.schema ops) (survives e.segment.schema batch)
-          (same e.segment.schema) e.segment.documents e.live)
-          ∙ ap (λ fs. struck batch e ∷ fs) (same_struck es)
+pub same_struck : (ops batch : List (Stamped Op)) → ((s : List Field) (d : Stamped DocumentValue) → survives s ops d ≡ survives s batch d) →
+    (es : List EntryValue) → map (struck ops) es ≡ map (struck batch) es
+same_struck ops batch same es =
+    map_agree (struck ops) (struck batch) (λ e. ap (entry_with e.id e.segment) (bits_where-same (survives e.segment.schema ops) (survives e.segment.schema batch)
+    (same e.segment.schema) e.segment.documents e.live)) es
 
-      same_bits : (ds : List (Stamped DocumentValue)) → map (survives schema ops) ds ≡ map (survives schema batch) ds
-      same_bits [] = refl
-      same_bits (d ∷ ds) = ap (λ b. b ∷ map (survives schema ops) ds) (same schema d) ∙ ap (λ bs. survives schema batch d ∷ bs) (same_bits ds)
-
-      same_fresh : (id : ℕ) (groups : List (List (Stamped DocumentValue))) → fresh_from schema ops id groups ≡ fresh_from schema batch id groups
-      same_fresh id [] = refl
-      same_fresh id (ds ∷ groups) =
-          ap (λ bits. entry_with id (record { schema = schema; documents = ds }) bits ∷ fresh_from schema ops (id + 1) groups) (same_bits ds)
-          ∙ ap (λ fs. fresh schema batch id ds ∷ fs) (same_fresh (id + 1) groups)
+-- the new segments of builders are those of their documents
+pub same_built : (schema : List Field) (ops batch : List (Stamped Op)) → ((s : List Field) (d : Stamped DocumentValue) → survives s ops d ≡ survives s batch d) →
+    (id : ℕ) (bs : List BuilderValue) → AllByRecursion (λ b. (b.segment.schema ≡ schema) × (b.merging ≡ false)) bs →
+    built_from ops id bs ≡ fresh_from schema batch id (documents_in bs)
+same_built schema ops batch same id [] a = refl
+same_built schema ops batch same id (b ∷ bs) a =
+    let ds = b.segment.documents in
+    ap (λ s. fresh s ops id ds ∷ built_from ops (id + 1) bs) a.0.0
+    ∙ ap (λ bits. entry_with id (record { schema = schema; documents = ds }) bits ∷ built_from ops (id + 1) bs)
+    (map_agree (survives schema ops) (survives schema batch) (same schema) ds)
+    ∙ ap (λ es. fresh schema batch id ds ∷ es) (same_built schema ops batch same (id + 1) bs a.1)

@@ -1,13 +1,13 @@
 -- The numbers of segments and ids that commits and merges use, and that they are refused only for memory.
-use Rattle.std.proofs.Common.{◌≡◌, ◌+◌, ◌*◌, ◌^◌, ◌<◌, ◌≤◌, ◌≢◌, ◌==◌, ◌||◌, ◌⊎◌, inl, inr, ℕ, zero, suc, Bool, true, false, cond, not, Option, None, Some, Err}
-use Rattle.std.proofs.Common.{List, [], ◌∷◌, ◌++◌, length, map, filter, sum_by, nat_lt, refl, sym, ap, subst, ◌∙◌, arith}
+use Rattle.std.proofs.Common.{◌≡◌, ◌+◌, ◌*◌, ◌^◌, ◌<◌, ◌≤◌, ◌≢◌, ◌↔◌, ◌==◌, ◌||◌, ◌⊎◌, inl, inr, ℕ, zero, suc, Bool, true, false, cond, not, Option, None, Some, Err}
+use Rattle.std.proofs.Common.{List, [], ◌∷◌, ◌++◌, Result, Ok, IfErr, IsOkUnless, length, get_or, map, filter, sum_by, nat_lt, refl, sym, ap, subst, ◌∙◌, arith}
 use Rattle.std.specs.List.{AllByRecursion, flat_map}
 use Rattle.std.proofs.lemmas.Bool.Decides.{nat_tests}
 use Rattle.std.proofs.lemmas.List.{length-append, length-map}
 use Rattle.std.proofs.lemmas.List.Sorted.{length_permutation}
 use Rattle.std.proofs.lemmas.List.Sums.{length-filter, count_by-le-length}
 use Rattle.fts_base.specs.declared.refusal.Refusal.{Refusal}
-use Rattle.fts_base.specs.declared.refusal.Refusal.TheVariants.{Memory, TooLarge, StampsUsedUp, OtherSchema, UnknownSegment, SegmentTwice}
+use Rattle.fts_base.specs.declared.refusal.Refusal.TheVariants.{Memory, TooLarge, StampsUsedUp, OtherSchema, SegmentFull, UnknownSegment, SegmentTwice}
 use Rattle.fts_base.specs.Results.{first_of, ok_unless}
 use Rattle.fts_model.specs.declared.cut.Cut.{Cut}
 use Rattle.fts_model.specs.declared.operation.Op.{Op}
@@ -15,6 +15,7 @@ use Rattle.fts_model.specs.declared.operation.Stamped.{Stamped}
 use Rattle.fts_model.specs.declared.schema.Field.{Field}
 use Rattle.fts_model.specs.Documents.{DocumentValue}
 use Rattle.fts_model.specs.Operations.{added, op_fits}
+use Rattle.fts_segment.specs.Segments.{BuilderValue}
 use Rattle.fts_snapshots.specs.Commits.{struck, fresh_from, all_after, committed, misfit, new_segments, numbers_fault}
 use Rattle.fts_snapshots.specs.Cuts.{put_into, dealt_from, groups_of, place_of}
 use Rattle.fts_snapshots.specs.Entries.{EntryValue, live_in, live_count, has_live, content}
@@ -48,6 +49,24 @@ misfit-push schema (o ∷ ops) op h fit =
     elim (op_fits schema o.value) as (λ b. cond b (misfit schema ops) (Some (OtherSchema o.stamp)) ≡ None → cond b (misfit schema (ops ++ op ∷ []))
     (Some (OtherSchema o.stamp)) ≡ None)
     [ true ↦ λ k. misfit-push schema ops op k fit | false ↦ λ k. k ] h
+
+none_chosen : {X : Type 0} (b : Bool) (o : Option X) (x : X) → cond b o (Some x) ≡ None → (b ≡ true) × (o ≡ None)
+none_chosen true o x h = (refl, h)
+none_chosen false o x h = cc
+
+-- if operations fit, each does
+pub fits_there : (schema : List Field) (ops : List (Stamped Op)) (i : ℕ) (op : Stamped Op) → misfit schema ops ≡ None → i < length ops → op ≡ get_or ops i op →
+    op_fits schema op.value ≡ true
+fits_there schema [] i op h l e = absurd (omega (arith, l))
+fits_there schema (o ∷ ops) zero op h l e = ap (λ (p : Stamped Op). op_fits schema p.value) e ∙ (none_chosen _ _ (OtherSchema o.stamp) h).0
+fits_there schema (o ∷ ops) (suc i) op h l e = fits_there schema ops i op (none_chosen _ _ (OtherSchema o.stamp) h).1 (omega (arith, l)) e
+
+-- a builder that isn't full takes a document, or memory runs out
+pub never_full : {X : Type 0} (r : Result X Refusal) (b : BuilderValue) →
+    ((r ≡ Err SegmentFull) ↔ ((b.merging ≡ false) × (65536 ≤ length b.segment.documents))) → length b.segment.documents < 65536 →
+    IfErr r (λ e. e ≢ SegmentFull → e ≡ Memory) → IsOkUnless r Memory
+never_full (Ok x) b full few other = tt
+never_full (Err e) b full few other = other (λ same. omega (arith, few, (full.0 (ap Err same)).1))
 
 length-put_into : {X : Type 0} (k : ℕ) (x : X) (gs : List (List X)) → length (put_into k x gs) ≤ length gs + 1
 length-put_into k x [] = omega arith

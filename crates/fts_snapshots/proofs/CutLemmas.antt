@@ -9,8 +9,12 @@ use Rattle.std.proofs.lemmas.List.{append-nil, length-append, length-take-le, ta
 use Rattle.std.proofs.lemmas.List.Sorted.{IsPermutation-refl, IsPermutation-trans, IsPermutation-to_front, IsPermutation-append_left}
 use Rattle.std.proofs.lemmas.List.Sorted.{IsPermutation-append_right}
 use Rattle.fts_model.specs.declared.cut.Cut.{Cut}
+use Rattle.fts_model.specs.declared.operation.Stamped.{Stamped}
+use Rattle.fts_model.specs.Documents.{DocumentValue}
 use Rattle.fts_model.specs.declared.cut.Cut.TheVariants.{Runs, Deal}
+use Rattle.fts_segment.specs.Segments.{BuilderValue, with_document}
 use Rattle.fts_snapshots.specs.Cuts.{IsCut, place_of, put_into, dealt_from, groups_of}
+use Rattle.fts_snapshots.specs.Groups.{documents_in}
 use Rattle.fts_snapshots.proofs.OrderLemmas.{All-joined, All-weaker_by}
 use Rattle.fts_snapshots.proofs.EntryLemmas.{joined}
 
@@ -195,25 +199,27 @@ groups_within (Runs n) xs h =
     All-weaker_by (λ g. length g ≤ n) (λ g. length g ≤ 65536) (λ g l. omega (arith, l, h.1)) (groups_of (Runs n) xs) (within_capacity 1 n xs (omega arith) h.0)
 groups_within (Deal m) xs h = within_capacity m 65536 xs h.0 (omega arith)
 
--- a member is added to an existing group
-pub put_there : {X : Type 0} (gs : List (List X)) (at : ℕ) (x : X) (g h : List X) → at < length gs → g ≡ get_or gs at g → h ≡ g ++ x ∷ [] →
-    set gs at h ≡ put_into at x gs
-put_there [] at x g h l e k = absurd (omega (arith, l))
-put_there (v ∷ gs) zero x g h l e k = ap (λ ys. ys ∷ gs) (k ∙ ap (λ w. w ++ x ∷ []) e)
-put_there (v ∷ gs) (suc at) x g h l e k = ap (λ ys. v ∷ ys) (put_there gs at x g h (omega (arith, l)) e k)
+-- a document is added to an existing builder
+pub put_there : (bs : List BuilderValue) (at : ℕ) (x : Stamped DocumentValue) (b : BuilderValue) → at < length bs → b ≡ get_or bs at b →
+    documents_in (set bs at (record b { segment = with_document b.segment x.stamp x.value })) ≡ put_into at x (documents_in bs)
+put_there [] at x b l e = absurd (omega (arith, l))
+put_there (c ∷ bs) zero x b l e = ap (λ (d : BuilderValue). (d.segment.documents ++ x ∷ []) ∷ documents_in bs) e
+put_there (c ∷ bs) (suc at) x b l e = ap (λ gs. c.segment.documents ∷ gs) (put_there bs at x b (omega (arith, l)) e)
 
--- a member is added to a new group
-pub put_beyond : {X : Type 0} (gs : List (List X)) (at : ℕ) (x : X) → length gs ≤ at → gs ++ (x ∷ []) ∷ [] ≡ put_into at x gs
-put_beyond [] at x l = refl
-put_beyond (v ∷ gs) zero x l = absurd (omega (arith, l))
-put_beyond (v ∷ gs) (suc at) x l = ap (λ ys. v ∷ ys) (put_beyond gs at x (omega (arith, l)))
+-- a document is added to a new builder
+pub put_beyond : (bs : List BuilderValue) (at : ℕ) (x : Stamped DocumentValue) (b : BuilderValue) → length bs ≤ at → b.segment.documents ≡ x ∷ [] →
+    documents_in (bs ++ b ∷ []) ≡ put_into at x (documents_in bs)
+put_beyond [] at x b l e = ap (λ g. g ∷ []) e
+put_beyond (c ∷ bs) zero x b l e = absurd (omega (arith, l))
+put_beyond (c ∷ bs) (suc at) x b l e = ap (λ gs. c.segment.documents ∷ gs) (put_beyond bs at x b (omega (arith, l)) e)
 
--- a group has a place left, if it has one more member within the limit
-pub room_there : {X : Type 0} (most : ℕ) (gs : List (List X)) (at : ℕ) (x : X) (g : List X) → at < length gs → g ≡ get_or gs at g →
-    IsWithin most (put_into at x gs) → length g < most
-room_there most [] at x g l e w = absurd (omega (arith, l))
-room_there most (v ∷ gs) zero x g l e w = omega (arith, w.0, length-append v (x ∷ []), ap length e)
-room_there most (v ∷ gs) (suc at) x g l e w = room_there most gs at x g (omega (arith, l)) e w.1
+-- a builder has a place left, if it has one more document within the limit
+pub room_there : (most : ℕ) (bs : List BuilderValue) (at : ℕ) (x : Stamped DocumentValue) (b : BuilderValue) → at < length bs → b ≡ get_or bs at b →
+    IsWithin most (put_into at x (documents_in bs)) → length b.segment.documents < most
+room_there most [] at x b l e w = absurd (omega (arith, l))
+room_there most (c ∷ bs) zero x b l e w =
+    omega (arith, w.0, length-append c.segment.documents (x ∷ []), ap (λ (d : BuilderValue). length d.segment.documents) e)
+room_there most (c ∷ bs) (suc at) x b l e w = room_there most bs at x b (omega (arith, l)) e w.1
 
 -- more adds are divided
 pub groups_of-append : {X : Type 0} (cut : Cut) (xs ys : List X) → dealt_from (place_of cut) (length xs) (groups_of cut xs) ys ≡ groups_of cut (xs ++ ys)

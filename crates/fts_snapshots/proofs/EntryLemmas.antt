@@ -3,7 +3,7 @@ use Rattle.std.proofs.Common.{◌≡◌, ◌<◌, ◌≤◌, ◌+◌, ℕ, Bool,
 use Rattle.std.proofs.Common.{replicate, not, refl, sym, ap, ◌∙◌, arith}
 use Rattle.std.specs.List.{flat_map, list_any, AllByRecursion}
 use Rattle.std.proofs.lemmas.Bool.Decides.{nat_tests}
-use Rattle.std.proofs.lemmas.List.{length-map, length-append, length-take-le}
+use Rattle.std.proofs.lemmas.List.{length-map, length-append}
 use Rattle.std.proofs.lemmas.List.Sums.{sum_by-cons}
 use Rattle.std.proofs.lemmas.List.Elements.{filter-append}
 use Rattle.std.proofs.Math.Bool.{and-true}
@@ -14,10 +14,11 @@ use Rattle.fts_model.specs.declared.operation.Stamped.{Stamped}
 use Rattle.fts_model.specs.Documents.{DocumentValue}
 use Rattle.fts_model.specs.Operations.{survives, added, added_by}
 use Rattle.fts_segment.specs.Contents.{where_set}
-use Rattle.fts_merge.specs.Strikes.{bits_where}
-use Rattle.fts_segment.specs.Segments.{SegmentValue}
+use Rattle.fts_merge.specs.Strikes.{bits_after, bits_where}
+use Rattle.fts_segment.specs.Segments.{BuilderValue, SegmentValue}
 use Rattle.fts_snapshots.specs.Entries.{EntryValue, IsEntry, live_in, has_live}
 use Rattle.fts_snapshots.specs.Commits.{deletes, struck, fresh, fresh_from}
+use Rattle.fts_snapshots.specs.Groups.{built}
 use Rattle.fts_merge.proofs.BitsLemmas.{where_set-bits_where, length-bits_where}
 use Rattle.fts_model.proofs.OperationsByStamps.{added-push}
 use Rattle.fts_model.proofs.Lists.{taken}
@@ -106,23 +107,13 @@ pub entry_fresh : (schema : List Field) (ops : List (Stamped Op)) (id : ℕ) (do
     IsEntry (fresh schema ops id documents)
 entry_fresh schema ops id documents l = record { bits = length-map documents (survives schema ops); few = omega (arith, l) }
 
-fresh_from-push : (schema : List Field) (ops : List (Stamped Op)) (id : ℕ) (gs : List (List (Stamped DocumentValue))) (g : List (Stamped DocumentValue)) →
-    fresh_from schema ops id (gs ++ g ∷ []) ≡ fresh_from schema ops id gs ++ fresh schema ops (id + length gs) g ∷ []
-fresh_from-push schema ops id [] g = ap (λ n. fresh schema ops n g ∷ []) (omega arith)
-fresh_from-push schema ops id (h ∷ gs) g =
-    ap (λ es. fresh schema ops id h ∷ es) (fresh_from-push schema ops (id + 1) gs g ∙ ap (λ n. fresh_from schema ops (id + 1) gs ++ fresh schema ops n g ∷ [])
-    (omega arith))
-
--- one more new segment
-pub fresh_more : (schema : List Field) (ops : List (Stamped Op)) (id i : ℕ) (gs : List (List (Stamped DocumentValue))) (g : List (Stamped DocumentValue)) →
-    i < length gs → g ≡ get_or gs i g →
-    fresh_from schema ops id (take i gs) ++ fresh schema ops (id + i) g ∷ [] ≡ fresh_from schema ops id (take (i + 1) gs)
-fresh_more schema ops id i gs g l e =
-    ap (λ n. fresh_from schema ops id (take i gs) ++ fresh schema ops (id + n) g ∷ []) (sym (length-take-le' i gs l))
-    ∙ sym (fresh_from-push schema ops id (take i gs) g)
-    ∙ ap (fresh_from schema ops id) (sym (taken gs i g l e)) where
-      length-take-le' : {X : Type 0} (i : ℕ) (xs : List X) → i < length xs → length (take i xs) ≡ i
-      length-take-le' i xs l = omega (arith, length-take-le i xs)
+-- a segment that is built, with the bits of the documents that operations leave
+pub built_live : (ops : List (Stamped Op)) (id : ℕ) (b : BuilderValue) (segment : SegmentValue) (docs : ℕ) (all live : List Bool) → segment ≡ b.segment →
+    docs ≡ length segment.documents → all ≡ replicate docs true → live ≡ bits_after segment.schema ops segment.documents all →
+    entry_with id segment live ≡ built ops id b
+built_live ops id b segment docs all live same count set left =
+    let full = bits_where-full (survives b.segment.schema ops) b.segment.documents in
+    cc
 
 -- the document that one more operation adds
 pub added_more : (ops : List (Stamped Op)) (i : ℕ) (op : Stamped Op) → i < length ops → op ≡ get_or ops i op → added (take i ops) ++ added_by op.stamp op.value

@@ -3,7 +3,6 @@ pub mod EntryListLemmas
 pub mod OrderLemmas
 pub mod EntryLemmas
 pub mod CutLemmas
-pub mod FitLemmas
 pub mod JobLemmas
 pub mod CommitLemmas
 pub mod MergeLemmas

@@ -1,6 +1,7 @@
 -- Prepared commits, and their finish.
 use Rattle.std.proofs.Common.{◌≡◌, ◌<◌, ◌+◌, ◌++◌, ◌^◌, inl, ℕ, true, Option, None, Ok, Err, List, Result, IfOk, IfSome, IsOkUnless}
 use Rattle.std.proofs.Common.{length, sym, ap, subst, ◌∙◌, arith}
+use Rattle.std.proofs.lemmas.List.{length-map}
 use Rattle.std.proofs.lemmas.List.Elements.{recursion_from_All}
 use Rattle.fts_base.specs.declared.refusal.Refusal.{Refusal}
 use Rattle.fts_base.specs.declared.refusal.Refusal.TheVariants.{Memory}
@@ -9,9 +10,12 @@ use Rattle.fts_model.specs.declared.cut.Cut.{Cut}
 use Rattle.fts_model.specs.declared.schema.Field.{Field}
 use Rattle.fts_model.specs.declared.operation.Op.{Op}
 use Rattle.fts_model.specs.declared.operation.Stamped.{Stamped}
-use Rattle.fts_model.specs.Operations.{alive, adds}
+use Rattle.fts_model.specs.Operations.{alive, added, adds}
+use Rattle.fts_segment.specs.Segments.{BuilderValue}
 use Rattle.fts_snapshots.specs.Commits.{new_segments, spared_by}
+use Rattle.fts_snapshots.specs.Cuts.{groups_of}
 use Rattle.fts_snapshots.specs.Entries.{EntryValue, IsEntry, has_live}
+use Rattle.fts_snapshots.specs.Groups.{documents_in}
 use Rattle.fts_snapshots.specs.PreparedCommits.{IsPrepared, PreparedValue, entries_kept, prepared}
 use Rattle.fts_snapshots.specs.Snapshots.{GivesCommit, IsSnapshot, SnapshotValue, after_commit, commit_fault, content_of}
 use Rattle.fts_snapshots.proofs.CommitLemmas.{content-committed}
@@ -44,13 +48,14 @@ pub few_left : (p : PreparedValue) → IsPrepared p → length (left p).entries 
 few_left p i = omega (arith, few_segments (left p) (left_is p i), i.room)
 
 -- the finished snapshot has these segments
-pub finished : (p : PreparedValue) → IsPrepared p → (schema : List Field) (before jobs all : List EntryValue) (next : ℕ) → schema ≡ p.snapshot.schema →
-    before ≡ p.snapshot.entries → jobs ≡ entries_kept p → all ≡ spared_by p.batch before ++ jobs → next ≡ p.snapshot.next_id + new_segments p.cut p.batch →
-    snapshot_with schema all next ≡ left p
-finished p i schema before jobs all next same old kept made number =
+pub finished : (p : PreparedValue) → IsPrepared p → (schema : List Field) (before jobs all : List EntryValue) (groups : List BuilderValue) (next : ℕ) →
+    schema ≡ p.snapshot.schema → before ≡ p.snapshot.entries → jobs ≡ entries_kept p → all ≡ spared_by p.batch before ++ jobs →
+    documents_in groups ≡ groups_of p.cut (added p.batch) → next ≡ p.snapshot.next_id + length groups → snapshot_with schema all next ≡ left p
+finished p i schema before jobs all groups next same old kept made built number =
     let s = p.snapshot in
     same_snapshot schema s.schema all (left p).entries next (s.next_id + new_segments p.cut p.batch) same
-    (made ∙ ap (λ es. spared_by p.batch es ++ jobs) old ∙ ap (λ es. spared_by p.batch s.entries ++ es) kept ∙ all_left p i) number
+    (made ∙ ap (λ es. spared_by p.batch es ++ jobs) old ∙ ap (λ es. spared_by p.batch s.entries ++ es) kept ∙ all_left p i)
+    (omega (arith, number, ap length built, length-map groups (λ (b : BuilderValue). b.segment.documents)))
 
 -- anything holds of a fault that isn't there
 pub nothing_faulty : {X : Type 0} (fault : Option X) (P : X → Type 0) → fault ≡ None → IfSome fault P

@@ -3,7 +3,6 @@ use Rattle.std.proofs.Common.{◌≡◌, ◌<◌, ◌≤◌, ◌+◌, ◌&&◌, 
 use Rattle.std.proofs.Common.{refl, sym, ap, ◌∙◌, arith}
 use Rattle.std.specs.List.{AllByRecursion, list_any}
 use Rattle.std.proofs.lemmas.Bool.{or_from, or_parts}
-use Rattle.std.proofs.lemmas.List.{append-nil}
 use Rattle.std.proofs.lemmas.List.Elements.{recursion_from_All, filter-append}
 use Rattle.std.proofs.Math.Bool.{and-false}
 use Rattle.fts_model.specs.declared.cut.Cut.{Cut}
@@ -17,7 +16,7 @@ use Rattle.fts_snapshots.specs.Commits.{committed, deletes, fresh_from, has_dele
 use Rattle.fts_snapshots.specs.Cuts.{groups_of}
 use Rattle.fts_snapshots.specs.Entries.{EntryValue, IsEntry, has_live}
 use Rattle.fts_snapshots.specs.Snapshots.{IsSnapshot, SnapshotValue}
-use Rattle.fts_snapshots.proofs.CommitLemmas.{same_after}
+use Rattle.fts_snapshots.proofs.CommitLemmas.{same_struck}
 use Rattle.fts_snapshots.proofs.EntryLemmas.{struck_none}
 use Rattle.fts_snapshots.proofs.MergeLemmas.{ById}
 use Rattle.fts_snapshots.proofs.OrderLemmas.{All-weaker_by, rises_from_pairs}
@@ -42,11 +41,7 @@ struck_by_none (e ∷ es) a = ap (λ f. f ∷ map (struck []) es) (struck_none e
 
 -- segments are unchanged by a batch without a delete
 struck_same : (batch : List (Stamped Op)) (es : List EntryValue) → has_delete batch ≡ false → AllByRecursion IsEntry es → map (struck batch) es ≡ es
-struck_same batch es h a =
-    sym (append-nil (map (struck batch) es))
-    ∙ sym (same_after [] [] batch (λ s d. ap not (sym (none_strikes s batch d h))) es 0 [])
-    ∙ append-nil (map (struck []) es)
-    ∙ struck_by_none es a
+struck_same batch es h a = sym (same_struck [] batch (λ s d. ap not (sym (none_strikes s batch d h))) es) ∙ struck_by_none es a
 
 live_stay : (es : List EntryValue) → AllByRecursion (λ e. has_live e ≡ true) es → filter has_live es ≡ es
 live_stay [] a = refl

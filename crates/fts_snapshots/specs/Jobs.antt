@@ -5,7 +5,8 @@ use Rattle.fts_model.specs.declared.operation.Stamped.{Stamped}
 use Rattle.fts_base.specs.declared.refusal.Refusal.{Refusal}
 use Rattle.fts_base.specs.declared.refusal.Refusal.TheVariants.{Memory}
 use Rattle.fts_snapshots.specs.Entries.{EntryValue}
-use Rattle.fts_snapshots.specs.Commits.{struck, fresh}
+use Rattle.fts_snapshots.specs.Commits.{struck}
+use Rattle.fts_snapshots.specs.Groups.{built}
 use Rattle.fts_snapshots.specs.declared.commits.commit_job.CommitJob.{CommitJob}
 use Rattle.fts_snapshots.specs.declared.commits.commit_job.Task.{Task}
 use Rattle.fts_snapshots.specs.declared.commits.commit_job.Task.TheVariants.{Strike, Build}
@@ -13,7 +14,7 @@ use Rattle.fts_snapshots.specs.declared.commits.commit_job.Task.TheVariants.{Str
 -- the segment that a task leaves
 abbrev pub entry_of_task : List (Stamped Op) → Task → EntryValue
 entry_of_task ops (Strike entry) = struck ops entry.now
-entry_of_task ops (Build segment) = fresh segment.schema.now ops segment.id segment.group.now
+entry_of_task ops (Build segment) = built ops segment.id segment.builder.now
 
 -- the segment that a job of a commit leaves
 abbrev pub entry_of : CommitJob → EntryValue

@@ -5,6 +5,7 @@ pub mod EntryLists
 pub mod Infos
 pub mod Cuts
 pub mod Commits
+pub mod Groups
 pub mod Jobs
 pub mod Sources
 pub mod Merges

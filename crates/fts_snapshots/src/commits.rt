@@ -3,7 +3,7 @@
 
 mod batch_jobs;
 mod commit_job;
-mod group;
+mod groups;
 mod new_segment;
 mod prepared_commit;
 mod segment_of_add;

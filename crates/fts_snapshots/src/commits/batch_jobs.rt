@@ -1,25 +1,23 @@
 // The jobs of a batch: which of its operations can delete, and which segments need no job.
 ghost use Rattle.std.specs.Prelude.{◌≡◌, ◌<◌, ◌≤◌, ◌+◌, ◌^◌, ◌++◌, ◌∷◌, [], List, length};
-ghost use Rattle.std.specs.Prelude.{map, filter, IfOk, OnOk, IsOkUnless, All};
+ghost use Rattle.std.specs.Prelude.{map, filter, IfOk, OnOk, IsOkUnless};
 ghost use Rattle.fts_model.specs.declared.schema.Field.{Field};
 ghost use Rattle.fts_model.specs.declared.operation.Stamped.{Stamped};
 ghost use Rattle.fts_model.specs.Documents.{DocumentValue};
 ghost use Rattle.fts_model.specs.Operations.{survives};
-ghost use Rattle.fts_segment.specs.Segments.{AllFit};
 ghost use Rattle.fts_snapshots.specs.Entries.{has_live};
 ghost use Rattle.fts_snapshots.specs.EntryLists.{entries_ahead};
-ghost use Rattle.fts_snapshots.specs.Commits.{has_delete, struck, struck_by, spared_by, fresh_from};
+ghost use Rattle.fts_snapshots.specs.Commits.{has_delete, struck_by, spared_by};
 ghost use Rattle.fts_snapshots.specs.Jobs.{entry_of};
 
-use crate::commits::commit_job::{CommitJob, commit_jobs};
-use crate::commits::group::Group;
+use crate::commits::commit_job::CommitJob;
 use crate::entries::{Entry, EntryIter, EntryList};
-use fts_model::{Op, Refusal, Schema, Stamped};
+use fts_model::{Op, Refusal, Stamped};
 use fts_pool::Job;
 use std::alloc::{AllocError, Global};
 
 /// A batch without the adds after its last delete: they delete nothing.
-fn strikers(batch: &[Stamped<Op>]) -> &[Stamped<Op>]
+pub(crate) fn strikers(batch: &[Stamped<Op>]) -> &[Stamped<Op>]
     ensures { (schema : List Field) (document : Stamped DocumentValue) →
         survives schema result.now document ≡ survives schema batch.now document }
 {
@@ -40,7 +38,7 @@ fn has_delete(batch: &[Stamped<Op>]) -> bool
 }
 
 /// The segments whose documents a batch may delete.
-fn struck_by<'a>(batch: &[Stamped<Op>], entries: &'a EntryList) -> EntryIter<'a>
+pub(crate) fn struck_by<'a>(batch: &[Stamped<Op>], entries: &'a EntryList) -> EntryIter<'a>
     ensures { entries_ahead result ≡ struck_by batch.now entries.now }
 {
     if has_delete(batch) {
@@ -75,25 +73,6 @@ pub fn push_live(entries: &mut Vec<Entry>, entry: Entry) -> Result<(), AllocErro
         entries.push(entry)?;
     }
     Ok(())
-}
-
-/// The jobs of a batch whose adds are in these groups: one for each existing segment that the batch may change, and
-/// then one for each group. The new segments are numbered from `next`.
-pub(crate) fn jobs_of_batch<'a>(
-    alloc: Global,
-    schema: &'a Schema,
-    entries: &'a EntryList,
-    next: u64,
-    batch: &'a [Stamped<Op>],
-    groups: &'a [Group],
-) -> Result<Vec<CommitJob<'a>>, AllocError>
-    requires room { next + length groups.now ≤ 2 ^ 62 }
-    requires fit { All (AllFit schema.now) groups.now }
-    ensures { IfOk result (λ jobs. map entry_of jobs.items
-        ≡ map (struck batch.now) (struck_by batch.now entries.now) ++ fresh_from schema.now batch.now next groups.now) }
-{
-    let entries = struck_by(batch, entries);
-    commit_jobs(alloc, schema, strikers(batch), entries, next, groups)
 }
 
 /// The segments with a live document that jobs leave, run one after the other.

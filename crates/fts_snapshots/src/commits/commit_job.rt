@@ -1,20 +1,18 @@
 // The jobs of a commit, one for each segment that it changes or builds.
-ghost use Rattle.std.specs.Prelude.{◌≡◌, ◌≤◌, ◌+◌, ◌++◌, ◌<◌, ◌^◌, true, map, length, IfOk, OnOk, IsOkUnless, All};
-ghost use Rattle.fts_model.specs.Operations.{survives};
-ghost use Rattle.fts_segment.specs.Segments.{AllFit};
+ghost use Rattle.std.specs.Prelude.{◌≡◌, ◌≤◌, ◌+◌, ◌++◌, ◌^◌, map, length, All, IfOk, OnOk, IsOkUnless};
 ghost use Rattle.fts_model.specs.Limits.{most_built};
-ghost use Rattle.fts_snapshots.specs.Commits.{struck, fresh, fresh_from};
+ghost use Rattle.fts_snapshots.specs.Commits.{struck};
 ghost use Rattle.fts_snapshots.specs.EntryLists.{entries_ahead};
+ghost use Rattle.fts_snapshots.specs.Groups.{built, built_from, documents_in};
 ghost use Rattle.fts_snapshots.specs.Jobs.{entry_of};
 
-use crate::commits::group::Group;
 use crate::commits::new_segment::NewSegment;
 use crate::entries::{Entry, EntryIter};
 use fts_merge::strike;
-use fts_model::{Document, Op, Refusal, Schema, Stamped};
+use fts_model::{Op, Refusal, Stamped};
 use fts_pack::bits::Bits;
 use fts_pool::Job;
-use fts_segment::{Builder, Segment};
+use fts_segment::Builder;
 use std::alloc::{AllocError, Global};
 
 /// The task of a job.
@@ -47,7 +45,7 @@ impl Job for CommitJob<'_> {
     fn cost(&self) -> u64 {
         match &self.task {
             Task::Strike(entry) => entry.segment().docs() as u64 / 64,
-            Task::Build(segment) => segment.group.documents().len() as u64 * 8_000,
+            Task::Build(segment) => (segment.builder.docs() as u64).saturating_mul(8_000),
         }
     }
 
@@ -74,30 +72,12 @@ fn struck(alloc: Global, ops: &[Stamped<Op>], entry: &Entry) -> Result<Entry, Re
     Ok(Entry::new(alloc, entry.id(), segment, live)?)
 }
 
-/// A segment of documents.
-fn built(
-    alloc: Global,
-    schema: &Schema,
-    documents: &[Stamped<Document>],
-) -> Result<Segment, Refusal>
-    requires few { length documents.now ≤ most_built }
-    requires fit { AllFit schema.now documents.now }
-    ensures ok { IfOk result (λ segment. segment ≡ record { schema = schema.now; documents = documents.now }) }
-    ensures memory { IsOkUnless result Refusal.Memory }
-{
-    let mut builder = Builder::new(alloc, schema)?;
-    for document in documents {
-        builder.add(document.stamp, &document.value)?;
-    }
-    builder.finish(alloc).map_err(|(_, refusal)| refusal)
-}
-
 /// A new segment with deletes applied.
 fn fresh(alloc: Global, ops: &[Stamped<Op>], new: &NewSegment<'_>) -> Result<Entry, Refusal>
-    ensures ok { IfOk result (λ entry. entry ≡ fresh new.now.schema.now ops.now new.now.id new.now.group.now) }
+    ensures ok { IfOk result (λ entry. entry ≡ built ops.now new.now.id new.now.builder.now) }
     ensures memory { IsOkUnless result Refusal.Memory }
 {
-    let segment = built(alloc, new.schema, new.group.documents())?;
+    let segment = new.builder.build(alloc)?;
     let all = Bits::all_set(alloc, segment.docs())?;
     let live = strike(alloc, &segment, &all, ops)?;
     Ok(Entry::new(alloc, new.id, segment, live)?)
@@ -107,23 +87,22 @@ fn fresh(alloc: Global, ops: &[Stamped<Op>], new: &NewSegment<'_>) -> Result<Ent
 /// are numbered from `id`.
 pub(crate) fn commit_jobs<'a>(
     alloc: Global,
-    schema: &'a Schema,
     ops: &'a [Stamped<Op>],
     entries: EntryIter<'a>,
     id: u64,
-    groups: &'a [Group],
+    groups: &'a [Builder],
 ) -> Result<Vec<CommitJob<'a>>, AllocError>
     requires room { id + length groups.now ≤ 2 ^ 62 }
-    requires fit { All (AllFit schema.now) groups.now }
+    requires few { All (λ group. length group ≤ most_built) (documents_in groups.now) }
     ensures { IfOk result (λ jobs. map entry_of jobs.items
-        ≡ map (struck ops.now) (entries_ahead entries.entry) ++ fresh_from schema.now ops.now id groups.now) }
+        ≡ map (struck ops.now) (entries_ahead entries.entry) ++ built_from ops.now id groups.now) }
 {
     let mut jobs = Vec::new(alloc);
     for entry in entries {
         let task = Task::Strike(entry);
         jobs.push(CommitJob { alloc, ops, task })?;
     }
-    push_builds(&mut jobs, alloc, schema, ops, id, groups)?;
+    push_builds(&mut jobs, alloc, ops, id, groups)?;
     Ok(jobs)
 }
 
@@ -131,19 +110,18 @@ pub(crate) fn commit_jobs<'a>(
 fn push_builds<'a>(
     jobs: &mut Vec<CommitJob<'a>>,
     alloc: Global,
-    schema: &'a Schema,
     ops: &'a [Stamped<Op>],
     first: u64,
-    groups: &'a [Group],
+    groups: &'a [Builder],
 ) -> Result<(), AllocError>
     requires room { first + length groups.now ≤ 2 ^ 62 }
-    requires fit { All (AllFit schema.now) groups.now }
+    requires few { All (λ group. length group ≤ most_built) (documents_in groups.now) }
     ensures { OnOk result (map entry_of jobs.new.items
-        ≡ map entry_of jobs.old.items ++ fresh_from schema.now ops.now first groups.now) }
+        ≡ map entry_of jobs.old.items ++ built_from ops.now first groups.now) }
 {
     let mut id = first;
-    for group in groups {
-        let task = Task::Build(NewSegment { schema, id, group });
+    for builder in groups {
+        let task = Task::Build(NewSegment { id, builder });
         jobs.push(CommitJob { alloc, ops, task })?;
         id += 1;
     }

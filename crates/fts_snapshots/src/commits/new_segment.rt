@@ -1,14 +1,13 @@
 // A segment before it is built.
-ghost use Rattle.fts_segment.specs.Segments.{AllFit};
+ghost use Rattle.std.specs.Prelude.{◌≤◌, length};
+ghost use Rattle.fts_model.specs.Limits.{most_built};
 
-use crate::commits::group::Group;
-use fts_model::Schema;
+use fts_segment::Builder;
 
-/// A segment before it is built: its number, its schema, and its documents, which fit it.
+/// A segment before it is built: its number, and the builder of its documents, which are at most 65,536.
 #[derive(Drop)]
 pub(crate) struct NewSegment<'a> {
-    pub(crate) schema: &'a Schema,
     pub(crate) id: u64,
-    pub(crate) group: &'a Group,
-    ghost fit: { AllFit schema.now group.now },
+    pub(crate) builder: &'a Builder,
+    ghost few: { length builder.now.segment.documents ≤ most_built },
 }

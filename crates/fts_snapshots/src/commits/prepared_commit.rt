@@ -8,13 +8,14 @@ ghost use Rattle.fts_snapshots.specs.Jobs.{entry_of};
 ghost use Rattle.fts_snapshots.specs.PreparedCommits.{entries_kept, entries_left, prepared};
 ghost use Rattle.fts_snapshots.specs.Snapshots.{IsBehind, after_commit, commit_fault, content_of};
 
-use crate::commits::batch_jobs::{entries_after, jobs_of_batch};
-use crate::commits::commit_job::CommitJob;
-use crate::commits::group::{Group, groups};
+use crate::commits::batch_jobs::{entries_after, strikers, struck_by};
+use crate::commits::commit_job::{CommitJob, commit_jobs};
+use crate::commits::groups::groups;
 use crate::commits::segment_of_add::new_segments;
 use crate::entries::{Entry, are_used_up};
 use crate::snapshot::Snapshot;
 use fts_model::{Cut, Op, Refusal, Stamped};
+use fts_segment::Builder;
 use std::alloc::{AllocError, Global};
 use std::marker::Model;
 
@@ -25,20 +26,22 @@ pub struct PreparedCommit<'a> {
     cut: Cut,
     batch: &'a [Stamped<Op>],
     snapshot: &'a Snapshot,
-    groups: Vec<Group>,
+    groups: Vec<Builder>,
 }
 
 impl<'a> Model for PreparedCommit<'a> {
     ghost use Rattle.std.specs.Prelude.{◌≡◌};
     ghost use Rattle.fts_model.specs.Operations.{added};
     ghost use Rattle.fts_snapshots.specs.Cuts.{groups_of};
+    ghost use Rattle.fts_snapshots.specs.Groups.{AreOf, documents_in};
     ghost use Rattle.fts_snapshots.specs.PreparedCommits.{IsPrepared, PreparedValue, prepared};
 
     ghost Value = { PreparedValue };
 
     ghost view = { λ p. prepared p.cut p.batch.now p.snapshot.now };
 
-    ghost invariant = { λ p. (p.groups.items ≡ groups_of p.cut (added p.batch.now))
+    ghost invariant = { λ p.
+        (documents_in p.groups.items ≡ groups_of p.cut (added p.batch.now)) × AreOf p.snapshot.now.schema p.groups.items
         × IsPrepared (prepared p.cut p.batch.now p.snapshot.now) };
 }
 
@@ -61,7 +64,7 @@ impl<'a> PreparedCommit<'a> {
         if are_used_up(snapshot.next_id(), new_segments(cut, batch)) {
             return Err(Refusal::StampsUsedUp);
         }
-        let groups = groups(alloc, cut, batch)?;
+        let groups = groups(alloc, snapshot.schema(), cut, batch)?;
         Ok(PreparedCommit {
             cut,
             batch,
@@ -76,12 +79,12 @@ impl<'a> PreparedCommit<'a> {
         ensures { IfOk result (λ jobs. map entry_of jobs.items ≡ entries_left self.now) }
     {
         let snapshot = self.snapshot;
-        jobs_of_batch(
+        let entries = struck_by(self.batch, snapshot.entries());
+        commit_jobs(
             alloc,
-            snapshot.schema(),
-            snapshot.entries(),
+            strikers(self.batch),
+            entries,
             snapshot.next_id(),
-            self.batch,
             &self.groups,
         )
     }

@@ -1,7 +1,6 @@
 -- What is left of the proof of `mergeable::whole`.
-use Rattle.std.proofs.Common.{◌≡◌, ◌<◌, inr, length, sum_by, refl, sym, ap, subst, ◌∙◌, arith}
+use Rattle.std.proofs.Common.{◌<◌, inr, sum_by, refl, ap, subst, ◌∙◌, arith}
 use Rattle.fts_snapshots.specs.Entries.{live_count}
-use Rattle.fts_snapshots.specs.Snapshots.{SnapshotValue, content_of}
 use Rattle.fts_snapshots.proofs.CountLemmas.{live_documents}
 use Rattle.fts_snapshots.proofs.mergeable.whole.Goals as goal
 
