@@ -38,7 +38,7 @@ OF_A_SUBJECT = {
     "fts_script": {"session/commands", "session/group_search", "streams"},
     "fts_segment": {"binary_search", "dictionary_merge", "segment_join", "term_merge", "token_log"},
     "fts_sets": {"retain", "rows"},
-    "fts_snapshots": {"entries/ids", "made_merges"},
+    "fts_snapshots": {"commits/batch_jobs", "entries/ids", "made_merges"},
     "fts_text": {"case_fold", "characters", "tokenizer"},
 }
 # Files whose item comes after what it is made of, types or functions that are smaller.
@@ -52,7 +52,7 @@ AFTER_ITS_PARTS = {
     "fts_rounds": {"lane", "stamps"},
     "fts_script": {"command/command", "session/blank", "session/print", "session/reply", "session/search"},
     "fts_segment": {"joining", "segment", "term_groups", "term_log"},
-    "fts_snapshots": {"commits/batch_jobs", "commits/commit_job"},
+    "fts_snapshots": {"commits/commit_job"},
 }
 ITEM = re.compile(r"^(?:pub|pub\(crate\)|pub\(super\)) (?:const )?(fn|struct|enum|trait|type) (\w+)", re.MULTILINE)
 MODULE = re.compile(r"^(?:pub |pub\(crate\) )?mod \w+;", re.MULTILINE)
