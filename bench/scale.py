@@ -481,7 +481,8 @@ def predicted(way: str, constants: dict[str, float], documents: float, workers: 
     built = constants["build" if way == "one" else "beside"] * share / 1e6
     if way == "threads":
         built = constants["turns"] * documents / 1e6
-        search += constants["handing"] + joined(constants, share, workers, 1)
+        # Their replies have the same groups and top lists at every point, and aren't joined by the cluster's code.
+        search += constants["handing"]
     if way == "dask":
         built, search = built + constants["start"], of_cluster(constants, share, workers, workers)
     held = constants["resident"] * documents + constants["held"] * (1 if way == "one" else workers)
@@ -581,7 +582,7 @@ def constants_shown(constants: dict[str, float]) -> str:
         (f"milliseconds of a search in one partition of {FEW:,} documents", constants["few"]),
         (f"of {constants['bend']:,.0f} documents or more, without what grows with them", constants["alone"]),
         ("and per million of its documents", constants["million"]),
-        ("milliseconds to hand a search to threads", constants["handing"]),
+        ("milliseconds to hand a search to threads and to join their replies", constants["handing"]),
         ("seconds to make a cluster", constants["start"]),
         ("milliseconds of a round on Dask", constants["round"]),
         ("per worker that one asks", constants["worker"]),
