@@ -59,13 +59,13 @@ impl IdCache {
         None
     }
 
-    /// Stores the id of a name in one of the slots of its hash, if one is free. If a quarter of the slots are in use,
+    /// Stores the id of a name in one of the slots of its hash, if one is free. If half of the slots are in use,
     /// the table grows first, unless no memory is left.
     pub(crate) fn put(&mut self, alloc: Global, hash: u32, number: usize) {
         let Ok(number) = u32::try_from(number) else {
             return;
         };
-        if self.taken >= self.slots.len() / 4 {
+        if self.taken >= self.slots.len() / 2 {
             self.grow(alloc);
         }
         self.put_into(CacheSlot { hash, number });
