@@ -1,26 +1,20 @@
 -- The lines of a transaction: the next, the first that isn't taken, and the end.
-use Rattle.std.proofs.Common.{◌≡◌, ◌≢◌, ◌+◌, ◌<◌, ◌≤◌, ℕ, ℤ, Bool, true, false, cond, List, [], ◌∷◌, ◌++◌, length, take, drop, refl, sym, ap, subst, ◌∙◌}
-use Rattle.std.proofs.Common.{append_assoc, append-nil, arith, string_bytes, Option, Some, None, Result, Ok, Err, is_ok, option_map, inl}
-use Rattle.std.proofs.lemmas.List.{take_all}
+use Rattle.std.proofs.Common.{◌≡◌, ◌+◌, ◌<◌, ◌≤◌, ℕ, ℤ, Bool, true, false, cond, List, [], ◌∷◌, ◌++◌, length, take, drop, refl, sym, ap, subst, ◌∙◌}
+use Rattle.std.proofs.Common.{append_assoc, append-nil, arith, string_bytes, Option, None, Result, Ok, Err, is_ok}
 use Rattle.fts_base.specs.declared.refusal.Refusal.{Refusal}
 use Rattle.fts_engine.specs.Indexes.{Index, indexes}
-use Rattle.fts_engine.specs.TakeBack.{keep_first}
 use Rattle.fts_script.specs.declared.session.savepoint.Savepoint.{Savepoint}
 use Rattle.fts_script.specs.session.Outputs.{SessionValue, after_line, after_lines, replies, reply_to}
-use Rattle.fts_script.specs.session.Replies.{Outcome, line_of, refusal_reply, text_of}
+use Rattle.fts_script.specs.session.Replies.{Outcome, text_of}
 use Rattle.fts_script.specs.session.Text.{lines_of}
 use Rattle.fts_script.specs.session.Transactions.{count_uncommitted, first_refusal, is_taken, lines_taken, operate, refusal_or}
 use Rattle.fts_script.specs.session.Transactions.{replies_unless_refused, rolled_back_to, savepoint_of, unless_refused}
 use Rattle.fts_script.proofs.TransactionLemmas.{Taken, taken_back, taken_more, taken_of}
 use Rattle.fts_c.specs.declared.codes.TheConstants.{OK}
 use Rattle.fts_c.specs.declared.state.State.{State}
-use Rattle.fts_c.specs.Codes.{IsCodeOf, IsFault}
-use Rattle.fts_c.specs.Transactions.{IsRefused, IsStopped, IsTaken, Operates, Transacts}
+use Rattle.fts_c.specs.Codes.{IsCodeOf}
+use Rattle.fts_c.specs.Transactions.{IsStopped, IsTaken, Operates, Transacts}
 use Rattle.fts_c.proofs.BlockLemmas.{IsNext, after_lines-push, next_of}
-
--- a fault's code isn't 0
-pub fault_not_ok : (s : SessionValue) (line : List ℕ) (code : ℤ) → IsFault s line code → code ≢ OK
-fault_not_ok s line code f ok = f.untried (f.code_is.tried.0 (inl ok))
 
 -- what became of a line
 pub operated : (old : State) (number : ℕ) (line : List ℕ) (new : State) (taken : Bool) → taken ≡ is_taken old.session.script line →
@@ -28,16 +22,6 @@ pub operated : (old : State) (number : ℕ) (line : List ℕ) (new : State) (tak
     new.session.script ≡ cond taken (after_line old.session.script line) old.session.script → Operates old number line new (Ok taken)
 operated old number line new true t r s = record { taken = sym t; reply = r; session = s }
 operated old number line new false t r s = record { refused = sym t; reply = r; session = s }
-
-option_back : (i : Option Index) → option_map (keep_first (count_uncommitted i)) i ≡ i
-option_back None = refl
-option_back (Some i) =
-    ap (λ us. Some (record { schema = i.schema; documents = i.documents; commit_stamp = i.commit_stamp; uncommitted = us }))
-    (take_all (length i.uncommitted) i.uncommitted (omega arith))
-
--- a savepoint leads back to where it was made
-pub back_to_start : (s : SessionValue) → rolled_back_to (savepoint_of s) s ≡ s
-back_to_start s = ap (λ i. record { number = s.number; index = i }) (option_back s.index)
 
 -- `done` lines of a block were taken, and this is left of it
 pub record Reached (old : State) (block rest : List ℕ) (begun : Savepoint) (now : State) (done : ℕ) : Type 0 where
@@ -53,24 +37,6 @@ pub record Reached (old : State) (block rest : List ℕ) (begun : Savepoint) (no
   pub back : rolled_back_to begun now.session.script ≡ old.session.script
   pub kept : begun.uncommitted ≤ count_uncommitted now.session.script.index
   pub number : begun.number ≤ now.session.script.number
-
-pub reached_start : (old now : State) (block : List ℕ) (begun : Savepoint) → now.session.script ≡ old.session.script → string_bytes now.reply ≡ [] →
-    begun ≡ savepoint_of now.session.script → Reached old block block begun now 0
-reached_start old now block begun same none is =
-    let at : begun ≡ savepoint_of old.session.script = is ∙ ap savepoint_of same in record {
-      begun_is = at;
-      left = refl;
-      room = omega arith;
-      within = omega arith;
-      session = same;
-      later = ap (λ s. after_lines s (lines_of block)) (sym same);
-      reply = ap (λ s. replies s (lines_of block)) (sym same) ∙ ap (λ r. r ++ replies now.session.script (lines_of block)) (sym none);
-      refusal = ap (λ s. first_refusal s (lines_of block)) (sym same);
-      count = ap (λ s. lines_taken s (lines_of block)) (sym same) ∙ omega arith;
-      back = ap (λ (v : Savepoint). rolled_back_to v now.session.script) is ∙ back_to_start now.session.script ∙ same;
-      kept = omega (arith, ap (λ (v : Savepoint). v.uncommitted) is);
-      number = omega (arith, ap (λ (v : Savepoint). v.number) is);
-    }
 
 -- the refusal of the first of lines whose first is taken, and how many are taken
 refusal_later : (r : Result (Outcome Index) Refusal) (later : Option Refusal) → is_ok r ≡ true → refusal_or r later ≡ later
@@ -110,35 +76,6 @@ reached_next old now new block rest line later begun done r first shorter t =
       back = ap (rolled_back_to begun) t.session ∙ taken_back begun now.session.script line t.taken r.kept ∙ r.back;
       kept = subst (λ (s : SessionValue). begun.uncommitted ≤ count_uncommitted s.index) (sym t.session) (omega (arith, r.kept, more));
       number = omega (arith, r.number, ap (λ (s : SessionValue). s.number) (t.session ∙ k.after));
-    }
-
--- a line that is refused is the first
-refusal_now : (r : Result (Outcome Index) Refusal) (later : Option Refusal) (old : State) (lines : List (List ℕ)) (number : ℕ) (wanted : Option Refusal) →
-    is_ok r ≡ false → wanted ≡ refusal_or r later → number ≡ old.session.script.number →
-    (text_of (number + 1) r ≡ replies_unless_refused old.session.script lines wanted) × (unless_refused old.session.script lines wanted ≡ old.session.script)
-refusal_now (Ok d) later old lines number wanted bad is at = absurd (let false_is : true ≡ false = bad in cc)
-refusal_now (Err e) later old lines number wanted bad is at = (
-  ap (λ n. line_of (refusal_reply e (n + 1))) at ∙ ap (replies_unless_refused old.session.script lines) (sym is),
-  ap (unless_refused old.session.script lines) is,
-)
-
-pub reached_refusal : (old now mid new : State) (block rest line later : List ℕ) (begun : Savepoint) (done : ℕ) → Reached old block rest begun now done →
-    lines_of rest ≡ line ∷ lines_of later → IsRefused now (begun.number + 1) line mid → string_bytes new.reply ≡ string_bytes mid.reply →
-    new.session.script ≡ rolled_back_to begun mid.session.script → Transacts old block new OK done
-reached_refusal old now mid new block rest line later begun done r first f same back =
-    let ls : List (List ℕ) = lines_of block in
-    let told = refusal_now (operate indexes now.session.script.index line) (first_refusal (after_line now.session.script line) (lines_of later)) old ls begun.number
-    (first_refusal old.session.script ls) f.refused (r.refusal ∙ ap (first_refusal now.session.script) first) (ap (λ (v : Savepoint). v.number) r.begun_is) in
-    let none : lines_taken now.session.script (line ∷ lines_of later) ≡ 0 =
-    ap (λ b. cond b (1 + lines_taken (after_line now.session.script line) (lines_of later)) 0) f.refused in record {
-      reply = λ _. same ∙ f.reply ∙ told.0;
-      session = λ _. back ∙ ap (rolled_back_to begun) f.session ∙ r.back ∙ sym told.1;
-      counted = λ _. omega (arith, r.count, ap (lines_taken now.session.script) first ∙ none);
-      same = λ bad. absurd (bad refl);
-      none = λ bad. absurd (bad refl);
-      before = λ bad. absurd (bad refl);
-      within = λ bad. absurd (bad refl);
-      stopped = λ bad. absurd (bad refl);
     }
 
 pub reached_stop : (old now mid new : State) (block rest line later : List ℕ) (begun : Savepoint) (done : ℕ) (code : ℤ) → Reached old block rest begun now done →

@@ -62,12 +62,6 @@ found_first w doc first = elim (cases_lt w.last doc) [
   | inr within ↦ within
 ]
 
--- nothing is marked where nothing is left
-pub AreMarked-none : (xs : List ℕ) (w : Window) → None ≡ slice_get xs 0 → AreMarked (has xs) w w
-AreMarked-none xs w none d =
-    sym (ap (λ b. has (found w) d || (nat_le d w.last && b)) (has-none xs d none)
-    ∙ ap (λ b. has (found w) d || b) (and-false (nat_le d w.last)) ∙ or-false (has (found w) d))
-
 -- how far the documents of a part were marked
 pub record IsMarking (initial now : List ℕ) (old new : Window) : Type 0 where
   pub place : (new.from ≡ old.from) × (new.last ≡ old.last)

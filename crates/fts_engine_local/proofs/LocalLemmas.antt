@@ -1,7 +1,7 @@
 -- What stays true of an engine of one thread from call to call.
-use Rattle.std.proofs.Common.{◌≡◌, ◌≢◌, ◌+◌, ◌^◌, ◌≤◌, ℕ, nat_lt, zero, suc, cond, true, false, Option, None, Some, Bool, List, [], ◌∷◌, ◌++◌, length, take, filter, not, refl, sym, ap, subst, ◌∙◌, arith}
+use Rattle.std.proofs.Common.{◌≡◌, ◌+◌, ◌^◌, ◌≤◌, ℕ, nat_lt, zero, suc, cond, true, false, Option, None, Some, List, [], ◌∷◌, ◌++◌, length, take, filter, not, refl, sym, ap, subst, ◌∙◌, arith}
 use Rattle.std.specs.List.{range_with_len}
-use Rattle.std.specs.Option.{ForSome, option_map}
+use Rattle.std.specs.Option.{ForSome}
 use Rattle.std.proofs.lemmas.List.{length-append, length-take}
 use Rattle.std.proofs.lemmas.Bool.Decides.{nat_tests}
 use Rattle.std.proofs.lemmas.List.Sums.{length-filter, count_by-le-length}
@@ -11,7 +11,7 @@ use Rattle.fts_model.specs.declared.cut.Cut.{Cut}
 use Rattle.fts_model.specs.Operations.{op_fits}
 use Rattle.fts_snapshots.specs.Changes.{Commits, Merges}
 use Rattle.fts_snapshots.specs.Entries.{EntryValue, has_live}
-use Rattle.fts_snapshots.specs.LateMerges.{after_end, end_fault, ended, first_gone, gone_fault, is_gone}
+use Rattle.fts_snapshots.specs.LateMerges.{after_end, end_fault, ended, gone_fault}
 use Rattle.fts_snapshots.specs.MergedSegments.{MergedSegmentValue, merged_of}
 use Rattle.fts_snapshots.specs.Merges.{is_among, without}
 use Rattle.fts_snapshots.specs.Snapshots.{SnapshotValue, content_of, segments_and_numbers}
@@ -21,7 +21,7 @@ use Rattle.fts_snapshots.specs.Successors.{follows_further}
 use Rattle.fts_model.specs.Operations.{stamps_of}
 use Rattle.fts_model.proofs.StampLemmas.{numbered-push}
 use Rattle.fts_base.specs.declared.refusal.Refusal.{Refusal}
-use Rattle.fts_base.specs.declared.refusal.Refusal.TheVariants.{Memory, OtherSchema, SourceGone, StampsUsedUp}
+use Rattle.fts_base.specs.declared.refusal.Refusal.TheVariants.{OtherSchema, StampsUsedUp}
 use Rattle.fts_base.specs.Results.{first_of}
 use Rattle.fts_model.specs.declared.schema.Field.{Field}
 use Rattle.fts_snapshots.specs.Commits.{misfit, numbers_fault}
@@ -46,15 +46,6 @@ pub gone_of : (m : MergedSegmentValue) (s : SnapshotValue) (refusal : Refusal) �
     end_fault s.next_id m s.entries ≡ Some refusal → gone_fault m s.entries ≡ Some refusal
 gone_of m s refusal room is =
     sym (first_alone (gone_fault m s.entries) (numbers_fault (s.next_id + 1)) (numbers_left (s.next_id + 1) room)) ∙ is
-
-gone_or : (fault : Option ℕ) (b : Bool) (refusal : Refusal) → cond b (option_map SourceGone fault) None ≡ Some refusal → refusal ≢ Memory
-gone_or None true refusal is = λ _. let bad : None ≡ Some refusal = is in cc
-gone_or (Some id) true refusal is = λ memory. let bad : Some (SourceGone id) ≡ Some Memory = is ∙ ap Some memory in cc
-gone_or fault false refusal is = λ _. let bad : None ≡ Some refusal = is in cc
-
--- the refusal of a merge that lacks a source isn't that of memory
-pub gone_not_memory : (m : MergedSegmentValue) (entries : List EntryValue) (refusal : Refusal) → gone_fault m entries ≡ Some refusal → refusal ≢ Memory
-gone_not_memory m entries refusal is = gone_or (first_gone entries m.ids) (is_gone m entries) refusal is
 
 -- what the started merge makes fits a later snapshot
 fits_later : (begun : Option (List EntryValue)) (old new : SnapshotValue) → ForSome begun (λ job. Fits (merged_of job) old) → Follows old new →

@@ -1,30 +1,17 @@
 -- The jobs of fields, and their results.
-use Rattle.std.proofs.Common.{◌≡◌, ◌+◌, ℕ, List, [], ◌∷◌, ◌++◌, Option, Some, None, Result, Ok, length, length-append, map, refl, sym, ap, subst}
-use Rattle.std.proofs.Common.{◌∙◌, inl, inr, arith}
+use Rattle.std.proofs.Common.{◌≡◌, ℕ, List, Option, Some, None, Result, Ok, length, map, refl, sym, ap, subst}
+use Rattle.std.proofs.Common.{◌∙◌}
 use Rattle.std.specs.Prelude.{slice_get, MatchOption, IsSomeAnd, option_map}
 use Rattle.std.specs.List.{AllZip}
 use Rattle.std.specs.declared.alloc.AllocError.{AllocError}
 use Rattle.std.proofs.lemmas.List.{length-map}
 use Rattle.std.proofs.lemmas.Option.{slice_get-map}
 use Rattle.std.proofs.lemmas.Slice.Zip.{AllZip-long, AllZip-right}
-use Rattle.fts_segment.proofs.TermsLemmas.{slice_get_push_cases}
 use Rattle.fts_segment.specs.FieldIndexes.{AreFieldsOf, IsFieldOf}
 use Rattle.fts_segment.specs.Segments.{SegmentValue}
 use Rattle.fts_segment.specs.declared.joining.IndexedField.{IndexedField}
 use Rattle.fts_merge.specs.declared.field_job.FieldJob.{FieldJob}
 use Rattle.fts_merge.specs.FieldJobs.{AreFieldJobs, Indexes}
-
-pub AreFieldJobs-push : {segment : SegmentValue} {count : ℕ} {jobs : List FieldJob} (job : FieldJob) → job.joining.now ≡ segment → job.number ≡ count →
-    AreFieldJobs segment count jobs → AreFieldJobs segment (count + 1) (jobs ++ job ∷ [])
-AreFieldJobs-push {segment} {count} {jobs} job joining place are = record {
-  many = omega (arith, length-append jobs (job ∷ []), are.many);
-  each = λ number one found. elim (slice_get_push_cases jobs job number one found) [
-    | inl before ↦ are.each number one before
-    | inr last ↦
-        let P : FieldJob → Type 0 = λ j. (j.joining.now ≡ segment) × (j.number ≡ number) in
-        subst P (sym last.1) (joining, place ∙ sym are.many ∙ sym last.0)
-  ];
-}
 
 job_at : (o : Option FieldJob) (P : FieldJob → Type 0) → IsSomeAnd o P → (job : FieldJob) × (o ≡ Some job) × P job
 job_at None P h = absurd h

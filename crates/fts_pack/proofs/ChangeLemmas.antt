@@ -1,6 +1,6 @@
 -- Bits of joined words, and words changed one after the other.
 use Rattle.std.proofs.Common.{◌≡◌, ◌≢◌, ℕ, zero, suc, ◌+◌, ◌-◌, ◌*◌, ◌^◌, ◌<◌, ◌≤◌, Bool, ◌||◌, ◌&&◌, ◌==◌, not, List, length, get_or, max, min, set}
-use Rattle.std.proofs.Common.{bit_and, bit_or, refl, sym, ap, ap₂, ◌∙◌, inl, inr, arith, subst}
+use Rattle.std.proofs.Common.{bit_and, bit_or, refl, sym, ap, ap₂, ◌∙◌, inl, inr, arith}
 use Rattle.std.specs.Int.{bit_at, bit_not, w64}
 use Rattle.std.proofs.lemmas.Bool.{cases_lt}
 use Rattle.std.proofs.lemmas.List.{get_or-set_other, length-set}
@@ -46,9 +46,6 @@ pub record AreChangedTo (change : ℕ → Bool → Bool) (index : ℕ) (old word
   pub left : (k : ℕ) → place ≤ k → get_or words k 0 ≡ get_or old k 0
   pub long : length words ≡ length old
 
-pub AreChangedTo-none : (change : ℕ → Bool → Bool) (index : ℕ) (old : List ℕ) → AreChangedTo change index old old 0
-AreChangedTo-none change index old = record { done = λ k j low. absurd (omega (arith, low)); left = λ k up. refl; long = refl }
-
 pub AreChangedTo-more : (change : ℕ → Bool → Bool) (index : ℕ) (old words : List ℕ) (place word : ℕ) → AreChangedTo change index old words place →
     place < length words → ((j : ℕ) → j < 64 → (bit_at word j == 1) ≡ change (64 * (index + place) + j) (bit_at (get_or words place 0) j == 1)) →
     AreChangedTo change index old (set words place word) (place + 1)
@@ -66,10 +63,6 @@ AreChangedTo-more change index old words place word h inside is = record {
   left = λ k up. let other : k ≢ place = omega (arith, up) in get_or-set_other words place k word 0 other ∙ h.left k (omega (arith, up));
   long = length-set words place word ∙ h.long;
 }
-
-pub AreChangedTo-all : (change : ℕ → Bool → Bool) (index : ℕ) (old words : List ℕ) (place : ℕ) → AreChangedTo change index old words place →
-    length old ≤ place → AreChanged change index old words
-AreChangedTo-all change index old words place h all = record { long = h.long; told = λ k j low. h.done k j (omega (arith, low, all)) }
 
 -- nothing is changed, and one change after the other
 pub AreChanged-none : (change : ℕ → Bool → Bool) (index : ℕ) (words : List ℕ) → ((d : ℕ) (b : Bool) → change d b ≡ b) → AreChanged change index words words

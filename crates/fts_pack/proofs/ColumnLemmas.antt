@@ -6,7 +6,6 @@ use Rattle.std.specs.Option.{option_map_or}
 use Rattle.std.proofs.lemmas.List.{length-map, get_or-map, set_at, append_assoc, take_more, map_push, length-take-le, get_or_past}
 use Rattle.std.proofs.lemmas.List.{get_or-take}
 use Rattle.std.proofs.lemmas.List.Elements.{All-push, Contains-append_left, Contains-push}
-use Rattle.std.proofs.lemmas.Nat.{pow_pos}
 use Rattle.std.proofs.lemmas.Bool.{cases_lt}
 use Rattle.fts_pack.specs.bits.Digits.{IsWidthOf}
 use Rattle.fts_pack.specs.column.Column.{HaveOffsets, IsColumn, IsRangeOf, range_with, least_of, spread_of, offsets, values_at}
@@ -132,10 +131,6 @@ HaveOffsets-range values range width ends few is known small =
     let least : ends.0 ≡ least_of range = ap (λ r. r.0) known ∙ unwrap_least range in
     let spread : ends.1 - ends.0 ≡ spread_of range = ap (λ r. r.1 - r.0) known ∙ unwrap_spread range in
     rw least (record { few = few; above = above_least values range is; fits = offsets_fit values range width is (rw spread at small) })
-
-spread_fits : (range : Option (ℕ × ℕ)) → IfSome range (λ r. r.1 < 2 ^ 64) → spread_of range < 2 ^ 64
-spread_fits None h = pow_pos 64
-spread_fits (Some range) h = omega (arith, h)
 
 -- numbers past those of the presence bits don't matter
 values_at-take : (least : ℕ) (present : List Bool) (numbers : List ℕ) → values_at least present (take (length present) numbers) ≡ values_at least present numbers

@@ -18,11 +18,6 @@ has-below next (gap ∷ gaps) position low =
     ap (λ b. b || has (documents_at (suc (next + gap)) gaps) position) (below_is_other (next + gap) position (omega (arith, low)))
     ∙ has-below (suc (next + gap)) gaps position (omega (arith, low))
 
--- the first is passed, which is below the position
-pub same-past : (position first : ℕ) (later old : List ℕ) → first < position → AreSameFrom position (first ∷ later) old → AreSameFrom position later old
-same-past position first later old low same p from =
-    ap (λ b. b || has later p) (sym (above_is_other first p (omega (arith, low, from)))) ∙ same p from
-
 -- the first tells whether a position is there that isn't above it
 pub found-first : (position first : ℕ) (gaps old : List ℕ) → position ≤ first →
     AreSameFrom position (first ∷ documents_at (first + 1) gaps) old → (first == position) ≡ has old position

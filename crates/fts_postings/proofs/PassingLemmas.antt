@@ -1,11 +1,9 @@
 -- The numbers of a range that pass a test.
 use Rattle.std.proofs.Common.{◌≡◌, ℕ, zero, suc, ◌+◌, Bool, List, [], ◌∷◌, ◌++◌, drop, ap, subst, ◌∙◌, arith}
 use Rattle.std.specs.List.{filter, range_with_len}
-use Rattle.std.specs.List.Sorted.{IsStrictlyIncreasing}
 use Rattle.std.proofs.lemmas.List.Elements.{filter-append}
 use Rattle.fts_pack.specs.Documents.{Rises}
 use Rattle.fts_postings.specs.Windows.{passing}
-use Rattle.fts_postings.proofs.RemainingLemmas.{increasing-from_Rises}
 use Rattle.fts_postings.proofs.SetLemmas.{Rises-filter}
 
 pub range-append : (a m n : ℕ) → range_with_len a (m + n) ≡ range_with_len a m ++ range_with_len (a + m) n
@@ -32,6 +30,3 @@ pub Rises-drop : (k from : ℕ) (xs : List ℕ) → Rises from xs → (next : �
 Rises-drop zero from xs h = (from, h)
 Rises-drop (suc k) from [] h = (from, tt)
 Rises-drop (suc k) from (x ∷ xs) h = Rises-drop k (suc x) xs h.1
-
-pub increasing-passing : (p : ℕ → Bool) (a n k : ℕ) → IsStrictlyIncreasing (drop k (passing p a n))
-increasing-passing p a n k = let r = Rises-drop k a (passing p a n) (Rises-passing p a n) in increasing-from_Rises r.0 (drop k (passing p a n)) r.1

@@ -11,7 +11,6 @@ use Rattle.fts_pack.specs.Documents.{Rises}
 use Rattle.fts_postings.specs.Remaining.{at_least}
 use Rattle.fts_postings.specs.Sets.{has}
 use Rattle.fts_postings.specs.Takes.{Takes}
-use Rattle.fts_postings.specs.Windows.{is_set}
 use Rattle.fts_postings.specs.declared.window.Window.{Window}
 use Rattle.fts_postings.proofs.RemainingLemmas.{at_least_all, first-at_least, increasing-from_Rises}
 use Rattle.fts_postings.proofs.SetLemmas.{Rises-lower, filter-at_least, has-below, has-at_least, has-before_first, has-first, has-none}
@@ -64,13 +63,6 @@ module _ (set : List ℕ) (at : ℕ) (a b c : Window) (up : Rises 0 set) (holds 
       stands = λ low. sym (there doc up_to within) ∙ has-first (found b) doc first;
       holds = λ d high low. ap (λ xs. has xs d) same ∙ there d (omega (arith, high, up_to)) (omega (arith, low, last, sought_last));
     }
-
--- a window begun anew has what is marked
-pub holds_marked : (set : List ℕ) (from : ℕ) (begun w : Window) → found begun ≡ [] → w.last ≡ begun.last →
-    AreMarked (λ d. nat_le from d && has set d) begun w → Holds set from w
-holds_marked set from begun w none last marked d high low =
-    marked d ∙ ap (λ xs. has xs d || (nat_le d begun.last && (nat_le from d && has set d))) none
-    ∙ ap₂ (λ x y. x && (y && has set d)) (le-leb d begun.last (omega (arith, low, last))) (le-leb from d high)
 
 swap : (a b : Bool) → (a && b) ≡ (b && a)
 swap true true = refl

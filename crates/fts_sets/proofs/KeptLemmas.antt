@@ -50,15 +50,6 @@ keeps_more p xs ys k i x more b h inside is test adds =
           })
     ]
 
-pub keeps_all : (p : ℕ → Bool) (end : ℕ) (xs ys : List ℕ) (k i : ℕ) → FiltersInPlace p xs ys k i → i ≡ end → IsKept p end xs ys k
-keeps_all p end xs ys k i h all =
-    let front : take k ys ≡ filter p (take end xs) = h.front ∙ ap (λ n. filter p (take n xs)) all in
-    record {
-      front = front;
-      size = sym (length-take-le k ys (omega (arith, h.behind, h.within, h.long))) ∙ ap length front;
-      high = omega (arith, h.behind, all);
-    }
-
 -- one test after another
 pub kept_both : (p q r : ℕ → Bool) → ((d : ℕ) → r d ≡ (p d && q d)) → (end : ℕ) (old mid new : List ℕ) (k n : ℕ) → IsKept p end old mid k →
     IsKept q k mid new n → IsKept r end old new n
@@ -104,12 +95,6 @@ kept_every end docs room = record {
   size = sym (ap length (filter-every (take end docs)) ∙ length-take-le end docs room);
   high = omega arith;
 }
-
--- a test by another name
-pub kept_agree : (p q : ℕ → Bool) → ((d : ℕ) → p d ≡ q d) → (end : ℕ) (old new : List ℕ) (n : ℕ) → IsKept p end old new n → IsKept q end old new n
-kept_agree p q same end old new n h =
-    let all = filter-agree p q (take end old) same in
-    record { front = h.front ∙ all; size = h.size ∙ ap length all; high = h.high }
 
 -- the last tests, where what passed the first is below a number
 pub kept_low : (docs : ℕ) (any : List (Vec Leaf)) (none : List Leaf) (end : ℕ) (old new : List ℕ) (n : ℕ) → any ≡ [] →

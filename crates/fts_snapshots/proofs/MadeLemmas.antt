@@ -5,13 +5,13 @@ use Rattle.std.specs.Prelude.{IfOk, is_none}
 use Rattle.std.specs.List.{AllByRecursion, AllZip, flat_map}
 use Rattle.std.proofs.lemmas.Bool.{cases_lt}
 use Rattle.std.proofs.lemmas.Bool.Decides.{nat_tests}
-use Rattle.std.proofs.lemmas.List.{append_assoc, append-nil, at_drop_all, at_drop_more, length-map, map-append}
+use Rattle.std.proofs.lemmas.List.{append-nil, at_drop_all, at_drop_more, length-map, map-append}
 use Rattle.std.proofs.lemmas.List.Elements.{All-from_recursion, recursion_from_All}
 use Rattle.std.proofs.lemmas.List.Kept.{AllPairs-cons}
 use Rattle.std.proofs.lemmas.Result.{IfOk-weaker}
 use Rattle.fts_base.specs.declared.refusal.Refusal.{Refusal}
 use Rattle.fts_base.specs.declared.refusal.Refusal.TheVariants.{UnknownSegment, SegmentTwice}
-use Rattle.fts_base.specs.Results.{Gives, ok_unless}
+use Rattle.fts_base.specs.Results.{ok_unless}
 use Rattle.fts_model.proofs.Lists.{pairs_behind, pairs_front, pairs_none, Contains-first, Contains-behind}
 use Rattle.fts_merge.specs.Levels.{candidates_by}
 use Rattle.fts_merge.specs.declared.merge_policy.MergePolicy.{MergePolicy}
@@ -20,16 +20,16 @@ use Rattle.fts_snapshots.specs.Candidates.{MergesAllBut, after_candidate, due}
 use Rattle.fts_snapshots.specs.Changes.{Merges}
 use Rattle.fts_snapshots.specs.Entries.{EntryValue, has_live, live_count}
 use Rattle.fts_snapshots.specs.Infos.{candidate_ids_by, id_at, size_of}
-use Rattle.fts_snapshots.specs.LateMerges.{after_end, after_merge, end_fault, ended}
+use Rattle.fts_snapshots.specs.LateMerges.{after_end, after_merge, ended}
 use Rattle.fts_snapshots.specs.MadeMerges.{AreApart, AreMadeFor, IsMadeFor, IsTaskFor, Makes}
 use Rattle.fts_snapshots.specs.MergedSegments.{MergedSegmentValue, merged_of}
 use Rattle.fts_snapshots.specs.Merges.{entries_at, entry_at, fault_behind, is_among, is_there, names_fault, size_fault, without}
 use Rattle.fts_snapshots.specs.Snapshots.{IdsRise, IsSnapshot, SnapshotValue, merge_fault}
 use Rattle.fts_snapshots.specs.Successors.{Fits}
 use Rattle.fts_snapshots.specs.declared.merges.merge_task.MergeTask.{MergeTask}
-use Rattle.fts_snapshots.proofs.ChangeLemmas.{due_first, due_last, due_more}
+use Rattle.fts_snapshots.proofs.ChangeLemmas.{due_more}
 use Rattle.fts_snapshots.proofs.FollowLemmas.{fits_further, follows_end}
-use Rattle.fts_snapshots.proofs.LateBeginLemmas.{ids_named, merge_here}
+use Rattle.fts_snapshots.proofs.LateBeginLemmas.{ids_named}
 use Rattle.fts_snapshots.proofs.LateBitLemmas.{fault_of_err}
 use Rattle.fts_snapshots.proofs.MergeLemmas.{names_given}
 use Rattle.fts_snapshots.proofs.PlanLemmas.{all_parts}
@@ -154,12 +154,6 @@ all_tried js refused now next (ids ∷ candidates) (result ∷ made) tried a h =
   all_tried js refused now next candidates made tried a.1 h.1,
 )
 
--- the end of a merge whose segment was made gives what the merge gives
-pub end_given : {X : Type 0} (s new : SnapshotValue) (m : MergedSegmentValue) (result : Result X Refusal) → IsMadeFor m.ids s m →
-    Gives (λ done. new) result (ok_unless (end_fault s.next_id m s.entries) (after_end m s)) →
-    Gives (λ done. new) result (ok_unless (merge_fault m.ids s) (after_merge m.ids s))
-end_given s new m result made given = subst (Gives (λ done. new) result) (merge_here s m.ids m made.named made.few made.merged) given
-
 -- a merge of a candidate that succeeded
 pub merged_candidate : (ids : List ℕ) (s new : SnapshotValue) → ok_unless (merge_fault ids s) (after_merge ids s) ≡ Ok new →
     (merge_fault ids s ≡ None) × (new ≡ after_merge ids s) × (new ≡ after_candidate ids s)
@@ -224,19 +218,6 @@ zip_next R x xs (y ∷ ys) (suc k) h =
 abbrev pub AreLeft : List (List ℕ) → SnapshotValue → List (Result MergedSegmentValue Refusal) → Type 0
 AreLeft candidates s made = AreApart candidates × AreMadeFor (due candidates) s made
 
--- the next of the candidates that are left has a result
-pub made_here : {V : Type 0} (f : V → List ℕ) (vs : List V) (k : ℕ) (v : V) (made : List (Result MergedSegmentValue Refusal)) (s : SnapshotValue) →
-    k < length vs → v ≡ get_or vs k v → AreLeft (map f (drop k vs)) s (drop k made) →
-    (k < length made) × ((d : Result MergedSegmentValue Refusal) → IfOk (get_or made k d) (IsMadeFor (f v) s))
-made_here f vs k v made s within is left =
-    let rest = map f (drop (k + 1) vs) in
-    let R : List ℕ → Result MergedSegmentValue Refusal → Type 0 = λ ids result. IfOk result (IsMadeFor ids s) in
-    elim (nat_lt (length (f v)) 2) as (λ b. AreMadeFor (cond b (f v ∷ []) (f v ∷ due rest)) s (drop k made) →
-    (k < length made) × ((d : Result MergedSegmentValue Refusal) → IfOk (get_or made k d) (IsMadeFor (f v) s))) [
-      | true ↦ λ h. let next = zip_next R (f v) [] made k h in (next.0, next.1)
-      | false ↦ λ h. let next = zip_next R (f v) (due rest) made k h in (next.0, next.1)
-    ] (subst (λ cs. AreMadeFor cs s (drop k made)) (due_first f vs k v within is) left.1)
-
 -- the candidates that are left after one of several segments was tried
 pub made_more : {V : Type 0} (f : V → List ℕ) (vs : List V) (k : ℕ) (v : V) (made : List (Result MergedSegmentValue Refusal)) (now next : SnapshotValue)
     (refused : ℕ) → k < length vs → v ≡ get_or vs k v → 2 ≤ length (f v) → MergesAllBut refused (f v ∷ []) now next →
@@ -253,19 +234,6 @@ made_more f vs k v made now next refused within is several tried left =
 -- the progress of tasks: if more are those of the candidates that are left, all are those of all candidates
 abbrev pub Begun : (all left : List (List ℕ)) → SnapshotValue → List MergeTask → Type 0
 Begun all left s tasks = (more : List MergeTask) → AllZip (IsTaskFor s) (due left) more → AllZip (IsTaskFor s) (due all) (tasks ++ more)
-
-pub begun_more : {V : Type 0} (f : V → List ℕ) (vs : List V) (k : ℕ) (v : V) (s : SnapshotValue) (tasks : List MergeTask) (task : MergeTask) →
-    k < length vs → v ≡ get_or vs k v → 2 ≤ length (f v) → IsTaskFor s (f v) task →
-    Begun (map f vs) (map f (drop k vs)) s tasks → Begun (map f vs) (map f (drop (k + 1) vs)) s (tasks ++ task ∷ [])
-begun_more f vs k v s tasks task within is several one b more h =
-    subst (λ ts. AllZip (IsTaskFor s) (due (map f vs)) ts) (sym (append_assoc tasks (task ∷ []) more))
-    (b (task ∷ more) (subst (λ cs. AllZip (IsTaskFor s) cs (task ∷ more)) (sym (due_more f vs k v within is several)) (one, h)))
-
-pub begun_last : {V : Type 0} (f : V → List ℕ) (vs : List V) (k : ℕ) (v : V) (s : SnapshotValue) (tasks : List MergeTask) (task : MergeTask) →
-    k < length vs → v ≡ get_or vs k v → length (f v) < 2 → IsTaskFor s (f v) task →
-    Begun (map f vs) (map f (drop k vs)) s tasks → AllZip (IsTaskFor s) (due (map f vs)) (tasks ++ task ∷ [])
-begun_last f vs k v s tasks task within is few one b =
-    b (task ∷ []) (subst (λ cs. AllZip (IsTaskFor s) cs (task ∷ [])) (sym (due_last f vs k v within is few)) (one, tt))
 
 pub begun_all : {V : Type 0} (f : V → List ℕ) (vs : List V) (k : ℕ) (s : SnapshotValue) (tasks : List MergeTask) → length vs ≤ k →
     Begun (map f vs) (map f (drop k vs)) s tasks → AllZip (IsTaskFor s) (due (map f vs)) tasks
