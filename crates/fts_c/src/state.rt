@@ -45,7 +45,7 @@ pub(crate) enum Call<'a> {
     Replace(&'a [u8], &'a [u8]),
     /// Answers a search, cut to the fields that another line lists, if there is one.
     Search(&'a [u8], Option<&'a [u8]>),
-    /// Answers a search with so many groups at most, the most frequent ones.
+    /// Answers a search with at most this many groups, the most frequent ones.
     SearchGroups(&'a [u8], usize),
     /// Limits what commits merge.
     LimitMerges(Option<u32>),

@@ -5,7 +5,7 @@ ghost use Rattle.fts_engine.specs.Limits.{is_cut};
 pub use fts_model::Cut;
 use fts_model::MOST_BUILT;
 
-/// For so many nanoseconds of one thread's work a further one is worth waking.
+/// How many nanoseconds of one thread's work make a further one worth waking.
 const WORTH_A_THREAD: u64 = 100_000;
 
 /// How many workers build segments, and when segments end and merge.

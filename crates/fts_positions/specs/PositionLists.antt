@@ -33,7 +33,7 @@ abbrev pub positions_from : Option (ℕ × Bor (List ℕ)) → ℕ → ℕ → L
 positions_from None at end = []
 positions_from (Some first) at end = first.0 ∷ documents_at (first.0 + 1) (slice_range first.1.now at end)
 
--- the lists behind an optional reference, or none
+-- the lists that an optional reference points to, or none
 abbrev pub lists_behind : Option (Bor (List (List ℕ))) → List (List ℕ)
 lists_behind None = []
 lists_behind (Some lists) = lists.now

@@ -26,7 +26,7 @@ pub record AreTerms (kind : Kind) (vs : List (Option FieldValue)) (dictionary : 
   pub few : All (HasFewTokens kind) vs
   pub dictionary_is : IsDictionaryOf (occurrences kind 0 vs) dictionary.names dictionary.lists dictionary.positions
 
--- a dictionary is that of so many documents in a text or keyword field
+-- a dictionary is that of this many documents in a text or keyword field
 pub record AreTermsOf (kind : Kind) (field : ℕ) (documents : List (Stamped DocumentValue)) (docs : ℕ)
     (dictionary : Dictionary) : Type 0 where
   pub count : length documents ≡ docs

@@ -96,7 +96,7 @@ fn whole_stream<'a>(
     Ok(TermStream::new(dictionary, numbers))
 }
 
-/// The dictionary of the documents of two, each of so many: those of `front` and then those of `back`.
+/// The dictionary of the documents of two, of which each has this many: those of `front` and then those of `back`.
 fn merge_halves(
     alloc: Global,
     front: &Dictionary,

@@ -5,12 +5,12 @@ use Rattle.json.specs.Written.{Written}
 use Rattle.serde_json.specs.Data.{Data, Items, array}
 use Rattle.serde_json.specs.Written.{compact_text, outline}
 
--- a writer wrote a value, behind what it had
+-- a writer wrote a value, after what it had
 pub record IsWritten (value : Data) (old new : Written) : Type 0 where
   pub tokens : new.tokens ≡ old.tokens ++ json_tokens (outline value)
   pub before : new.before ≡ old.before
 
--- what stands before the groups and the hits of an answer, behind its count
+-- what comes before the groups and the hits of an answer, after its count
 abbrev pub groups_label : List ℕ
 groups_label = codes ",\"groups\":"
 

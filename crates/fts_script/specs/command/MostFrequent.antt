@@ -19,7 +19,7 @@ sort_by less (x ∷ xs) = insert_by less x (sort_by less xs)
 abbrev pub frequency_cmp : GroupValue × ℕ → GroupValue × ℕ → Ordering
 frequency_cmp a b = ordering_then (nat_cmp b.1 a.1) (group_cmp a.0 b.0)
 
--- the most frequent groups, at most so many
+-- the most frequent groups, at most this many
 abbrev pub most_frequent : ℕ → List (GroupValue × ℕ) → List (GroupValue × ℕ)
 most_frequent limit groups = take limit (sort_by (λ a b. is_lt (frequency_cmp a b)) groups)
 

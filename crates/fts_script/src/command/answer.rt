@@ -97,7 +97,7 @@ fn hit_text(alloc: Global, hit: &Hit, names: Option<&[Text]>) -> Result<String, 
     Ok(text)
 }
 
-/// Appends the text of an item to that of a list, behind a comma if it is a later one.
+/// Appends the text of an item to that of a list, after a comma if it is a later one.
 fn push_item(item: &str, is_later: bool, list: &mut String) -> Result<(), AllocError>
     ensures { OnOk result (string_bytes list.new ≡ string_bytes list.old ++ (comma_if is_later ++ item.now)) }
 {

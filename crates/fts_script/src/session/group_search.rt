@@ -26,7 +26,7 @@ fn compare(a: &(GroupValue, u64), b: &(GroupValue, u64)) -> Ordering
     b.1.cmp(&a.1).then(a.0.compare(&b.0))
 }
 
-/// The most frequent groups, at most so many.
+/// The most frequent groups, at most this many.
 fn most_frequent(mut groups: Vec<(GroupValue, u64)>, limit: usize) -> Vec<(GroupValue, u64)>
     ensures { result.items ≡ most_frequent limit groups.items }
 {
@@ -108,7 +108,7 @@ fn find_frequent_whole<R: AllocGlobal + Sync, E: EngineOver<R>>(
     }
 }
 
-/// Replies to a search in the line of this number, with the most frequent groups alone, at most so many.
+/// Replies to a search in the line of this number, with the most frequent groups alone, at most this many.
 pub(crate) fn answer_find_frequent<R: AllocGlobal + Sync, E: EngineOver<R>>(
     rt: &R,
     index: &mut Option<E>,

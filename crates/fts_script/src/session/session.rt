@@ -235,7 +235,7 @@ impl<E: Engine> Session<E> {
         }
     }
 
-    /// Replies to a search as `search` does, with the most frequent groups alone, at most so many: those of the
+    /// Replies to a search as `search` does, with the most frequent groups alone, at most this many: those of the
     /// greatest counts first, those of equal counts by their values.
     pub fn find_frequent<R: AllocGlobal + Sync>(
         &mut self,
