@@ -1,13 +1,19 @@
 -- The numbers of a field.
-use Rattle.std.proofs.Common.{◌≡◌, ◌+◌, ◌<◌, ◌≤◌, ◌==◌, ℕ, suc, Bool, true, false, cond, List, [], ◌∷◌, ◌++◌, ◌⊎◌, map, filter, length, Option, Some, None, not, ◌&&◌, refl}
+use Rattle.std.proofs.Common.{◌≡◌, ◌+◌, ◌*◌, ◌<◌, ◌≤◌, ◌==◌, ℕ, suc, Bool, true, false, cond, List, [], ◌∷◌, ◌++◌, ◌⊎◌, map, filter, length, Option, Some, None, refl}
 use Rattle.std.proofs.Common.{sym, ap, ◌∙◌, inl, inr, arith, All, Contains, append-nil, get_or}
-use Rattle.std.specs.List.Sorted.{IsNonDecreasingBy, IsStrictlyIncreasing, IsStableByKey, ties}
-use Rattle.std.specs.Ordering.{is_lt, nat_cmp}
+use Rattle.std.specs.List.{AllPairs}
+use Rattle.std.specs.List.Sorted.{IsNonDecreasingBy, IsPermutation, IsSorted, IsStrictlyIncreasing}
+use Rattle.std.specs.Ordering.{is_lt, nat_cmp, ordering_then}
 use Rattle.std.proofs.lemmas.Bool.{cases_eq, cases_lt, cases_order, false≢true}
 use Rattle.std.proofs.lemmas.Bool.Decides.{nat_tests}
 use Rattle.std.proofs.lemmas.Option.{slice_get_within, slice_get-get_or, get_or_from_slice_get}
-use Rattle.std.proofs.lemmas.List.{length-append, map-append, map_push, length_push, get_or_append_left, get_or_push}
-use Rattle.std.proofs.lemmas.List.Elements.{filter-append, filter_agree, All-nil, All-push, All-tail, All-head, All-weaker, All-contains, Contains-push, Contains-append_left, Contains-get_or}
+use Rattle.std.proofs.lemmas.List.{length-append, length-map, map-append, map_push, length_push, get_or-map, get_or_append_left, get_or_push}
+use Rattle.std.proofs.lemmas.List.Elements.{filter-append, All-nil, All-push, All-tail, All-head, All-weaker, All-contains, Contains-push, Contains-append_left, Contains-get_or}
+use Rattle.std.proofs.lemmas.List.Kept.{AllPairs-filter, AllPairs-from_increasing}
+use Rattle.std.proofs.lemmas.List.Sorted.{Contains-permutation, IsNonDecreasingBy-from_sort, IsPermutation-sym}
+use Rattle.std.proofs.lemmas.Map.Keys.{IsDistinct-IsPermutation, IsDistinct-from_apart, apart_from_distinct}
+use Rattle.std.proofs.lemmas.Map.Made.{Contains-from_values_of, Contains-values_of}
+use Rattle.fts_model.proofs.Lists.{Contains-filter, Contains-from_filter, one_order}
 use Rattle.fts_segment.specs.Segments.{numbers_where}
 use Rattle.fts_segment.specs.Numbers.{is_number, IsNumberIndex}
 use Rattle.fts_segment.proofs.HoldingLemmas.{numbers_where-push, numbers_where-holds}
@@ -197,19 +203,92 @@ numbered-some x ps vs y doc at same =
 pub numbered-none : (x : ℕ) (vs : List (Option ℕ)) → numbers_where (is_number x) 0 vs ≡ numbers_where (is_number x) 0 (vs ++ None ∷ [])
 numbered-none x vs = sym (numbers_where-push (is_number x) 0 vs None ∙ append-nil (numbers_where (is_number x) 0 vs))
 
-tie : (x y : ℕ) → (not (is_lt (nat_cmp x y)) && not (is_lt (nat_cmp y x))) ≡ (y == x)
-tie x y = elim (cases_order x y) [
-  | inl same ↦ grind (arith, nat_tests)
-  | inr (inl lower) ↦ grind (arith, nat_tests)
-  | inr (inr higher) ↦ grind (arith, nat_tests)
-]
+-- what pairs are sorted by: their numbers, and then their documents
+abbrev rank : ℕ × ℕ → ℕ
+rank p = p.0 * 4294967296 + p.1
 
--- a stable sort by number keeps the documents of each number
-pub stable_docs : (x : ℕ) (ps qs : List (ℕ × ℕ)) → IsStableByKey (λ p. p.0) nat_cmp ps qs → docs_of_number x qs ≡ docs_of_number x ps
-stable_docs x ps qs stable =
-    let t : ℕ × ℕ → Bool = ties (λ a b. is_lt (nat_cmp a.0 b.0)) (x, 0) in
-    let q : ℕ × ℕ → Bool = λ p. p.0 == x in
-    ap (map (λ (p : ℕ × ℕ). p.1)) (sym (filter_agree t q (λ p. tie x p.0) qs) ∙ stable (x, 0) ∙ filter_agree t q (λ p. tie x p.0) ps)
+in_turn : (a b : ℕ × ℕ) → a.1 < 4294967296 → b.1 < 4294967296 → is_lt (ordering_then (nat_cmp b.0 a.0) (nat_cmp b.1 a.1)) ≡ false →
+    is_lt (nat_cmp (rank b) (rank a)) ≡ false
+in_turn a b small low h =
+    elim (cases_lt (rank b) (rank a)) [
+      | inr up ↦ grind (arith, nat_tests, up)
+      | inl down ↦ elim (cases_order b.0 a.0) [
+        | inl same ↦
+            let less : b.1 < a.1 = omega (arith, down, same) in
+            absurd (false≢true (sym h ∙ (let is : is_lt (ordering_then (nat_cmp b.0 a.0) (nat_cmp b.1 a.1)) ≡ true = grind (arith, nat_tests, same, less) in is)))
+        | inr (inl lower) ↦
+            absurd (false≢true (sym h ∙ (let is : is_lt (ordering_then (nat_cmp b.0 a.0) (nat_cmp b.1 a.1)) ≡ true = grind (arith, nat_tests, lower) in is)))
+        | inr (inr higher) ↦ absurd (omega (arith, down, higher, small, low))
+      ]
+    ]
+
+-- sorted pairs rise by both
+pub ranks_up : (ps : List (ℕ × ℕ)) → All (λ p. p.1 < 4294967296) ps → IsSorted (λ x y. ordering_then (nat_cmp x.0 y.0) (nat_cmp x.1 y.1)) ps →
+    IsNonDecreasingBy rank ps
+ranks_up ps small sorted =
+    IsNonDecreasingBy-from_sort rank ps (λ k d low within.
+    in_turn (get_or ps k d) (get_or ps (k + 1) d) (small k d (omega (arith, within))) (small (k + 1) d within) (sorted k d low within))
+
+pub numbers_up : (ps : List (ℕ × ℕ)) → All (λ p. p.1 < 4294967296) ps → IsNonDecreasingBy rank ps → IsNonDecreasingBy (λ p. p.0) ps
+numbers_up ps small up i j d le within =
+    let a : (get_or ps i d).1 < 4294967296 = small i d (omega (arith, le, within)) in
+    let b : (get_or ps j d).1 < 4294967296 = small j d within in
+    omega (arith, up i j d le within, a, b)
+
+same_test : (x y : ℕ) → (x == y) ≡ (y == x)
+same_test x y = elim (cases_eq x y) [ inl same ↦ grind (arith, nat_tests) | inr differ ↦ grind (arith, nat_tests) ]
+
+-- documents that rise differ, in whatever order they come
+docs_differ : (ps qs : List (ℕ × ℕ)) → IsPermutation ps qs → AllPairs (λ (a b : ℕ × ℕ). a.1 < b.1) ps →
+    AllPairs (λ (a b : ℕ × ℕ). (a.1 == b.1) ≡ false) qs
+docs_differ ps qs moved rise =
+    let same : ℕ × ℕ → ℕ × ℕ → Bool = λ a b. a.1 == b.1 in
+    let before = IsDistinct-from_apart same ps (λ i j d low within.
+    let less : (get_or ps i d).1 < (get_or ps j d).1 = rise i j d low within in grind (arith, nat_tests, less)) in
+    let after = IsDistinct-IsPermutation same (λ a b. same_test a.1 b.1) ps qs moved before in
+    λ i j d low within. apart_from_distinct same qs i j d after low within
+
+is_same : {x y : ℕ} → (x == y) ≡ true → x ≡ y
+is_same {x} {y} h = grind (arith, nat_tests, h)
+
+are_apart : {x y : ℕ} → (x == y) ≡ false → x ≡ y → ⊥
+are_apart {x} {y} h same = absurd (false≢true (sym h ∙ (let is : (x == y) ≡ true = grind (arith, nat_tests, same) in is)))
+
+-- the documents of a number rise, if those of all pairs differ
+docs_up : (x : ℕ) (ps : List (ℕ × ℕ)) → IsNonDecreasingBy rank ps → AllPairs (λ (a b : ℕ × ℕ). (a.1 == b.1) ≡ false) ps →
+    IsStrictlyIncreasing (docs_of_number x ps)
+docs_up x ps up differ k within =
+    let test : ℕ × ℕ → Bool = λ p. p.0 == x in
+    let kept = filter test ps in
+    let R : ℕ × ℕ → ℕ × ℕ → Type 0 = λ a b. (rank a ≤ rank b) × ((a.1 == b.1) ≡ false) in
+    let d : ℕ × ℕ = (x, 0) in
+    let second : ℕ × ℕ → ℕ = λ p. p.1 in
+    let inside : k + 1 < length kept = omega (arith, within, length-map kept second) in
+    let both = AllPairs-filter R test ps (λ i j e low there. (up i j e (omega (arith, low)) there, differ i j e low there)) k (k + 1) d (omega arith) inside in
+    let first : (get_or kept k d).0 ≡ x = is_same (Contains-from_filter test ps (get_or kept k d) (Contains-get_or kept k d (omega (arith, inside)))).1 in
+    let later : (get_or kept (k + 1) d).0 ≡ x = is_same (Contains-from_filter test ps (get_or kept (k + 1) d) (Contains-get_or kept (k + 1) d inside)).1 in
+    let apart : (get_or kept k d).1 ≡ (get_or kept (k + 1) d).1 → ⊥ = are_apart both.1 in
+    rw (get_or-map second kept k d 0 (omega (arith, inside))) (rw (get_or-map second kept (k + 1) d 0 inside) (omega (arith, both.0, first, later, apart)))
+
+-- a document of a number stays one, in whatever order the pairs come
+docs_stay : (x : ℕ) (ps qs : List (ℕ × ℕ)) → IsPermutation ps qs → (d : ℕ) → Contains (docs_of_number x ps) d → Contains (docs_of_number x qs) d
+docs_stay x ps qs moved d at =
+    let test : ℕ × ℕ → Bool = λ p. p.0 == x in
+    let from = Contains-from_values_of (filter test ps) d at in
+    let there = Contains-from_filter test ps (from.0, d) from.1 in
+    Contains-values_of (filter test qs) from.0 d
+    (Contains-filter test qs (from.0, d) (Contains-permutation ps qs (from.0, d) moved there.0) there.1)
+
+-- sorting pairs whose documents rise keeps the documents of each number
+pub sorted_docs : (x : ℕ) (ps qs : List (ℕ × ℕ)) → IsPermutation ps qs → AllPairs (λ (a b : ℕ × ℕ). a.1 < b.1) ps → IsNonDecreasingBy rank qs →
+    IsStrictlyIncreasing (docs_of_number x ps) → docs_of_number x qs ≡ docs_of_number x ps
+sorted_docs x ps qs moved rise up docs =
+    let less : ℕ → ℕ → Type 0 = λ a b. a < b in
+    one_order less (λ a b p q. omega (arith, p, q)) (docs_of_number x qs) (docs_of_number x ps)
+    (AllPairs-from_increasing (docs_of_number x qs) (docs_up x qs up (docs_differ ps qs moved rise)))
+    (AllPairs-from_increasing (docs_of_number x ps) docs)
+    (docs_stay x qs ps (IsPermutation-sym ps qs moved))
+    (docs_stay x ps qs moved)
 
 -- the groups of the numbers of a column are its index
 pub IsNumberIndex-grouped : (vs : List (Option ℕ)) (pairs : List (ℕ × ℕ)) {numbers : List ℕ} {lists : List (List ℕ)} →

@@ -126,7 +126,7 @@ fn numbers_of(
     Ok(numbers)
 }
 
-/// The numbers of documents, each with its document: the numbers rise, and equal ones stay in the order of documents.
+/// The numbers of documents, each with its document: the numbers rise, and of equal ones the documents.
 fn sorted_pairs(alloc: Global, values: &[Option<u64>]) -> Result<Vec<(u64, u32)>, AllocError>
     requires few { length values.now ≤ 2 ^ 32 }
     ensures rise { IfOk result (λ v. IsNonDecreasingBy (λ p. p.0) v.items) }
@@ -139,7 +139,8 @@ fn sorted_pairs(alloc: Global, values: &[Option<u64>]) -> Result<Vec<(u64, u32)>
             pairs.push((*number, doc as u32))?;
         }
     }
-    pairs.sort_by_key(|pair| pair.0)?;
+    // This sort takes no buffer. To free a large one would raise the size from which buffers come from the system.
+    pairs.sort_unstable();
     Ok(pairs)
 }
 
