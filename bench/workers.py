@@ -5,16 +5,20 @@
 
 Build the program first (README.md), or name it in $FTS. The documents are those of bench/corpus.py, the kinds of search those of
 bench/searches.py. There is a run of the program for each number of workers, with all DOCUMENTS (1,000,000) in SEGMENTS segments. The runs take
-turns, ROUNDS times for each kind, in an order that is turned around each time: what other work slows down, it slows down for all. So beside the
-least microseconds of a search the table has the median of what the rounds say of more workers: how many times as fast as one.
+turns, ROUNDS times for each kind, in an order that is turned around each time: what other work slows down, it slows down for all. A turn takes LEAST
+seconds or more, so that it isn't spent on reading anew what the runs before have driven from the caches. Beside the least microseconds of a search
+the table has the median of what the rounds say of more workers: how many times as fast as one.
 """
 from __future__ import annotations
 
+import itertools
 import json
+import math
 import statistics
 import sys
+import threading
 import time
-from typing import Any, Iterable
+from typing import Any, Iterable, Sequence
 
 import corpus
 import searches
@@ -23,8 +27,9 @@ from programs import PROGRAM, Session
 
 WORKERS = (1, 2, 4)
 SEGMENTS = 16
-# Rounds of each kind, and how many searches one has; fewer if a search takes long.
-ROUNDS, EACH, SECONDS = 9, 60, 0.4
+# Rounds of each kind, how many different searches a turn has, and how many seconds it takes: at least so many, for which the searches come again, and
+# at most, for which there are fewer.
+ROUNDS, EACH, LEAST, MOST = 9, 60, 0.05, 0.4
 # Rounds of commits and merges.
 MERGES = 3
 
@@ -37,12 +42,13 @@ class Script(Session):
 
     def seconds(self, lines: Iterable[str], replies: int) -> tuple[list[str], float]:
         """The replies, and the seconds until they were there."""
-        text = "".join(line + "\n" for line in lines)
         began = time.perf_counter()
-        self.input.write(text)
-        self.input.flush()
+        writing = threading.Thread(target=self._write, args=(lines,))
+        writing.start()
         found = [self._reply() for _ in range(replies)]
-        return found, time.perf_counter() - began
+        seconds = time.perf_counter() - began
+        writing.join()
+        return found, seconds
 
     def add(self, documents: list[str]) -> None:
         self.ask(documents, len(documents))
@@ -51,6 +57,12 @@ class Script(Session):
 def lines(count: int) -> list[str]:
     """The schema, and the documents' adds."""
     return [json.dumps(corpus.SCHEMA), *map(corpus.add, corpus.documents(count))]
+
+
+def filled(lines: Sequence[str], seconds: float) -> list[str]:
+    """The lines of a turn, if all of them once take so many seconds."""
+    wanted = len(lines) * max(math.ceil(LEAST / seconds), 1) if seconds < MOST else max(4, int(len(lines) * MOST / seconds))
+    return list(itertools.islice(itertools.cycle(lines), wanted))
 
 
 def options(count: int) -> tuple[str, str]:
@@ -62,13 +74,13 @@ def searched(runs: dict[int, Script], count: int) -> dict[str, dict[int, list[fl
     took: dict[str, dict[int, list[float]]] = {}
     for kind, drawn in searches.drawn(count, EACH).items():
         asked = [searches.line(search) for search in drawn]
-        answers, once = runs[1].seconds(asked, len(asked))
-        asked = asked[:max(4, int(len(asked) * min(SECONDS / once, 1)))]
+        replies, once = runs[1].seconds(asked, len(asked))
+        asked, answers = filled(asked, once), filled(replies, once)
         times: dict[int, list[float]] = {workers: [] for workers in runs}
         for turn in range(ROUNDS):
             for workers in [*runs][::1 if turn % 2 else -1]:
                 found, seconds = runs[workers].seconds(asked, len(asked))
-                if found != answers[:len(asked)]:
+                if found != answers:
                     raise AssertionError(f"{workers} workers answer {kind} differently")
                 times[workers].append(seconds / len(asked) * 1e6)
         took[kind] = times
