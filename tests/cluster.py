@@ -22,6 +22,7 @@ import time
 
 import processes
 from counts import Counts
+from debian import install
 from processes import run_tests
 
 ROOT = pathlib.Path(__file__).resolve().parents[1]
@@ -52,12 +53,9 @@ def with_distributed():
             return python, []
     if os.environ.get("DILFOREC_INSTALL") == "0":
         return None
-    if not os.geteuid() and shutil.which("apt-get"):
-        counts.say("installing python3-distributed")
-        run("apt-get", "install", "-y", "--no-install-recommends", "python3-distributed", seconds=120,
-            env={**os.environ, "DEBIAN_FRONTEND": "noninteractive"})
-        if imports_distributed("/usr/bin/python3"):
-            return "/usr/bin/python3", []
+    install(counts, "python3-distributed")
+    if imports_distributed("/usr/bin/python3"):
+        return "/usr/bin/python3", []
     folder = OUT / "dask"
     if not folder.is_dir():
         pip = [sys.executable, "-m", "pip", "install", "--timeout", "5", "--retries", "0"]

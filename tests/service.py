@@ -20,6 +20,7 @@ import sys
 import tempfile
 
 from counts import Counts
+from debian import install
 from processes import Tests, run_tests
 
 counts = Counts("service")
@@ -37,20 +38,6 @@ BROWSERS = ("chromium", "chromium-browser", "google-chrome")
 SECONDS = 600
 
 
-def install(*packages: str) -> None:
-    """Installs packages of Debian, if that may be done here."""
-    if os.environ.get("DILFOREC_INSTALL") == "0" or os.geteuid() or not shutil.which("apt-get"):
-        return
-    counts.say(f"installing {', '.join(packages)}")
-    try:
-        subprocess.run(
-            ["apt-get", "-o", "DPkg::Lock::Timeout=100", "install", "-y", "--no-install-recommends", *packages],
-            capture_output=True, timeout=240, env={**os.environ, "DEBIAN_FRONTEND": "noninteractive"},
-        )
-    except subprocess.TimeoutExpired:
-        counts.say(f"installing {', '.join(packages)} took too long")
-
-
 def serves(python: str, folder: str) -> bool:
     """Whether a Python can serve, maybe by Debian's modules, which are linked into a folder of modules for it.
 
@@ -63,7 +50,7 @@ def serves(python: str, folder: str) -> bool:
     if there(os.environ.get("PYTHONPATH", "")):
         return True
     if not all((DEBIAN / module).exists() for module in MODULES[:3]):
-        install(*PACKAGES)
+        install(counts, *PACKAGES)
     for module in MODULES:
         if (DEBIAN / module).exists():
             os.symlink(DEBIAN / module, os.path.join(folder, module))
@@ -75,7 +62,7 @@ def add_modules(folder: str, package: str, modules: tuple[str, ...]) -> None:
     if importlib.util.find_spec(modules[0]):
         return
     if not (DEBIAN / modules[0]).is_dir():
-        install(package)
+        install(counts, package)
     for module in modules:
         if (DEBIAN / module).is_dir() and not importlib.util.find_spec(module):
             os.symlink(DEBIAN / module, os.path.join(folder, module))
@@ -89,9 +76,9 @@ def run(test: pathlib.Path, paths: list[str]) -> tuple[str, Tests]:
 
 def main() -> int:
     if not any(map(shutil.which, BROWSERS)):
-        install("chromium")
+        install(counts, "chromium")
     if not shutil.which("gunicorn"):
-        install("gunicorn")
+        install(counts, "gunicorn")
     with tempfile.TemporaryDirectory() as folder, concurrent.futures.ThreadPoolExecutor(4) as pool:
         # The environment's package comes first, such as one that is installed.
         given = [path for path in [os.environ.get("PYTHONPATH", "")] if path]
