@@ -9,6 +9,7 @@ unless bindings/build.sh has linked them. It takes some seconds, and proves and 
 - Links: each leads to a file that is there, and to a heading of it. Addresses of the web aren't asked.
 - Names: each path of the repository and each crate that a page names in code is there, and each name in the code of the pages about the
   sources occurs in these.
+- Files: ARCHITECTURE names each file that a search goes through once.
 - Commands: each block of command lines in README, DATA, EMBEDDING, SCALE and SERVICE runs, in a folder of its own, with
   stand-ins for what reaches other machines; except the lines that `ELSEWHERE` lists, with the reason. Blocks of Python
   compile. Commands of a script are commands. Queries of QUERIES.md are what that page says.
@@ -79,6 +80,12 @@ VERSIONS = {
 # Pages whose names in code are names of the sources, but for these, which are the kit's and Python's.
 ABOUT_SOURCES = [DOCS / f"{name}.md" for name in ("ARCHITECTURE", "DECISIONS", "EMBEDDING", "PROOFS")]
 OF_OTHERS = {"conflicts_with", "k_smallest", "kmerge", "logic", "plant", "pydoc", "rattle"}
+
+# The crates that a search goes through below the index, and their files that it doesn't go through.
+OF_SEARCHES = {
+    "fts_collect": (), "fts_cursor": (), "fts_sets": (), "fts_postings": (), "fts_parts": (),
+    "fts_positions": ("position_copier", "position_lists"),
+}
 
 # Command lines that don't run here, each by how it begins or by a word in it, and why.
 ELSEWHERE = {
@@ -357,6 +364,19 @@ def commands(place: Place) -> None:
                         break
 
 
+def files_of_searches() -> None:
+    """ARCHITECTURE.md's table of the files that a search goes through names each file of these crates once."""
+    named_files = []
+    crate = ""
+    for row in re.findall(r"^\|([^|]*)\|([^|]*)\|[^|]*\|$", (DOCS / "ARCHITECTURE.md").read_text("utf-8"), re.MULTILINE):
+        crate = re.sub("[`, ]", "", row[0]).replace("searches/", "") or crate
+        named_files += [(crate, name) for name in re.findall(r"`(\w+)`", row[1])]
+    for each in OF_SEARCHES:
+        there = {path.stem for path in (ROOT / "crates" / each / "src").rglob("*.rt")} - {"lib", *OF_SEARCHES[each]}
+        found = sorted(name for crate, name in named_files if crate == each and name not in OF_SEARCHES[each])
+        check(f"docs/ARCHITECTURE.md: the files of {each}", found == sorted(there), f"names {found}, and there are {sorted(there)}")
+
+
 def unlisted() -> None:
     """Each block of the pages with commands is of a kind that is known: commands, JSON, Python, or what `OTHERS` lists."""
     for page in [*WITH_COMMANDS, TUTORIAL]:
@@ -616,6 +636,7 @@ def main() -> int:
     links()
     names()
     words_of_code()
+    files_of_searches()
     unlisted()
     quoted()
     counted()
