@@ -273,7 +273,7 @@ class Trials:
         """What `check` says of these functions over a copy of what the control left."""
         with tempfile.TemporaryDirectory(prefix=f"{self.crate.name}-", dir=self.proved.parent) as room:
             folder = pathlib.Path(room, "proved")
-            self.rt.linked(self.proved, folder)
+            shutil.copytree(self.proved, folder)
             return self.check(texts, functions, folder, 1)
 
     def judge(self, edit: Edit, texts: dict[str, str], status: int, lines: list[str]) -> None:
