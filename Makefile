@@ -108,7 +108,7 @@ prove:
 
 check:
 	$(HAS_KIT)
-	@echo "The merge gate: every proof, edit and test, most of an hour on four processors (README.md has the minutes)."
+	@echo "The merge gate: every proof, edit and test, an hour or two on four processors (README.md has more)."
 	@echo "It installs packages of Debian that the tests lack, unless DILFOREC_INSTALL=0."
 	.ci/run
 
