@@ -49,6 +49,7 @@ import reading
 import service
 import try_crate
 from counts import Counts
+from debian import install
 from processes import completed
 
 ROOT = pathlib.Path(__file__).resolve().parents[1]
@@ -455,7 +456,7 @@ def tutorial(place: Place) -> None:
     has_package = linked()
     serves = has_package and service.serves(sys.executable, str(modules))
     if not shutil.which("grep-dctrl"):
-        service.install("dctrl-tools")
+        install(counts, "dctrl-tools")
     paths = os.pathsep.join([place.environment["PYTHONPATH"], str(modules)])
     place = Place(folder, {**place.environment, "PYTHONPATH": paths})
     running: subprocess.Popen[str] | None = None
