@@ -4,6 +4,7 @@ pub mod RunLemmas
 pub mod StreamLemmas
 pub mod AnswerLemmas
 pub mod CarrierLemmas
+pub mod CountLemmas
 pub mod HistoryLemmas
 pub mod LineLemmas
 pub mod ReplaceLemmas

@@ -5,6 +5,7 @@
 
 mod blank;
 mod commands;
+mod count_line;
 mod group_search;
 pub mod laws;
 mod maintenance;

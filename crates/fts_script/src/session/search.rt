@@ -18,6 +18,7 @@ ghost use Rattle.fts_script.specs.session.Sessions.{Does, ChangesAtMost};
 
 use crate::command::{Command, Search, command_of, field_names_of};
 use crate::session::commands::json_of;
+use crate::session::count_line::count_in;
 use crate::session::print::{LONGEST_NUMBER_LINE, print};
 use crate::session::reply::Reply;
 use fts_engine::EngineOver;
@@ -157,6 +158,10 @@ fn search_whole<R: AllocGlobal + Sync, E: EngineOver<R>>(
     ensures same { option_map E.index index.new ≡ option_map E.index index.old }
     ensures changes { (n : ℕ) → ChangesAtMost E.changes n index.old → ChangesAtMost E.changes n index.new }
 {
+    if let Some(asked) = count_in(line) {
+        let names = listed_in(rt.alloc(), names)?;
+        return search_only(rt, index, Command::Search(asked), names);
+    }
     let json = json_of(rt.alloc(), line)?;
     match command_of(rt.alloc(), &json)? {
         Some(command) => {
