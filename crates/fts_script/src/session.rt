@@ -5,7 +5,6 @@
 
 mod blank;
 mod commands;
-mod count_line;
 mod group_search;
 pub mod laws;
 mod maintenance;
@@ -15,6 +14,7 @@ mod reply;
 mod savepoint;
 mod search;
 mod session;
+mod usual_count;
 
 pub use blank::{first_line, is_blank, is_white};
 pub use maintenance::Maintenance;

@@ -15,10 +15,10 @@ ghost use Rattle.fts_script.specs.session.Replies.{text_of, index_after};
 ghost use Rattle.fts_script.specs.session.Sessions.{Does, ChangesAtMost, ChangesOnce};
 
 use crate::command::{Command, command_of};
-use crate::session::count_line::count_in;
 use crate::session::print::{LONGEST_NUMBER_LINE, print};
 use crate::session::reply::{NumberName, Reply};
 use crate::session::search::search;
+use crate::session::usual_count::usual_count;
 use fts_engine::{Engine, EngineOver, Options};
 use fts_model::{Document, Field, Op, Refusal, Schema, Term};
 use serde_json::Value;
@@ -182,7 +182,7 @@ fn execute_whole<R: AllocGlobal + Sync, E: EngineOver<R>>(
         (option_map E.index index.old) (option_map E.index index.new) result }
     ensures changes { ChangesOnce E.changes index.old index.new }
 {
-    if let Some(search) = count_in(line) {
+    if let Some(search) = usual_count(line) {
         return execute(rt, options, index, Command::Search(search));
     }
     let json = json_of(rt.alloc(), line)?;

@@ -18,9 +18,9 @@ ghost use Rattle.fts_script.specs.session.Sessions.{Does, ChangesAtMost};
 
 use crate::command::{Command, Search, command_of, field_names_of};
 use crate::session::commands::json_of;
-use crate::session::count_line::count_in;
 use crate::session::print::{LONGEST_NUMBER_LINE, print};
 use crate::session::reply::Reply;
+use crate::session::usual_count::usual_count;
 use fts_engine::EngineOver;
 use fts_model::{Order, Query, Refusal, Request, Schema, Text};
 use fts_query::parse;
@@ -158,7 +158,7 @@ fn search_whole<R: AllocGlobal + Sync, E: EngineOver<R>>(
     ensures same { option_map E.index index.new ≡ option_map E.index index.old }
     ensures changes { (n : ℕ) → ChangesAtMost E.changes n index.old → ChangesAtMost E.changes n index.new }
 {
-    if let Some(asked) = count_in(line) {
+    if let Some(asked) = usual_count(line) {
         let names = listed_in(rt.alloc(), names)?;
         return search_only(rt, index, Command::Search(asked), names);
     }

@@ -3,7 +3,7 @@ use Rattle.std.specs.Cmp.Lexicographic.{pointwise, bytes_decides}
 use Rattle.std.specs.Prelude.{nat_eq}
 use Rattle.fts_script.specs.command.Commands.{command, Find}
 use Rattle.fts_script.proofs.CountLemmas.{before, after, counts}
-use Rattle.fts_script.proofs.session.count_line.count_in.Goals as goal
+use Rattle.fts_script.proofs.session.usual_count.usual_count.Goals as goal
 
 -- what begins with a text is that text and what comes after it
 begins : (text front rest : List ℕ) → pointwise nat_eq (take (length front) text) front ≡ true → rest ≡ drop (length front) text → text ≡ front ++ rest

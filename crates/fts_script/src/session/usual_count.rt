@@ -27,7 +27,7 @@ fn are_plain(text: &[u8]) -> bool
 }
 
 /// The search of a line that is `{"search":{"query":"QUERY"}}`, byte for byte, if nothing in QUERY is escaped.
-pub(crate) fn count_in(line: &[u8]) -> Option<Search<'_>>
+pub(crate) fn usual_count(line: &[u8]) -> Option<Search<'_>>
     requires fits_line { length line.now ≤ longest }
     ensures { IfSome result (λ search. command line.entry.now ≡ Ok (Find (search_value search))) }
 {
