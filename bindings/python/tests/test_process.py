@@ -8,6 +8,7 @@ import time
 import unittest
 
 import dilforec
+from dilforec import memory
 
 FIELDS = (dilforec.text("title", default=True), dilforec.u64("year"))
 
@@ -158,6 +159,22 @@ class Stacks(unittest.TestCase):
         finally:
             threading.stack_size(before)
         self.assertEqual(found, [0])
+
+
+class Memory(unittest.TestCase):
+    def resident(self):
+        with open("/proc/self/statm") as file:
+            return int(file.read().split()[1]) * os.sysconf("SC_PAGE_SIZE")
+
+    def test_trim(self):
+        """What an index took goes back to the system, once it is closed."""
+        with dilforec.Index(*FIELDS) as index:
+            for block in range(200):
+                index.add_many({"title": f"rust {block} {year}", "year": year} for year in range(100))
+                index.commit()
+        before = self.resident()
+        memory.trim()
+        self.assertLess(self.resident(), before - (1 << 20))
 
 
 if __name__ == "__main__":

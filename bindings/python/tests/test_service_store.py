@@ -14,6 +14,7 @@ import unittest
 from unittest import mock
 
 import dilforec
+from dilforec import memory
 from dilforec.library import MEMORY, Channel
 from dilforec.service import (
     BadSchema, KeyTaken, Locked, NoSuchDocument, NotWritten, Stopped, Store, TransactionRefused, VersionChanged,
@@ -421,6 +422,19 @@ class Merges(Stored):
             store.add({"title": "rust", "year": year})
         store.close()
         self.assertEqual((len(self.opened()), store.writable), (119, False))
+
+    def test_memory_is_given_back(self):
+        """What was before a merge goes back to the system after it, and what a start leaves."""
+        with mock.patch.object(_merger, "MOST_IN_A_COMMIT", 0), mock.patch.object(memory, "trim") as trim:
+            store = self.opened()
+            trim.assert_called_once_with()
+            for year in range(20):
+                store.add({"title": "rust", "year": year})
+            until = time.monotonic() + 20
+            while trim.call_count < 2 and time.monotonic() < until:
+                time.sleep(0.01)
+            self.assertGreater(trim.call_count, 1)
+            store.close()
 
     def test_without_memory_or_threads(self):
         """A merge that can't be begun, run or ended is begun again after a later commit."""

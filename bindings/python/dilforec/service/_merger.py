@@ -7,6 +7,7 @@ import threading
 from collections.abc import Callable
 from typing import Optional
 
+from dilforec import memory
 from dilforec.index import Index, Merge
 from dilforec.service._errors import Stopped
 
@@ -19,8 +20,8 @@ MOST_IN_A_COMMIT = 1_000
 class Merger:
     """What is due above the limit of a commit is begun, run by a thread, and ended, one merge at a time.
 
-    `alone` does a call while nothing is written; `show` is called so, once there are other segments. What a merge can't
-    do is logged, and left to a later one.
+    `alone` does a call while nothing is written; `show` is called so, once there are other segments. What the segments
+    before them took is then given back to the system. What a merge can't do is logged, and left to a later one.
     """
 
     def __init__(self, index: Index, alone: "Callable[[Callable[[], None]], None]", show: "Callable[[], None]") -> None:
@@ -56,6 +57,7 @@ class Merger:
                 was_run = self._run(merge)
             try:
                 self._alone(self._end if was_run else self._give_up)
+                memory.trim()
             except Stopped:
                 return
             except Exception:

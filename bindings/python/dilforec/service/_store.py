@@ -8,6 +8,7 @@ from contextlib import contextmanager
 from typing import Any, Optional, Union
 from weakref import WeakSet
 
+from dilforec import memory
 from dilforec.service._compact import Sizes
 from dilforec.service._compactor import Compacting, Compactor
 from dilforec.service._disk import Disk
@@ -72,6 +73,7 @@ class Store:
             begins = journal.schema.decode(errors="replace").strip()
             raise BadSchema(f"the schema isn't that of {journal.path}, which begins {begins}")
         index, numbers = replay(journal, fields.new_index, progress)
+        memory.trim()
         self.torn = journal.cut_tail() if journal.schema else journal.size
         if not journal.schema:
             journal.begin(fields.line)
@@ -340,6 +342,7 @@ class Store:
         self._merger = Merger(index, self._worker.call, self._show_merged)
         self._published.show(index, self._writer.numbers.commit)
         old.close()
+        memory.trim()
 
 
 # The stores of this process that are open.
