@@ -98,7 +98,8 @@ def filled(folder: pathlib.Path, count: int) -> None:
     fts = peers.FtsStore(str(folder / "database"))
     with Store(FIELDS, folder / "journal") as store:
         for start in range(0, count, 10_000):
-            for each in store, fts:
+            both: tuple[Store | peers.FtsStore, ...] = store, fts
+            for each in both:
                 transaction = each.new_transaction()
                 for document in documents[start : start + 10_000]:
                     transaction.add(document)
@@ -225,7 +226,8 @@ def client(kind: str, server: Server, seed: int, seconds: float, start: Any, tol
 def measured(load: Load, server: Server, seconds: float) -> dict[str, Times]:
     """The times of searches and of posts under a load."""
     kinds = ["search"] * load.searching + ["post"] * load.posting
-    start, told = multiprocessing.Barrier(len(kinds)), multiprocessing.SimpleQueue()
+    start = multiprocessing.Barrier(len(kinds))
+    told: multiprocessing.SimpleQueue[tuple[str, list[float]]] = multiprocessing.SimpleQueue()
     with ExitStack() as stack:
         for _ in range(load.idle):
             stack.enter_context(socket.create_connection(("127.0.0.1", server.port)))
