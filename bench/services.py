@@ -1,7 +1,7 @@
 #!/usr/bin/env python3
 """Times the service beside the same service over SQLite's FTS5, and beside Groonga's own server.
 
-    python3 bench/service.py [DOCUMENTS] [SECONDS] [--start DOCUMENTS]
+    python3 bench/services.py [DOCUMENTS] [SECONDS] [--start DOCUMENTS]
 
 Build and link the package's library first, by `make`. The documents are those of bench/corpus.py, 100,000 without an
 argument; each measurement takes 5 seconds, and all servers run the whole time and are measured by turns. A search asks
