@@ -163,8 +163,9 @@ def in_python() -> None:
             # Debian's uvicorn has types, and doesn't say so.
             if UVICORN.is_dir():
                 os.symlink(UVICORN, f"{folder}/uvicorn")
-            step("Python, mypy --strict", mypy, "--strict", "--cache-dir", OUT / "mypy", "dilforec", "examples",
-                 cwd=HERE / "python", env={**os.environ, "MYPYPATH": folder})
+            # The configuration there names all the Python of the repository.
+            step("Python, mypy --strict", mypy, "--strict", "--cache-dir", OUT / "mypy", cwd=HERE / "python",
+                 env={**os.environ, "MYPYPATH": folder})
     else:
         skipped("Python, mypy --strict", "mypy")
 
