@@ -5,6 +5,8 @@ beside it, a sum of its sources, says what it is of, and `rt ci` writes none: so
 writes the stamps first, and takes them away again, so that later commands here build what the kit would build. If a stamp
 is wrong, `rt lib` proves that library anew.
 """
+from __future__ import annotations
+
 import pathlib
 import subprocess
 import sys
@@ -12,7 +14,7 @@ import sys
 import kit
 
 
-def main():
+def main() -> int:
     crates = kit.crates(kit.module("rtlib"))
     written = []
     try:

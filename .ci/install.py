@@ -6,15 +6,18 @@
 
 What the machine lacks, as cmake or a second Python, is skipped and counted. The last line is 'N passed, M failed'.
 """
+from __future__ import annotations
+
 import os
 import pathlib
 import re
 import shutil
 import sys
 import tempfile
+from pathlib import Path
 
 import uses
-from trials import ROOT, VERSION, Place, attempt, check, finish, run, said, skip
+from trials import ROOT, VERSION, Done, Place, attempt, check, finish, run, said, skip
 
 # Below the prefix.
 EXPECTED = [
@@ -30,7 +33,7 @@ EXPECTED = [
 ALLOWED = {"copyright-without-copyright-notice", "initial-upload-closes-no-bugs"}
 
 
-def make(*words):
+def make(*words: str) -> Done:
     """Calls make with what is built, so that nothing is proved here."""
     built = {
         "DILFOREC_PROGRAM": str(ROOT / "crates/fts/out/fts"),
@@ -51,7 +54,7 @@ esac
 """
 
 
-def public_commands(folder):
+def public_commands(folder: Path) -> None:
     """`make` builds by `rt lib` and `rt run` alone, each library once and after those that it stands on."""
     copy, kit = folder / "copy", folder / "kit"
     shutil.copytree(ROOT, copy, ignore=shutil.ignore_patterns(".git", "out", ".ci", "docs", "bench", "tests", "target"))
@@ -65,7 +68,7 @@ def public_commands(folder):
     libraries = [line.partition(":")[0] for line in called[:-2]]
     stands = {line.split(":")[0].split()[0]: line.split(":")[1].split() for line in (ROOT / "crates.txt").read_text().splitlines()
               if ":" in line and not line.startswith("#")}
-    below = {}
+    below: dict[str, set[str]] = {}
     for name in stands:
         below[name] = {name}.union(*(below[it] for it in stands[name] if it in below))
     wanted = (below["fts"] | below["fts_c"]) - {"fts", "fts_c"}
@@ -74,14 +77,14 @@ def public_commands(folder):
     check("make builds the program and the archive last", called[-2:] == ["fts: run -- --version", "fts_c: lib"], called[-2:])
 
 
-def files():
+def files() -> dict[str, int]:
     """The files outside the folder that an installation could write, each with its time."""
-    folders = "/usr/local", *(ROOT / it for it in ("bindings", "packaging", "docs", "examples"))
+    folders: tuple[str | Path, ...] = "/usr/local", *(ROOT / it for it in ("bindings", "packaging", "docs", "examples"))
     return {str(path): path.lstat().st_mtime_ns for it in folders for path in pathlib.Path(it).rglob("*")
             if path.is_symlink() or path.is_file()}
 
 
-def installed(folder):
+def installed(folder: Path) -> Place | None:
     """Installs below a folder, and returns the place, or nothing."""
     # This links the library if need be, so that what follows has to leave all else as it was.
     done = make("all")
@@ -99,13 +102,13 @@ def installed(folder):
     return place
 
 
-def uninstalled(place):
+def uninstalled(place: Place) -> None:
     done = make("uninstall", f"DESTDIR={place.root}", "PREFIX=/usr/local")
     left = [path for path in place.root.rglob("*") if not path.is_dir() or "dilforec" in path.name]
     check("make uninstall", done.returncode == 0 and not left, f"{said(done)}{left}")
 
 
-def unpacked(folder):
+def unpacked(folder: Path) -> Place | None:
     """Unpacks the packages for Debian below a folder, and returns the place, or nothing."""
     if not all(map(shutil.which, ("dpkg-deb", "dpkg-architecture"))):
         return skip("make deb", "dpkg-deb or dpkg-architecture isn't there")
@@ -125,9 +128,9 @@ def unpacked(folder):
     return Place(folder, "usr", f"lib/{libraries}", "share/zsh/vendor-completions")
 
 
-def versions(place):
+def versions(place: Place) -> None:
     """Each place that has a version has that of the file VERSION."""
-    def found(pattern, text):
+    def found(pattern: str, text: str) -> str | None:
         return (re.search(pattern, text, re.MULTILINE) or [None, None])[1]
 
     cmake = place.libraries / "cmake/dilforec/dilforec-config-version.cmake"
@@ -145,7 +148,7 @@ def versions(place):
     check("one version", set(told.values()) == {VERSION}, told)
 
 
-def main():
+def main() -> int:
     of_debian = "--deb" in sys.argv[1:]
     with tempfile.TemporaryDirectory() as name:
         folder = pathlib.Path(name)
@@ -157,8 +160,8 @@ def main():
             return finish()
         for part in versions, uses.examples, uses.at_terminal, uses.help_of_run, uses.pages, uses.completions:
             attempt(part, place)
-        for part in uses.byte_order_mark, uses.in_c, uses.in_cmake:
-            attempt(part, place, folder)
+        for trial in uses.byte_order_mark, uses.in_c, uses.in_cmake:
+            attempt(trial, place, folder)
         if of_debian:
             attempt(uses.with_debian_python, place)
         else:

@@ -1,4 +1,6 @@
 """What a user does with an installation: runs scripts, reads help and pages, links programs, imports the package."""
+from __future__ import annotations
+
 import http.client
 import json
 import os
@@ -10,8 +12,10 @@ import subprocess
 import sys
 import tempfile
 import zipfile
+from collections.abc import Mapping
+from pathlib import Path
 
-from trials import PLAIN, ROOT, VERSION, attempt, check, is_in_page, run, said, skip
+from trials import PLAIN, ROOT, VERSION, Place, attempt, check, is_in_page, run, said, skip
 
 sys.path.append(str(ROOT / "tests"))
 import service  # noqa: E402
@@ -23,7 +27,7 @@ EXAMPLES = sorted((BACKEND / "examples").glob("*.py"))
 
 # ---- the program
 
-def examples(place):
+def examples(place: Place) -> None:
     """Each example gives the replies that are stored beside it."""
     scripts = [path for path in sorted((place.pages / "examples").glob("*.jsonl")) if ".replies." not in path.name]
     check("examples are there", len(scripts) > 3, scripts)
@@ -33,23 +37,24 @@ def examples(place):
         check(path.name, done.returncode == 0 and not done.stderr and done.stdout == replies, said(done))
 
 
-def byte_order_mark(place, folder):
+def byte_order_mark(place: Place, folder: Path) -> None:
     """A script that begins with a byte order mark is refused, and the command of docs/SCRIPT.md removes it."""
     script = folder / "SCRIPT"
     script.write_bytes(b"\xef\xbb\xbf" + (place.pages / "examples/catalogue.jsonl").read_bytes())
     done = place.fts("run", stdin=script.open())
     check("a byte order mark is refused", done.stdout.startswith('{"error":"BadJson","line":1}\n'), said(done))
     page = (place.pages / "docs/SCRIPT.md").read_text(encoding="utf-8")
-    done = place.shell(re.search(r"^    (sed .* < SCRIPT \| fts run)$", page, re.MULTILINE)[1], cwd=folder)
+    command = re.search(r"^    (sed .* < SCRIPT \| fts run)$", page, re.MULTILINE)
+    assert command
+    done = place.shell(command[1], cwd=folder)
     replies = (place.pages / "examples/catalogue.replies.jsonl").read_text(encoding="utf-8")
     check("and is removed as docs/SCRIPT.md says", done.stdout == replies, said(done))
 
 
-def on_terminal(program):
+def on_terminal(program: Path) -> tuple[str, str]:
     """What `fts run` writes to standard output and standard error if it reads one line from a terminal."""
     controller, terminal = pty.openpty()
-    pipes = {"stdout": subprocess.PIPE, "stderr": subprocess.PIPE}
-    with subprocess.Popen([program, "run"], stdin=terminal, **pipes) as running:
+    with subprocess.Popen([program, "run"], stdin=terminal, stdout=subprocess.PIPE, stderr=subprocess.PIPE) as running:
         os.close(terminal)
         os.write(controller, b'{"commit":true}\n\x04')
         out, error = running.communicate(timeout=60)
@@ -57,7 +62,7 @@ def on_terminal(program):
     return out.decode(), error.decode()
 
 
-def at_terminal(place):
+def at_terminal(place: Place) -> None:
     """A run says what it waits for on a terminal, and there alone; `fts` without words is a fault of them."""
     out, error = on_terminal(place.program)
     named = all(it in error for it in ("script", "Ctrl-D", "fts run --help"))
@@ -70,11 +75,12 @@ def at_terminal(place):
     check("fts alone is a fault of its arguments", refused, said(done))
 
 
-def help_of_run(place):
+def help_of_run(place: Place) -> None:
     """The help of `fts run` ends with a script, which runs as written, and with documents, which are there."""
     told = place.fts("run", "--help").stdout
     script = re.search(r"^  fts run <<'END'\n(.*?)^  END\n", told, re.MULTILINE | re.DOTALL)
-    if check("the help of run has a script of four lines", script and len(script[1].splitlines()) == 4, told):
+    good = check("the help of run has a script of four lines", script and len(script[1].splitlines()) == 4, told)
+    if script and good:
         done = place.shell(re.sub("^  ", "", script[0], flags=re.MULTILINE))
         check("which runs as written", done.returncode == 0 and done.stdout.endswith('{"count":1}\n'), said(done))
     named = re.findall(r"docs/\w+\.md", told)
@@ -83,11 +89,11 @@ def help_of_run(place):
 
 # ---- pages and completions
 
-def options(text):
+def options(text: str) -> set[str]:
     return set(re.findall(r"(?<![\w-])--[a-z][a-z-]*", text))
 
 
-def pages(place):
+def pages(place: Place) -> None:
     """Manual pages and completions have the options of `--help`, and name files that are there."""
     wanted = options(place.fts("--help").stdout) | options(place.fts("run", "--help").stdout)
     manual, library = place.manual("fts.1").replace("\\-", "-"), place.manual("dilforec.3")
@@ -115,7 +121,7 @@ echo "${COMPREPLY[@]}"
 """
 
 
-def completions(place):
+def completions(place: Place) -> None:
     for words, wanted in [
         (["fts", "r"], "run"), (["fts", "run", "--w"], "--workers"), (["fts", "run", "--merge", "p"], "policy"),
         (["fts", "run", "--merge", "=", "o"], "off"),
@@ -131,7 +137,7 @@ def completions(place):
 
 # ---- the library
 
-def in_c(place, folder):
+def in_c(place: Place, folder: Path) -> None:
     """The example in C by pkg-config, over the shared object and over the archive."""
     if not shutil.which("pkg-config") or not shutil.which(CC):
         return skip("C by pkg-config", f"pkg-config or {CC} isn't there")
@@ -140,7 +146,8 @@ def in_c(place, folder):
         "PKG_CONFIG_ALLOW_SYSTEM_CFLAGS": "1", "PKG_CONFIG_ALLOW_SYSTEM_LIBS": "1",
     }
     asked = run("pkg-config", "--cflags", "--libs", "dilforec", env=asking)
-    for kind, more in ("shared", []), ("static", ["-static"]):
+    kinds: dict[str, list[str]] = {"shared": [], "static": ["-static"]}
+    for kind, more in kinds.items():
         name, program = f"C by pkg-config, {kind}", folder / f"books-{kind}"
         source = ROOT / "bindings/c/example.c"
         built = run(CC, "-Wall", "-Wextra", *more, "-o", program, source, *asked.stdout.split())
@@ -151,11 +158,11 @@ def in_c(place, folder):
             check(f"{name}: runs", is_in_page(done.stdout) and needs == (kind == "shared"), said(done))
 
 
-def in_cmake(place, folder):
+def in_cmake(place: Place, folder: Path) -> None:
     """The same by a project of CMake."""
     if not shutil.which("cmake"):
         return skip("CMake", "it isn't there")
-    words = ["cmake", "-S", ROOT / "packaging/trial", f"-DCMAKE_PREFIX_PATH={place.prefix}",
+    words: list[str | Path] = ["cmake", "-S", ROOT / "packaging/trial", f"-DCMAKE_PREFIX_PATH={place.prefix}",
              f"-DSOURCE={ROOT / 'bindings/c/example.c'}"]
     built = [run(*words, "-B", folder / "cmake"), run("cmake", "--build", folder / "cmake")]
     if check("CMake: links", not any(it.returncode for it in built), "".join(map(said, built))):
@@ -171,7 +178,7 @@ def in_cmake(place, folder):
 BUILD = "import sys; sys.path.insert(0, sys.argv[1]); import backend; print(backend.build_wheel(sys.argv[2]))"
 
 
-def with_wheel(folder):
+def with_wheel(folder: Path) -> None:
     """The wheel in a plain environment of this Python and of another one, and the package from its folder."""
     made = wheel(folder)
     attempt(refusals, folder)
@@ -189,7 +196,7 @@ def with_wheel(folder):
         skip("the wheel in another Python", "there is none")
 
 
-def wheel(folder):
+def wheel(folder: Path) -> Path | None:
     """The wheel, made twice."""
     made = []
     for name in "first", "second":
@@ -211,32 +218,35 @@ def wheel(folder):
     return made[0]
 
 
-def refusals(folder):
+def refusals(folder: Path) -> None:
     """What the backend doesn't do, it says in a sentence."""
     begin = f"import sys, platform; sys.path.insert(0, {str(BACKEND)!r}); import backend\n"
-    for name, code, wanted, more in [
+    asked: list[tuple[str, str, str, dict[str, str]]] = [
         ("an sdist", "backend.build_sdist('.')", "dilforec: there is no source distribution", {}),
         ("another machine", "platform.machine = lambda: 'aarch64'; backend.build_wheel('.')",
          "dilforec: it is for Linux with glibc", {}),
         ("no archive", "backend.build_wheel('.')", "isn't there: run `make`",
          {"DILFOREC_CRATE_ARCHIVE": str(folder / "none.a")}),
-    ]:
+    ]
+    for name, code, wanted, more in asked:
         done = run(sys.executable, "-c", begin + code, cwd=folder, env={**PLAIN, **more})
         told = wanted in done.stderr and done.stderr.count("\n") == 1
         check(f"{name} is refused with a sentence", done.returncode == 1 and told, said(done))
 
 
-def pythons():
+def pythons() -> tuple[str, str | None]:
     """The Python that runs this, and the oldest other one that serves, if there is one."""
     for minor in range(9, 20):
-        paths = [shutil.which(f"python3.{minor}"), *pathlib.Path.home().glob(f".pyenv/versions/3.{minor}.*/bin/python")]
-        for path in filter(None, paths):
+        own = shutil.which(f"python3.{minor}")
+        others = pathlib.Path.home().glob(f".pyenv/versions/3.{minor}.*/bin/python")
+        paths = [*([own] if own else []), *map(str, others)]
+        for path in paths:
             if minor != sys.version_info.minor and run(path, "-c", "import ensurepip, venv, ctypes").returncode == 0:
-                return sys.executable, str(path)
+                return sys.executable, path
     return sys.executable, None
 
 
-def environment(python, folder):
+def environment(python: str, folder: Path) -> tuple[Path, str]:
     """A plain environment of a Python: its own Python, and how it calls itself."""
     done = run(python, "-m", "venv", folder)
     own = folder / "bin/python"
@@ -245,7 +255,7 @@ def environment(python, folder):
     return own, name
 
 
-def in_python(own, name, made, package):
+def in_python(own: Path, name: str, made: str, package: str) -> None:
     """Installs a package by pip into an environment, in place of what is there, and runs the examples."""
     done = run(own, "-m", "pip", "install", "--no-index", "--force-reinstall", *made.split())
     if check(f"{name}: pip install of {package}", done.returncode == 0, said(done)):
@@ -254,7 +264,7 @@ def in_python(own, name, made, package):
         helps(own.parent / "dilforec", f"{name}: {package}", PLAIN)
 
 
-def helps(command, name, variables):
+def helps(command: Path, name: str, variables: Mapping[str, str]) -> None:
     """The command has the options of its manual page."""
     manual = (ROOT / "packaging/dilforec.1.in").read_text(encoding="utf-8").replace("\\-", "-")
     told = [run(command, each, "--help", env=variables) for each in ("serve", "load", "compact")]
@@ -263,7 +273,7 @@ def helps(command, name, variables):
     check(f"{name}: the options of dilforec(1)", same, options(manual) ^ wanted or "".join(map(said, told)))
 
 
-def run_examples(python, name, folder, variables):
+def run_examples(python: str | Path, name: str, folder: Path, variables: Mapping[str, str]) -> None:
     """Runs the examples in Python; what the first one prints is in docs/EMBEDDING.md."""
     for path in EXAMPLES:
         done = run(python, path, cwd=folder, env=variables)
@@ -271,7 +281,7 @@ def run_examples(python, name, folder, variables):
         check(f"{name}: {path.name}", good, said(done))
 
 
-def serves(python, name, variables):
+def serves(python: str | Path, name: str, variables: Mapping[str, str]) -> None:
     """The service of an installed package takes a document, finds it, and stops at SIGTERM."""
     with tempfile.TemporaryDirectory() as folder:
         modules = pathlib.Path(folder, "modules")
@@ -285,16 +295,19 @@ def serves(python, name, variables):
                  "--listen", "127.0.0.1:0"]
         with subprocess.Popen(words, cwd=folder, env=variables, text=True, stdout=subprocess.PIPE,
                               stderr=subprocess.PIPE) as served:
+            assert served.stdout
             ready = served.stdout.readline()
             try:
-                told = answers(int(re.search(r":(\d+)/", ready)[1]))
+                port = re.search(r":(\d+)/", ready)
+                assert port, ready
+                told = answers(int(port[1]))
             finally:
                 served.terminate()
-                words = served.communicate(timeout=60)
-        check(f"{name}: the service", told == (201, 1) and served.returncode == 0, f"{ready}{told} {words}")
+                said_last = served.communicate(timeout=60)
+        check(f"{name}: the service", told == (201, 1) and served.returncode == 0, f"{ready}{told} {said_last}")
 
 
-def answers(port):
+def answers(port: int) -> tuple[int, int]:
     """The status of a posted document, and how many are found."""
     asked = http.client.HTTPConnection("127.0.0.1", port, timeout=30)
     asked.request("POST", "/documents", '{"title":"Programming Pearls"}', {"Content-Type": "application/json"})
@@ -304,7 +317,7 @@ def answers(port):
     return posted.status, json.load(asked.getresponse())["count"]
 
 
-def shown(own, name):
+def shown(own: Path, name: str) -> None:
     """What pip shows of the package in an environment, and what pydoc does."""
     told = run(own, "-m", "pip", "show", "dilforec").stdout
     lines = dict(re.findall(r"^([\w-]+): *(.*)$", told, re.MULTILINE))
@@ -313,7 +326,7 @@ def shown(own, name):
     in_pydoc(own, name, own.parents[1] / "share/doc/dilforec", PLAIN)
 
 
-def in_pydoc(python, name, documents, variables):
+def in_pydoc(python: str | Path, name: str, documents: Path, variables: Mapping[str, str]) -> None:
     """pydoc tells the version, and names documents that are there."""
     told = run(python, "-m", "pydoc", "dilforec", cwd=documents, env=variables).stdout
     named = re.findall(r"docs/\w+\.md", told)
@@ -322,7 +335,7 @@ def in_pydoc(python, name, documents, variables):
     check(f"{name}: pydoc names documents that are there", there and versioned, told)
 
 
-def with_debian_python(place):
+def with_debian_python(place: Place) -> None:
     """The package for Python as Debian unpacks it, in Debian's Python."""
     python = "/usr/bin/python3"
     if not pathlib.Path(python).is_file():

@@ -14,6 +14,8 @@ processor time, the least of five runs: adds of 20,000 of the documents without 
 `add_many`, beside `execute` and `executemany`; and ten hits by a number over 100 documents of 20,000 words, with the
 titles alone and with the whole documents. It needs the library and no program.
 """
+from __future__ import annotations
+
 import contextlib
 import json
 import pathlib
@@ -24,6 +26,8 @@ import subprocess
 import sys
 import tempfile
 import time
+from collections.abc import Callable, Iterable, Iterator, Mapping
+from typing import TYPE_CHECKING, Any
 
 ROOT = pathlib.Path(__file__).resolve().parent.parent
 COUNTS, PACKAGE = sys.argv[1:2] == ["instructions"], sys.argv[1:2] == ["package"]
@@ -37,12 +41,17 @@ import link  # noqa: E402
 import corpus  # noqa: E402
 import programs  # noqa: E402
 
+if TYPE_CHECKING:
+    import dilforec
+
 PROGRAM = [str(programs.PROGRAM), "run", "--merge", "policy"]
 
 CHANCE = random.Random(1)
+# The name of a call, and its microseconds in the package and in FTS5.
+Row = tuple[str, float, float]
 
 
-def commands():
+def commands() -> Iterator[Mapping[str, object]]:
     """The lines of a script that adds the documents, with one commit."""
     yield corpus.SCHEMA
     for document in corpus.documents(DOCUMENTS):
@@ -50,12 +59,12 @@ def commands():
     yield {"commit": True}
 
 
-def write(path, lines):
+def write(path: str, lines: Iterable[object]) -> None:
     with open(path, "w") as file:
         file.writelines(json.dumps(line) + "\n" for line in lines)
 
 
-def searches(kind):
+def searches(kind: str) -> Iterator[dict[str, object]]:
     for _ in range(SEARCHES):
         a, b = corpus.words(CHANCE, 2)
         n = CHANCE.randrange(corpus.LEAST_TEMP, corpus.LEAST_TEMP + corpus.TEMPS - 10)
@@ -69,14 +78,16 @@ def searches(kind):
 KINDS = ("a term", "+a +b", "groups", "top 10", "a range")
 
 
-def instructions(words, **settings):
+def instructions(words: list[str], **settings: Any) -> int:
     """How many instructions a run takes."""
     told = subprocess.run(["valgrind", "--tool=callgrind", "--callgrind-out-file=/dev/null", *words], check=True,
                           stdout=subprocess.DEVNULL, stderr=subprocess.PIPE, text=True, **settings)
-    return int(re.search(r"Collected : (\d+)", told.stderr)[1])
+    collected = re.search(r"Collected : (\d+)", told.stderr)
+    assert collected
+    return int(collected[1])
 
 
-def whole(folder, name):
+def whole(folder: str, name: str) -> str:
     """The path of a file with the documents, and the lines of another one after them."""
     with open(f"{folder}/both", "wb") as both:
         for part in ("documents", name) if name != "documents" else ("documents",):
@@ -84,9 +95,9 @@ def whole(folder, name):
     return f"{folder}/both"
 
 
-def by_program(folder, names):
+def by_program(folder: str, names: list[str]) -> list[float]:
     """Microseconds of processor time a line, of the documents and then of each file, the least of three runs."""
-    def once():
+    def once() -> Iterator[float]:
         session = programs.Session(*PROGRAM)
         for name in ("documents", *names):
             lines = pathlib.Path(folder, name).read_text("utf-8").splitlines()
@@ -96,16 +107,16 @@ def by_program(folder, names):
     return [min(times) for times in zip(*(list(once()) for _ in range(3)))]
 
 
-def by_c(program, folder, names):
+def by_c(program: str, folder: str, names: list[str]) -> list[float]:
     words = [program, *(f"{folder}/{name}" for name in ("documents", *names))]
     runs = [subprocess.run(words, check=True, capture_output=True, text=True).stdout.split() for _ in range(3)]
     return [min(float(run[place]) for run in runs) / 1e3 for place in range(len(names) + 1)]
 
 
-def by_python(folder, names):
+def by_python(folder: str, names: list[str]) -> list[float]:
     import dilforec
 
-    def once():
+    def once() -> Iterator[float]:
         with dilforec.Index() as index:
             for name in ("documents", *names):
                 lines = pathlib.Path(folder, name).read_bytes().splitlines()
@@ -117,9 +128,9 @@ def by_python(folder, names):
     return [min(times) for times in zip(*(list(once()) for _ in range(3)))]
 
 
-def count(program, folder):
+def count(program: str, folder: str) -> None:
     """Prints thousands of instructions a line, by the program and by C."""
-    def counted(name):
+    def counted(name: str) -> tuple[int, int]:
         names = [name] if name == "documents" else ["documents", name]
         with open(whole(folder, name)) as lines:
             return instructions(PROGRAM, stdin=lines), instructions([program, *(f"{folder}/{part}" for part in names)])
@@ -134,14 +145,14 @@ def count(program, folder):
         row(kind, *((more - less) / SEARCHES / 1e3 for more, less in zip(both, alone)))
 
 
-def row(name, *numbers):
+def row(name: str, *numbers: float) -> None:
     """Prints a row of a table in Markdown."""
     print(f"|{name}|{'|'.join(f'{number:.2f}' for number in numbers)}|", flush=True)
 
 
-def processor_time(of):
+def processor_time(of: Callable[[], object]) -> float:
     """The seconds of this process that a call takes, the least of five."""
-    def once():
+    def once() -> float:
         began = time.process_time()
         of()
         return time.process_time() - began
@@ -149,7 +160,7 @@ def processor_time(of):
     return min(once() for _ in range(5))
 
 
-def adds():
+def adds() -> list[Row]:
     """Microseconds of processor time an add takes in this package and in FTS5, one alone and one of many."""
     import dilforec
 
@@ -157,14 +168,14 @@ def adds():
     rows = [tuple(document.values()) for document in documents]
     fields = [dilforec.Field(**field) for field in corpus.SCHEMA["schema"]]
 
-    def into_index(add):
-        def run():
+    def into_index(add: Callable[[dilforec.Index], object]) -> float:
+        def run() -> None:
             with dilforec.Index(*fields) as index:
                 add(index)
         return processor_time(run) / len(documents) * 1e6
 
-    def into_table(add):
-        def run():
+    def into_table(add: Callable[[sqlite3.Connection], object]) -> float:
+        def run() -> None:
             with contextlib.closing(sqlite3.connect(":memory:", isolation_level=None)) as base:
                 base.execute("create virtual table d using fts5(body, tag unindexed, price unindexed, temp unindexed)")
                 base.execute("begin")
@@ -181,7 +192,7 @@ def adds():
     ]
 
 
-def titles():
+def titles() -> list[Row]:
     """Microseconds of processor time a top list of ten takes over long documents, with the titles alone and whole."""
     import dilforec
 
@@ -196,7 +207,7 @@ def titles():
             base.executemany("insert into d values (?, ?, ?)",
                              ((f"all {title[n]}", text[n % 10], n) for n in range(LONG_DOCUMENTS)))
 
-            def asked(columns):
+            def asked(columns: str) -> Callable[[], object]:
                 query = f"select {columns} from d where title match 'all' order by n limit 10"
                 return lambda: base.execute(query).fetchall()
 
@@ -208,7 +219,7 @@ def titles():
             ]
 
 
-def package():
+def package() -> None:
     """Prints a row for each call of the package, beside FTS5."""
     print(f"{DOCUMENTS:,} documents; ten hits by a number over {LONG_DOCUMENTS} documents of {LONG_WORDS:,} words. Microseconds of "
           "processor time a call.\n")
@@ -218,7 +229,7 @@ def package():
             row(*each)
 
 
-def main():
+def main() -> None:
     link.link()
     if PACKAGE:
         return package()

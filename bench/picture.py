@@ -69,8 +69,9 @@ def bars(path: pathlib.Path, rows: Mapping[str, Mapping[str, float]], names: Seq
 def lines(path: pathlib.Path, series: Mapping[str, Sequence[float]], across: float, x_label: str, y_label: str) -> None:
     """A line for each name, whose values are spread evenly from 0 to `across`, from 0 upwards."""
     left, right, top, bottom, width = 60.0, 740.0, 20.0, 300.0, 760.0
-    step = 10.0 ** math.floor(math.log10(max(map(max, series.values()))))
-    most = step * math.ceil(max(map(max, series.values())) / step)
+    greatest = max(max(values) for values in series.values())
+    step = 10.0 ** math.floor(math.log10(greatest))
+    most = step * math.ceil(greatest / step)
 
     def point(place: int, value: float, values: Sequence[float]) -> str:
         return f"{left + (right - left) * place / max(1, len(values) - 1):.1f} {bottom - (bottom - top) * value / most:.1f}"

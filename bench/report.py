@@ -104,7 +104,7 @@ PARTS = (
     printed("embedding", "Inside another program", "bench/embed.py"),
     printed("package", "Calls of the Python package", "bench/embed.py", "package", asks_program=False),
     module("scale", "Partitions", "scale", asks_program=False),
-    printed("service", "The service", "bench/service.py", asks_program=False),
+    printed("service", "The service", "bench/services.py", asks_program=False),
     printed("hostile", "Scripts that were made to be slow", "tests/hostile.py", shown=slow),
 )
 

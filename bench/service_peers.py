@@ -1,4 +1,4 @@
-"""What bench/service.py times beside the service: the same application and server over SQLite's FTS5, and Groonga's server.
+"""What bench/services.py times beside the service: the same application and server over SQLite's FTS5, and Groonga's server.
 
     python3 bench/service_peers.py fts5 DATABASE [alone]    serves FTS5, as the command serves a store
 """

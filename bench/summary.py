@@ -2,14 +2,14 @@
 from __future__ import annotations
 
 import re
-from typing import Any, Callable, NamedTuple
+from typing import Any, Callable, NamedTuple, Optional
 
 from floor_table import number, table
 
 COLUMNS = ("Dilforec", "FTS5", "Lucene")
 # What the parts call the programs of the columns.
 NAMES = ("fts", "FTS5", "Lucene")
-Found = tuple[float | None, ...]
+Found = tuple[Optional[float], ...]
 
 
 class Row(NamedTuple):

@@ -8,6 +8,8 @@ that are stored beside it, also where each growth is refused in turn and the cal
 What isn't there is skipped, and told: cargo and rustc, a compiler of C++, mypy. The last line is 'N passed, M
 failed'.
 """
+from __future__ import annotations
+
 import os
 import pathlib
 import re
@@ -15,6 +17,8 @@ import shutil
 import subprocess
 import sys
 import tempfile
+from pathlib import Path
+from typing import Any
 
 HERE = pathlib.Path(__file__).resolve().parent
 OUT = HERE / "out"
@@ -37,15 +41,15 @@ counts = Counts("bindings")
 count = counts.add
 
 
-def skipped(name, what):
+def skipped(name: str, what: str) -> None:
     counts.skip(name, f"{what} isn't there")
 
 
-def run(*words, **settings):
+def run(*words: str | Path, **settings: Any) -> subprocess.CompletedProcess[Any]:
     return processes.completed(*words, seconds=SECONDS, **settings)
 
 
-def step(name, *words, counts=None, **settings):
+def step(name: str, *words: str | Path, counts: str | None = None, **settings: Any) -> bool:
     """Counts what a pattern finds in a command's words, how many passed and failed; without one, the command itself.
 
     How many growths were refused is told beside it, if the command says it.
@@ -60,7 +64,7 @@ def step(name, *words, counts=None, **settings):
     return done.returncode == 0
 
 
-def compiled(name, *more):
+def compiled(name: str, *more: str | Path) -> Path:
     """The path of a test in C, with the library and the refusals of bindings/refuse.c in it."""
     made = OUT / name
     done = run(CC, "-std=c11", "-O1", *STRICTLY, "-I", HERE / "c", "-o", made, HERE / f"c/tests/{name}.c",
@@ -70,7 +74,7 @@ def compiled(name, *more):
     return made
 
 
-def in_c():
+def in_c() -> None:
     names()
     refuse = OUT / "refuse.o"
     step("C, the refusals", CC, "-c", "-O1", "-o", refuse, HERE / "refuse.c")
@@ -87,20 +91,21 @@ def in_c():
     beside()
 
 
-def names():
+def names() -> None:
     """Others see the functions of the header alone, in the archive and in the shared object."""
     wanted = set(re.findall(r"\b(dilforec_\w+)\(", (HERE / "c/dilforec.h").read_text()))
-    for words in ["nm", "-g", "--defined-only", link.ARCHIVE], ["nm", "-D", "--defined-only", OUT / link.SONAME]:
-        found = {line.split()[2] for line in run(*words, text=True).stdout.splitlines() if len(line.split()) == 3}
-        count(f"C, the names of {words[-1].name}", int(found == wanted), int(found != wanted), found ^ wanted)
+    for where, library in ("-g", link.ARCHIVE), ("-D", OUT / link.SONAME):
+        told = run("nm", where, "--defined-only", library, text=True).stdout
+        found = {line.split()[2] for line in told.splitlines() if len(line.split()) == 3}
+        count(f"C, the names of {library.name}", int(found == wanted), int(found != wanted), found ^ wanted)
     told = run("readelf", "-d", OUT / link.SONAME, text=True).stdout
     count("C, the soname", int(f"[{link.SONAME}]" in told), int(f"[{link.SONAME}]" not in told), told)
 
 
-def beside():
+def beside() -> None:
     """A program that walks folders by glibc's fts(3), and its headers beside ours."""
     walks = HERE / "c/tests/walk.c", HERE / "c/tests/beside.c"
-    strictly = [*STRICTLY, "-D_DEFAULT_SOURCE", "-I", HERE / "c"]
+    strictly: list[str | Path] = [*STRICTLY, "-D_DEFAULT_SOURCE", "-I", HERE / "c"]
     step("C, both headers as C99", CC, "-std=c99", *strictly, "-fsyntax-only", *walks)
     if shutil.which("c++"):
         step("C, both headers as C++17", "c++", "-std=c++17", *strictly, "-fsyntax-only", "-x", "c++", *walks)
@@ -114,7 +119,10 @@ def beside():
         library = f"{folder}/libwalk.so"
         if not step("C, a library over fts(3)", CC, *strictly, "-shared", "-fPIC", "-o", library, walks[0]):
             return
-        for name, ours in ("archive", [link.ARCHIVE]), ("shared object", [OUT / link.SONAME, f"-Wl,-rpath,{OUT}"]):
+        forms: dict[str, list[str | Path]] = {
+            "archive": [link.ARCHIVE], "shared object": [OUT / link.SONAME, f"-Wl,-rpath,{OUT}"],
+        }
+        for name, ours in forms.items():
             # Both orders of linking, and the neighbour as a shared object.
             for place, given in enumerate(([library, *ours], [*ours, library])):
                 made = f"{folder}/beside"
@@ -123,7 +131,7 @@ def beside():
                 step(f"C, the {name} beside fts(3), {'after' if place == 0 else 'before'} it", made, files, "7")
 
 
-def worked(name, *words):
+def worked(name: str, *words: str | Path) -> None:
     """Counts the scripts that give their stored replies. A number on standard error is how often a call was refused."""
     told = [(path, run(*words, stdin=path.open())) for path in SCRIPTS]
     wrong = [path.name for path, done in told
@@ -134,7 +142,7 @@ def worked(name, *words):
         count(f"{name}: {refusals} refusals", int(refusals > 0), int(refusals == 0))
 
 
-def in_python():
+def in_python() -> None:
     environment = {**os.environ, "PYTHONPATH": str(HERE / "python"), "PYTHONDONTWRITEBYTECODE": "1"}
     refuse = OUT / "refuse.so"
     if not step("Python, the refusals", CC, "-shared", "-fPIC", "-O1", "-o", refuse, HERE / "refuse.c", "-ldl"):
@@ -155,17 +163,18 @@ def in_python():
             # Debian's uvicorn has types, and doesn't say so.
             if UVICORN.is_dir():
                 os.symlink(UVICORN, f"{folder}/uvicorn")
-            step("Python, mypy --strict", mypy, "--strict", "--cache-dir", OUT / "mypy", "dilforec", "examples",
-                 cwd=HERE / "python", env={**os.environ, "MYPYPATH": folder})
+            # The configuration there names all the Python of the repository.
+            step("Python, mypy --strict", mypy, "--strict", "--cache-dir", OUT / "mypy", cwd=HERE / "python",
+                 env={**os.environ, "MYPYPATH": folder})
     else:
         skipped("Python, mypy --strict", "mypy")
 
 
-def in_rust():
+def in_rust() -> None:
     rust, refuse = HERE / "rust", OUT / "refuse.so"
     results = r"test result: \w+. (\d+) passed; (\d+) failed"
     if shutil.which("cargo"):
-        cargo = ["cargo", "test", "--offline", "--target-dir", OUT / "target"]
+        cargo: list[str | Path] = ["cargo", "test", "--offline", "--target-dir", OUT / "target"]
         step("Rust", *cargo, cwd=rust, counts=results)
         step("Rust, each growth refused", *cargo, "--test", "growths", "--", "--nocapture", cwd=rust, counts=results,
              env={**os.environ, "LD_PRELOAD": str(refuse)})
@@ -189,7 +198,7 @@ def in_rust():
         skipped("Rust", "neither cargo nor rustc")
 
 
-def main():
+def main() -> int:
     OUT.mkdir(exist_ok=True)
     try:
         link.link()

@@ -1,7 +1,10 @@
 """The cases of queries and of cursors: for each query the documents that the model finds."""
+from __future__ import annotations
+
+from collections.abc import Callable, Sequence
 from itertools import product
 
-from case_model import GREATEST, Subject, error, has, named, phrase, within
+from case_model import GREATEST, Document, Match, Subject, error, has, named, phrase, within
 
 LONG = ["a " + "x" * 40 + " b", "a " + "x" * 39 + " b"]
 
@@ -79,7 +82,9 @@ FIRST = [("nope:a price:b", "UnknownField"), ("price:b nope:a", "BadNumber"), ("
          ("tag:a OR -tag:b nope:a", "AllNegative")]
 
 
-def write_queries():
+def write_queries() -> None:
+    # A query is given as a text, or as pieces of one.
+    query: object
     s = Subject("queries")
     s.case("The shelf has ten documents", "make", 10, documents=SHELF)
     for sentence, query, count in LITERALS + BOOLEAN + NUMBERS + KEYWORDS:
@@ -144,26 +149,26 @@ def write_queries():
     s.write()
 
 
-def mixed(n):
+def mixed(n: int) -> Document:
     title = ["a b a", "b a", "c", "a c b", "b b", "", "a b"][n % 7]
     if n % 5 == 0:
         return {"title": title, "temp": n % 13 - 6}
     return {"title": title, "tag": ["x", "y", "z w"][n % 3], "price": n % 11}
 
 
-def t(text):
+def t(text: str) -> Match:
     return lambda d: has(d, "title", text)
 
 
-def both(text):
+def both(text: str) -> Match:
     return lambda d: has(d, "title", text) or has(d, "tag", text)
 
 
-def either(words, keyword):
+def either(words: list[str], keyword: str) -> Match:
     return lambda d: phrase(d, words) or has(d, "tag", keyword)
 
 
-NESTED = [
+NESTED: list[tuple[str, str, Match]] = [
     ("every document", "*", lambda d: True), ("an empty query", "", lambda d: False), ("a word", "title:a", t("a")),
     ("a word that none has", "title:none", t("none")), ("a keyword", "tag:x", lambda d: has(d, "tag", "x")),
     ("two words", "a b", lambda d: both("a")(d) or both("b")(d)), ("a phrase", '"a b"', either(["a", "b"], "a b")),
@@ -189,7 +194,7 @@ NESTED = [
      or within(d, "temp", 0, 0))]
 
 
-def write_cursors():
+def write_cursors() -> None:
     s = Subject("cursors")
     common, rare = {"title": "common"}, {"title": "common rare"}
     must = "+title:common +title:rare"
@@ -233,12 +238,12 @@ def write_cursors():
     s.write()
 
 
-def quoted(words):
+def quoted(words: Sequence[str | None]) -> str:
     """The query of these words in quotes, in which a span that is too long means any one span."""
     return 'title:"' + " ".join(word or "x" * 40 for word in words) + '"'
 
 
-def write_phrases():
+def write_phrases() -> None:
     s = Subject("phrases")
     again = ["b a a b a", "a a b b a", "a b b a b a", "a a a", "b b b", "a b"]
     s.case("Six titles are made in which words stand again", "make", 6, documents=[{"title": text} for text in again])
@@ -270,7 +275,7 @@ def write_phrases():
             ("Two words in turn aren't found once more than they stand", "ba" * 301, []),
             ("Two words in turn are found from the second one on, once less", "ab" * 299, [2])]:
         s.case(sentence, "found", found, query=quoted(words))
-    letters = lambda count: ["".join(word) for word in product("ab", repeat=count)]
+    letters: Callable[[int], list[str]] = lambda count: ["".join(word) for word in product("ab", repeat=count)]
     every = [{"title": " ".join(word)} for count in range(1, 7) for word in letters(count)]
     s.case("All titles of one to six words a and b are made", "make", len(every), documents=every)
     gaps = [[a, None, *b] for a in "ab" for b in letters(1) + letters(2)]

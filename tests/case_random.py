@@ -1,6 +1,16 @@
 """Cases of documents and queries that only look random: what is found in them is what a look at each document finds."""
-from case_model import Subject, answer, has, phrase, within
+from __future__ import annotations
+
+from collections.abc import Callable, Iterable, Sequence
+from typing import Optional, TypeVar
+
+from case_model import Document, Match, Subject, Top, answer, has, phrase, within
 from case_queries import mixed
+
+Choice = TypeVar("Choice")
+# A document with the terms of its title, and a query with what it finds.
+Row = tuple[Document, list[Optional[str]]]
+Asked = tuple[str, Match]
 
 # Words as they are written, each with the term that finds it: none finds a word of 40 bytes, which keeps its place.
 WRITTEN = [("a", "a"), ("A", "a"), ("b", "b"), ("rust", "rust"), ("RUST", "rust"), ("ÄRGER", "ärger"), ("ärger", "ärger"),
@@ -12,38 +22,42 @@ BETWEEN = [" ", ", ", "-", " — "]
 class Chance:
     """Numbers that only look random, the same on every machine."""
 
-    def __init__(self, state):
+    def __init__(self, state: int) -> None:
         self.state = state
 
-    def below(self, count):
+    def below(self, count: int) -> int:
         self.state = (self.state * 6364136223846793005 + 1442695040888963407) % 2**64
         return (self.state >> 33) % count if count else 0
 
-    def one_of(self, choices):
+    def one_of(self, choices: Sequence[Choice]) -> Choice:
         return choices[self.below(len(choices))]
 
-    def some_below(self, count):
+    def some_below(self, count: int) -> int | None:
         """A number below `count`, and nothing once in four times."""
         return self.below(count) if self.below(4) else None
 
 
-def written(chance):
+def written(chance: Chance) -> Row:
     """A document, and the terms of its title in order. Low words come more often."""
-    document, terms, title = {}, [], ""
+    document: Document = {}
+    terms: list[str | None] = []
+    title = ""
     if chance.below(8):
         for _ in range(chance.below(12)):
             text, term = WRITTEN[chance.below(chance.below(len(WRITTEN)))]
             title += text + chance.one_of(BETWEEN)
             terms.append(term)
         document["title"] = title
-    for field, count, value in [("tag", 50, lambda n: f"T {n}"), ("price", 100, lambda n: n), ("temp", 100, lambda n: n - 50)]:
+    fields: list[tuple[str, int, Callable[[int], object]]] = [
+        ("tag", 50, lambda n: f"T {n}"), ("price", 100, lambda n: n), ("temp", 100, lambda n: n - 50)]
+    for field, count, value in fields:
         number = chance.some_below(count)
         if number is not None:
             document[field] = value(number)
     return document, terms
 
 
-def write_generated():
+def write_generated() -> None:
     s, chance = Subject("generated"), Chance(11)
     rows = [written(chance) for _ in range(2_000)]
     s.case("2,000 documents are made of words from a few writings", "make", 2_000, documents=[d for d, _ in rows])
@@ -67,13 +81,13 @@ def write_generated():
     s.write()
 
 
-def write_merged(s, chance):
+def write_merged(s: Subject, chance: Chance) -> None:
     """2,000 documents of odd stamps, of which deletes strike some, and the odd ones left merged before the even ones."""
     words = [[chance.below(60), chance.below(chance.below(60)), chance.below(60)] for _ in range(2_000)]
     s.case("2,000 documents of three words are made at odd stamps", "make", 2_000,
            documents=[{"title": f"W{a} w{b}, w{c}"} for a, b, c in words], stamps=[2 * n + 1 for n in range(2_000)])
     deletes = [(chance.below(60), 2 * chance.below(2_000)) for _ in range(24)]
-    stays = lambda n: 2 * n + 1 >= 600 and not any(2 * n + 1 < at and word in words[n] for word, at in deletes)
+    stays: Callable[[int], bool] = lambda n: 2 * n + 1 >= 600 and not any(2 * n + 1 < at and word in words[n] for word, at in deletes)
     ops = [{"stamp": 600, "op": "delete_all"}, {"stamp": 7, "op": "delete_all"}]
     ops[1:1] = [{"stamp": at, "op": {"delete": {"field": "title", "is": f"w{word}"}}} for word, at in deletes]
     left = [n for n in range(2_000) if stays(n)]
@@ -87,29 +101,30 @@ def write_merged(s, chance):
                first=odd, second=even, term={"field": 0, "text": f"w{word}"})
 
 
-def title(text):
+def title(text: str) -> Match:
     return lambda d: has(d, "title", text)
 
 
-def tag(text):
+def tag(text: str) -> Match:
     return lambda d: has(d, "tag", text)
 
 
-def tags(admits):
+def tags(admits: Callable[[str], bool]) -> Match:
     return lambda d: "tag" in d and admits(d["tag"])
 
 
-LEAVES = [("title:a", title("a")), ("title:b", title("b")), ("title:c", title("c")), ("title:none", title("none")),
-          ("tag:x", tag("x")), ("tag:y", tag("y")), ('"a b"', lambda d: phrase(d, ["a", "b"]) or has(d, "tag", "a b")),
-          ('title:"b a"', lambda d: phrase(d, ["b", "a"])), ('title:"a c b"', lambda d: phrase(d, ["a", "c", "b"])),
-          ("price:[3 TO 7}", lambda d: within(d, "price", 3, 6)), ("price:{2 TO *]", lambda d: within(d, "price", 3, 99)),
-          ("price:[* TO *]", lambda d: "price" in d), ("price:{10 TO *]", lambda d: within(d, "price", 11, 99)),
-          ("temp:[-3 TO 2}", lambda d: within(d, "temp", -3, 1)), ("temp:<0", lambda d: within(d, "temp", -99, -1)),
-          ("tag:[x TO y]", tags(lambda t: "x" <= t <= "y")), ("tag:{x TO *]", tags(lambda t: t > "x")),
-          ("tag:<z", tags(lambda t: t < "z")), ("*", lambda d: True)]
+LEAVES: list[Asked] = [
+    ("title:a", title("a")), ("title:b", title("b")), ("title:c", title("c")), ("title:none", title("none")),
+    ("tag:x", tag("x")), ("tag:y", tag("y")), ('"a b"', lambda d: phrase(d, ["a", "b"]) or has(d, "tag", "a b")),
+    ('title:"b a"', lambda d: phrase(d, ["b", "a"])), ('title:"a c b"', lambda d: phrase(d, ["a", "c", "b"])),
+    ("price:[3 TO 7}", lambda d: within(d, "price", 3, 6)), ("price:{2 TO *]", lambda d: within(d, "price", 3, 99)),
+    ("price:[* TO *]", lambda d: "price" in d), ("price:{10 TO *]", lambda d: within(d, "price", 11, 99)),
+    ("temp:[-3 TO 2}", lambda d: within(d, "temp", -3, 1)), ("temp:<0", lambda d: within(d, "temp", -99, -1)),
+    ("tag:[x TO y]", tags(lambda t: "x" <= t <= "y")), ("tag:{x TO *]", tags(lambda t: t > "x")),
+    ("tag:<z", tags(lambda t: t < "z")), ("*", lambda d: True)]
 
 
-def query(chance, depth):
+def query(chance: Chance, depth: int) -> Asked:
     """A query that is nested up to this depth, with what it finds. The first of several isn't a must-not."""
     if depth == 0 or chance.below(4) == 0:
         return chance.one_of(LEAVES)
@@ -125,11 +140,15 @@ def query(chance, depth):
     return f"({sign}{text}{between}{other})", found
 
 
-def write_walk(s, chance, sentence, asked, documents, live, targets=450):
+def write_walk(
+    s: Subject, chance: Chance, sentence: str, asked: Asked, documents: Sequence[Document], live: Iterable[int], targets: int = 450,
+) -> None:
     """A walk that mixes steps, searches forward and back to documents below `targets`, and takes of 128 documents."""
     text, match = asked
     found = [n for n in live if match(documents[n])]
-    steps, gives, at = [], [], 0
+    steps: list[object] = []
+    gives: list[object] = []
+    at = 0
     for _ in range(40):
         steps.append("doc")
         gives.append(found[at] if at < len(found) else None)
@@ -148,9 +167,9 @@ def write_walk(s, chance, sentence, asked, documents, live, targets=450):
     s.case(sentence, "walk", gives, query=text, steps=steps)
 
 
-def document(chance):
+def document(chance: Chance) -> Document:
     """A document with a title, and with some of the other fields."""
-    made = {"title": "".join(chance.one_of(["a ", "b ", "c ", "d ", "A, ", "b-"]) for _ in range(chance.below(7)))}
+    made: Document = {"title": "".join(chance.one_of(["a ", "b ", "c ", "d ", "A, ", "b-"]) for _ in range(chance.below(7)))}
     if chance.below(3):
         made["tag"] = chance.one_of(["x", "y", "z w"])
     if chance.below(4):
@@ -160,7 +179,7 @@ def document(chance):
     return made
 
 
-def write_walks():
+def write_walks() -> None:
     s, chance = Subject("walks"), Chance(5)
     documents = [mixed(n) for n in range(400)]
     asked = [query(chance, 6) for _ in range(60)]
@@ -184,16 +203,18 @@ def write_walks():
     s.write()
 
 
-def write_cuttings():
+def write_cuttings() -> None:
     """Documents that are cut into segments of which some documents are struck: together they answer as all that are left."""
     s, chance = Subject("cuttings"), Chance(23)
     for cutting in range(25):
         asked, most = query(chance, 3), chance.below(400) + 1
-        groups, top = chance.one_of([(None, ("price", "falling")), ("price", ("temp", "rising")), ("temp", ("price", "rising")),
-                                     ("temp", ("temp", "falling")), ("price", None), ("tag", None),
-                                     ("tag", ("price", "rising"))])
+        kinds: list[tuple[str | None, tuple[str, str] | None]] = [
+            (None, ("price", "falling")), ("price", ("temp", "rising")), ("temp", ("price", "rising")),
+            ("temp", ("temp", "falling")), ("price", None), ("tag", None), ("tag", ("price", "rising"))]
+        groups, order = chance.one_of(kinds)
+        top: Top | None = {"by": order[0], "k": most, "order": order[1]} if order else None
         documents = [document(chance) for _ in range(chance.below(400) + 1)]
-        parts = [[] for _ in range(chance.below(6) + 1)]
+        parts: list[list[int]] = [[] for _ in range(chance.below(6) + 1)]
         for n in range(len(documents)):
             chance.one_of(parts).append(n)
         live = [n for n in range(len(documents)) if chance.below(4)]
@@ -202,10 +223,9 @@ def write_cuttings():
                    documents=[documents[n] for n in part], stamps=[n + 1 for n in part])
             dead = [place for place, n in enumerate(part) if n not in live]
             s.case(f"Cutting {cutting}: segment {place} loses {len(dead)} of them", "clear", len(part) - len(dead), docs=dead)
-        request = {**({"groups": groups} if groups else {}),
-                   **({"top": {"by": top[0], "k": most, "order": top[1]}} if top else {})}
+        request: dict[str, object] = {**({"groups": groups} if groups else {}), **({"top": top} if top else {})}
         s.case(f"Cutting {cutting}: {len(parts)} segments answer as all that are left", "answer",
-               answer([(n + 1, documents[n]) for n in live], asked[1], groups, request.get("top")), query=asked[0], **request)
+               answer([(n + 1, documents[n]) for n in live], asked[1], groups, top), query=asked[0], **request)
     s.write()
 
 
@@ -221,12 +241,12 @@ JOININGS = [
 ]
 
 
-def stays(chance, odds):
+def stays(chance: Chance, odds: int) -> bool:
     """Whether a document stays: all do if the odds are 1, and none if they are 0; else one in `odds` is struck."""
     return odds == 1 or odds > 1 and chance.below(odds) > 0
 
 
-def write_joined(s, name, rows):
+def write_joined(s: Subject, name: str, rows: list[Row]) -> None:
     """What is found in merged documents: each term of titles, tags and numbers, and the columns."""
     for term in sorted({term for _, terms in rows for term in terms if term} | {"a", "w99"}):
         at = [(n, [k for k, other in enumerate(terms) if other == term]) for n, (_, terms) in enumerate(rows)]
@@ -249,7 +269,7 @@ def write_joined(s, name, rows):
            [d["temp"] + 2**63 if "temp" in d else None for d, _ in rows], field=3)
 
 
-def write_joins():
+def write_joins() -> None:
     """Segments of which some documents are struck, merged into one: before and after, all that is found is compared."""
     s, chance = Subject("joins"), Chance(31)
     for name, sizes, odds in JOININGS:
@@ -265,14 +285,15 @@ def write_joins():
             left += [rows[n] for n in live]
             origins += [[stamp + n + 1, source, n] for n in live]
             stamp += size
-        asked = [("title:a", lambda d: has(d, "title", "a"), "tag", {"by": "price", "k": 50, "order": "rising"}),
-                 ('title:"a b"', lambda d: phrase(d, ["a", "b"]), "price", {"by": "temp", "k": 9, "order": "falling"}),
-                 ("price:[10 TO 60] -title:rust", lambda d: within(d, "price", 10, 60) and not has(d, "title", "rust"), "temp", None)]
+        asked: list[tuple[str, Match, str, Top | None]] = [
+            ("title:a", lambda d: has(d, "title", "a"), "tag", {"by": "price", "k": 50, "order": "rising"}),
+            ('title:"a b"', lambda d: phrase(d, ["a", "b"]), "price", {"by": "temp", "k": 9, "order": "falling"}),
+            ("price:[10 TO 60] -title:rust", lambda d: within(d, "price", 10, 60) and not has(d, "title", "rust"), "temp", None)]
         stamped = [(stamp, document) for (stamp, _, _), (document, _) in zip(origins, left)]
 
-        def ask(when):
+        def ask(when: str) -> None:
             for query, match, groups, top in asked:
-                request = {"groups": groups, **({"top": top} if top else {})}
+                request: dict[str, object] = {"groups": groups, **({"top": top} if top else {})}
                 s.case(f"{name}: {when} `{query}` finds what a look at each live document finds", "answer",
                        answer(stamped, match, groups, top), query=query, **request)
 

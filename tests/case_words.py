@@ -1,8 +1,11 @@
 """Cases of lists that are close together and keep bits, and of queries that go over them by words: bits, their complement, a column
 between bounds and live bits, with and without documents that are struck, and lists that are just close enough for bits."""
-import re
+from __future__ import annotations
 
-from case_model import Subject, has, within
+import re
+from collections.abc import Sequence
+
+from case_model import Document, Match, Subject, has, within
 from case_random import Chance, write_walk
 
 # After this many the documents come again, and the last round is cut, so that the last word of bits is a part of one.
@@ -13,24 +16,24 @@ STEPS = {"half": 2, "third": 3, "close": 30, "thin": 72}
 MOST = 64
 
 
-def document(n):
-    made = {"title": " ".join(word for word, step in STEPS.items() if n % step == 1)}
+def document(n: int) -> Document:
+    made: Document = {"title": " ".join(word for word, step in STEPS.items() if n % step == 1)}
     if n % 4 < 3:
         made["price"] = n % PERIOD
     return made
 
 
-def word(name):
+def word(name: str) -> Match:
     return lambda d: has(d, "title", name)
 
 
-def price(least, most):
+def price(least: int, most: int) -> Match:
     return lambda d: within(d, "price", least, most)
 
 
 HALF, THIRD, CLOSE, THIN = [word(name) for name in STEPS]
 
-QUERIES = [
+QUERIES: list[tuple[str, str, Match]] = [
     ("bits and bits", "+half +third", lambda d: HALF(d) and THIRD(d)),
     ("bits of three words", "+half +third +close", lambda d: HALF(d) and THIRD(d) and CLOSE(d)),
     ("bits and a complement", "+half -third", lambda d: HALF(d) and not THIRD(d)),
@@ -60,7 +63,7 @@ QUERIES = [
 ]
 
 
-def ask(s, chance, when, documents, live):
+def ask(s: Subject, chance: Chance, when: str, documents: list[Document], live: Sequence[int]) -> None:
     for name, query, match in QUERIES:
         query = re.sub(r"\b(?=(half|third|close|thin)\b)", "title:", query)
         s.case(f"{when} as many are counted of {name} as a look at each finds", "count",
@@ -68,7 +71,7 @@ def ask(s, chance, when, documents, live):
         write_walk(s, chance, f"{when} a cursor goes over the hits of {name}", (query, match), documents, live, DOCS + 100)
 
 
-def write_close(s):
+def write_close(s: Subject) -> None:
     """Lists that are just close enough for bits, and just not: their answers are the same."""
     for more, name in [(0, "just close enough for bits"), (1, "just too far for bits")]:
         last = MOST * 66 - 1 + more
@@ -82,7 +85,7 @@ def write_close(s):
         s.case(f"All are found that have another, or a word that is {name}", "count", last + 1, query="title:just title:half")
 
 
-def write_far(s):
+def write_far(s: Subject) -> None:
     """A list that keeps bits in its own segment, and not after the documents of another."""
     s.case("A segment has 3,000 documents of a word", "make", 3_000, repeated=[{"times": 3_000, "of": [{"title": "half"}]}])
     s.case("Another has 70 of two words", "and_make", 70, documents=[{"title": "far half"}] * 70,
@@ -93,7 +96,7 @@ def write_far(s):
     s.case("After the merge the first is found without the second", "count", 3_000, query="title:half -title:far")
 
 
-def write_words():
+def write_words() -> None:
     s, chance = Subject("words"), Chance(41)
     documents = [document(n) for n in range(DOCS)]
     rounds = DOCS // PERIOD

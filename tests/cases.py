@@ -2,14 +2,17 @@
 tests/case_model.py, which shares nothing with the index.
 
 With --check it writes them elsewhere, compares them with those that are there, and says 'N passed, M failed'."""
+from __future__ import annotations
+
 import filecmp
 import json
 import os
 import sys
 import tempfile
+from collections.abc import Callable
 
 import case_model
-from case_model import GREATEST, HERE, Subject, answer, error, named, tokens, within
+from case_model import GREATEST, HERE, Document, Match, Subject, Top, answer, error, named, tokens, within
 from case_packing import write_packing
 from case_queries import LONG, t, write_cursors, write_phrases, write_queries
 from case_random import write_cuttings, write_generated, write_joins, write_walks
@@ -17,7 +20,7 @@ from case_words import write_words
 from counts import Counts
 
 
-def write_tokens():
+def write_tokens() -> None:
     s = Subject("tokens")
     forty, thirty_nine = {"times": 40, "of": "x"}, {"times": 39, "of": "x"}
     s.case("An empty text has no token", "tokens", [], text="")
@@ -39,13 +42,13 @@ def write_tokens():
     s.write()
 
 
-def write_schemas():
+def write_schemas() -> None:
     s = Subject("schemas")
 
-    def fault(sentence, names, name):
+    def fault(sentence: str, names: list[str], name: str) -> None:
         s.case(sentence, "schema", {"error": name, "back": len(names)}, fields=named(names))
 
-    def fine(sentence, names, kind="text"):
+    def fine(sentence: str, names: list[str], kind: str = "text") -> None:
         s.case(sentence, "schema", [[name, kind, False] for name in names], fields=named(names, kind))
 
     fault("A schema has a field at least", [], "NoFields")
@@ -77,16 +80,16 @@ def write_schemas():
     s.write()
 
 
-def write_documents():
+def write_documents() -> None:
     s = Subject("documents")
 
-    def keeps(sentence, document):
+    def keeps(sentence: str, document: Document) -> None:
         s.case(sentence, "document", document, document=document)
 
-    def raw(sentence, document, gives):
+    def raw(sentence: str, document: str, gives: str) -> None:
         s.raw('{"case":%s,"do":"document","document":%s,"gives":%s}' % (json.dumps(sentence), document, gives))
 
-    def refuses(sentence, document, name):
+    def refuses(sentence: str, document: str, name: str) -> None:
         raw(sentence, document, json.dumps(error(name), separators=(",", ":")))
 
     keeps("A document may have no value", {})
@@ -127,11 +130,11 @@ def write_documents():
     s.write()
 
 
-def write_scan():
+def write_scan() -> None:
     s = Subject("scan")
-    titles = lambda texts: [{"title": text} for text in texts]
+    titles: Callable[[list[str]], list[Document]] = lambda texts: [{"title": text} for text in texts]
 
-    def pattern(sentence, texts, members, count):
+    def pattern(sentence: str, texts: list[str], members: list[list[object]], count: int) -> None:
         s.case(sentence, "pattern", count, documents=titles(texts), pattern=members)
 
     pattern("A span that is too long leaves its gap: b isn't next to a", LONG, [[0, "a"], [1, "b"]], 0)
@@ -177,7 +180,8 @@ def write_scan():
     s.case("A keyword is before those that it begins", "scan", {"count": 3, "groups": [["a", 1], ["aa", 1], ["b", 1]]},
            documents=[{"tag": "b"}, {"tag": "aa"}, {"tag": "a"}], query="*", groups="tag")
     s.case("A range of keywords leaves out what has none", "scan", {"count": 5}, documents=TAGGED, query="tag:[* TO *]")
-    add, delete = (lambda d: {"add": d}), (lambda t: {"delete": {"field": "title", "is": t}})
+    add: Callable[[Document], object] = lambda d: {"add": d}
+    delete: Callable[[str], object] = lambda t: {"delete": {"field": "title", "is": t}}
     x, rust = {"title": "x"}, {"title": "Rust"}
     s.case("A delete strikes what came before it, and not what comes after", "alive", [3],
            ops=[add(x), delete("x"), add(x)])
@@ -186,14 +190,14 @@ def write_scan():
     s.case("A delete of the folded token strikes the capital", "alive", [], ops=[add(rust), delete("rust")])
     s.case("A delete of all strikes each document before it", "alive", [3], ops=[add(x), "delete_all", add({})])
     book = {"title": "Rust book"}
-    term = lambda field, value: {"field": field, "is": value}
+    term: Callable[[str, object], object] = lambda field, value: {"field": field, "is": value}
     s.case("A document has its tokens", "has", True, document=book, term=term("title", "rust"))
     s.case("A document has no token as it was written", "has", False, document=book, term=term("title", "Rust"))
     s.case("A term of a field that the schema lacks is refused before its value", "term", error("UnknownField"),
            term=term("none", None))
     s.case("A term is no null", "term", error("WrongKind"), term=term("title", None))
     s.case("A term fits its schema, and so does its delete", "term", True, term=term("title", "rust"))
-    top = lambda by, k: {"by": by, "k": k, "order": "rising"}
+    top: Callable[[str, int], Top] = lambda by, k: {"by": by, "k": k, "order": "rising"}
     s.case("A top list may have 10,000 hits", "request", True, groups="temp", top=top("price", 10_000))
     s.case("Groups may be by a keyword field", "request", True, groups="tag", top=top("price", 1))
     s.case("A top list by a keyword is refused before its length", "request", error("NotANumberField"), groups="tag",
@@ -213,11 +217,11 @@ TAGGED = [{"tag": "b"}, {"tag": "a"}, {"tag": "b"}, {}, {"tag": "é"}, {"tag": "
 EXAMPLE = [{"title": "a b a", "price": 4}, {"title": "b"}, {"tag": "a"}]
 
 
-def word(text):
+def word(text: str) -> dict[str, object]:
     return {"field": 0, "text": text}
 
 
-def write_segments():
+def write_segments() -> None:
     s = Subject("segments")
     s.case("Three documents make a segment", "make", 3, documents=EXAMPLE, stamps=[3, 5, 9])
     for sentence, term, docs in [
@@ -277,31 +281,34 @@ def write_segments():
     s.case("A list of one block and a document comes back", "postings", list(range(129)),
            term={"field": 1, "text": "x"})
     s.case("Its tag comes back from a list of two blocks", "keyword", "x", field=1, ordinal=0)
-    empty = lambda times: [{"times": times, "of": [{}]}]
+    empty: Callable[[int], object] = lambda times: [{"times": times, "of": [{}]}]
     s.case("A segment takes 65,536 documents", "make", 65_536, repeated=empty(65_536))
     s.case("A segment takes no 65,537th document", "make", error("SegmentFull"), repeated=empty(65_537))
     s.write()
 
 
 DROPPED = "x" * 40
-LISTED = [{"title": ["a b", "c"]}, {"title": ["!!!", "a"]}, {"title": [DROPPED, "a"]}, {"title": ["a", "!!", "b"]}, {"title": []}]
-MORE_LISTED = [{"title": ["b", "a b"]}, {"title": "a b"}, {"title": ["b"]}, {"title": ["c", "c c"]}, {"title": ["a", "b c"]}]
+LISTED: list[Document] = [
+    {"title": ["a b", "c"]}, {"title": ["!!!", "a"]}, {"title": [DROPPED, "a"]}, {"title": ["a", "!!", "b"]}, {"title": []}]
+MORE_LISTED: list[Document] = [
+    {"title": ["b", "a b"]}, {"title": "a b"}, {"title": ["b"]}, {"title": ["c", "c c"]}, {"title": ["a", "b c"]}]
 
 
-def write_lists():
+def write_lists() -> None:
     s = Subject("lists")
-    for sentence, document, gives in [
-            ("A text field keeps a list of texts", {"title": ["a b", "c"]}, None),
-            ("A list of one text is kept as a list", {"title": ["a"]}, None),
-            ("Texts of a list may be empty and stand twice", {"title": ["", "a", "", "a"]}, None),
-            ("Texts of a list are kept with quotes, breaks and characters outside of ASCII", {"title": ["\"\\\n", "é😀"]}, None),
-            ("An empty list is no value", {"title": []}, {}),
-            ("A number in a list is no text", {"title": ["a", 1]}, error("WrongKind")),
-            ("A null in a list is no text", {"title": ["a", None]}, error("WrongKind")),
-            ("A list in a list is no text", {"title": ["a", ["b"]]}, error("WrongKind")),
-            ("A keyword is no list", {"tag": ["a"]}, error("WrongKind")),
-            ("A keyword is no empty list", {"tag": []}, error("WrongKind")),
-            ("A number is no list", {"price": [1]}, error("WrongKind"))]:
+    documents: list[tuple[str, Document, object]] = [
+        ("A text field keeps a list of texts", {"title": ["a b", "c"]}, None),
+        ("A list of one text is kept as a list", {"title": ["a"]}, None),
+        ("Texts of a list may be empty and stand twice", {"title": ["", "a", "", "a"]}, None),
+        ("Texts of a list are kept with quotes, breaks and characters outside of ASCII", {"title": ["\"\\\n", "é😀"]}, None),
+        ("An empty list is no value", {"title": []}, {}),
+        ("A number in a list is no text", {"title": ["a", 1]}, error("WrongKind")),
+        ("A null in a list is no text", {"title": ["a", None]}, error("WrongKind")),
+        ("A list in a list is no text", {"title": ["a", ["b"]]}, error("WrongKind")),
+        ("A keyword is no list", {"tag": ["a"]}, error("WrongKind")),
+        ("A keyword is no empty list", {"tag": []}, error("WrongKind")),
+        ("A number is no list", {"price": [1]}, error("WrongKind"))]
+    for sentence, document, gives in documents:
         s.case(sentence, "document", document if gives is None else gives, document=document)
     for kind, fits in [("text", True), ("keyword", False)]:
         s.case(f"A list {'fits a' if fits else 'fits no'} {kind} field", "fits", fits, document={"title": ["a", "b"]},
@@ -313,7 +320,7 @@ def write_lists():
     s.case("A term is no list", "term", error("WrongKind"), term={"field": "title", "is": ["a"]})
     s.case("Five documents with lists make a segment", "make", 5, documents=LISTED, stamps=[1, 2, 3, 4, 5])
 
-    def stands(sentence, documents, text):
+    def stands(sentence: str, documents: list[Document], text: str) -> None:
         places = [[place for place, run in tokens(document["title"]) if run == text] for document in documents]
         s.case(sentence, "all_positions", [at for at in places if at], term=word(text))
 
@@ -336,12 +343,12 @@ def write_lists():
     s.write()
 
 
-def drawn(number, most):
+def drawn(number: int, most: int) -> int:
     return ((number * 6364136223846793005 % 2**64) >> 33) % most if most else 0
 
 
-def generated(stamp):
-    document = {"title": ["a", "b", "a b", "c a b", "c"][drawn(stamp, 5)]}
+def generated(stamp: int) -> Document:
+    document: Document = {"title": ["a", "b", "a b", "c a b", "c"][drawn(stamp, 5)]}
     no_price, no_temp = drawn(stamp ^ 0x3333, 3) == 0, drawn(stamp ^ 0x4444, 4) == 0
     temp = drawn(stamp ^ 0x2222, 13) + 1
     if not no_price:
@@ -351,11 +358,11 @@ def generated(stamp):
     return document
 
 
-def top(by, k, order):
+def top(by: str, k: int, order: str) -> Top:
     return {"by": by, "k": k, "order": order}
 
 
-ASKED = [
+ASKED: list[tuple[str, str, Match, str | None, Top | None]] = [
     ("every document by price", "*", lambda d: True, "price", top("price", 25, "rising")),
     ("every document by temp, the dearest first", "*", lambda d: True, "temp", top("price", 25, "falling")),
     ("a word by temp", "title:a", t("a"), "temp", top("temp", 9, "rising")),
@@ -370,7 +377,7 @@ ASKED = [
     ("a word that none has", "title:d", t("d"), None, None)]
 
 
-def write_collectors():
+def write_collectors() -> None:
     s = Subject("collectors")
     for cutting in range(3):
         parts = [[n for n in range(1, 401) if drawn(n ^ cutting * 0x7777, 5) == part] for part in range(5)]
@@ -382,7 +389,7 @@ def write_collectors():
                    documents=[generated(n) for n in live], stamps=live)
         everything = [(n, generated(n)) for part in parts for n in part]
         for name, query, match, groups, wanted in ASKED:
-            asked = {**({"groups": groups} if groups else {}), **({"top": wanted} if wanted else {})}
+            asked: dict[str, object] = {**({"groups": groups} if groups else {}), **({"top": wanted} if wanted else {})}
             s.case(f"Cutting {cutting}: five segments answer {name}", "answer",
                    answer(everything, match, groups, wanted), query=query, **asked)
     five = [{"price": 5}, {"price": 5}]
@@ -411,20 +418,22 @@ def write_collectors():
     s.write()
 
 
-def write_top_lists(s):
+def write_top_lists(s: Subject) -> None:
     """Top lists that end within a run of equal numbers, in a segment whose documents aren't in the order of their stamps."""
     words = [[word for word, every in (("a", 2), ("b", 3)) if n % every == 0] or ["c"] for n in range(400)]
     made = [(n * 37 % 400 + 1, {"title": " ".join(words[n]), "price": n // 10, "temp": n * 7 % 40}) for n in range(400)]
     s.case("400 documents out of the order of their stamps have each of 40 prices ten times", "make", 400,
            documents=[document for _, document in made], stamps=[stamp for stamp, _ in made])
-    low, high = (lambda d: within(d, "temp", 0, 29)), (lambda d: within(d, "temp", 10, 39))
-    asked = [("all", "*", lambda d: True), ("a word", "title:a", t("a")),
-             ("either word", "title:a OR title:b", lambda d: t("a")(d) or t("b")(d)),
-             ("both words", "+title:a +title:b", lambda d: t("a")(d) and t("b")(d)),
-             ("a word without another", "title:a -title:b", lambda d: t("a")(d) and not t("b")(d)),
-             ("all without a word", "* -title:b", lambda d: not t("b")(d)), ("a range", "temp:[10 TO 39]", high),
-             ("a word within a range", "+title:a +temp:[0 TO 29]", lambda d: t("a")(d) and low(d)),
-             ("a range that nothing is in", "temp:[50 TO 60]", lambda d: False)]
+    low: Match = lambda d: within(d, "temp", 0, 29)
+    high: Match = lambda d: within(d, "temp", 10, 39)
+    asked: list[tuple[str, str, Match]] = [
+        ("all", "*", lambda d: True), ("a word", "title:a", t("a")),
+        ("either word", "title:a OR title:b", lambda d: t("a")(d) or t("b")(d)),
+        ("both words", "+title:a +title:b", lambda d: t("a")(d) and t("b")(d)),
+        ("a word without another", "title:a -title:b", lambda d: t("a")(d) and not t("b")(d)),
+        ("all without a word", "* -title:b", lambda d: not t("b")(d)), ("a range", "temp:[10 TO 39]", high),
+        ("a word within a range", "+title:a +temp:[0 TO 29]", lambda d: t("a")(d) and low(d)),
+        ("a range that nothing is in", "temp:[50 TO 60]", lambda d: False)]
     for whole in (True, False):
         live = [pair for n, pair in enumerate(made) if whole or n % 7]
         if not whole:
@@ -438,11 +447,11 @@ def write_top_lists(s):
                            **({"groups": "temp"} if k == 14 else {}), top=wanted)
 
 
-def write_merges():
+def write_merges() -> None:
     s = Subject("merges")
     s.case("Three documents are made at the stamps 3, 5 and 9", "make", 3, documents=EXAMPLE, stamps=[3, 5, 9])
-    delete = lambda stamp, field, text: {"stamp": stamp, "op": {"delete": {"field": field, "is": text}}}
-    everything = lambda stamp: {"stamp": stamp, "op": "delete_all"}
+    delete: Callable[[int, str, str], object] = lambda stamp, field, text: {"stamp": stamp, "op": {"delete": {"field": field, "is": text}}}
+    everything: Callable[[int], object] = lambda stamp: {"stamp": stamp, "op": "delete_all"}
     for sentence, ops, live in [
             ("A delete strikes the documents of lower stamps", [delete(4, "title", "b")], [1, 2]),
             ("A later delete strikes both documents of the word", [delete(6, "title", "b")], [2]),
@@ -461,7 +470,7 @@ def write_merges():
            term=word("b"))
     s.case("A word is found under the new numbers", "merged_postings", [0, 1], first=[0], second=[1, 2], term=word("b"))
     s.case("A merge of nothing live is empty", "merge", [], first=[], second=[])
-    tagged = lambda *tags: [{"tag": tag} for tag in tags]
+    tagged: Callable[..., list[Document]] = lambda *tags: [{"tag": tag} for tag in tags]
     s.case("A segment has the tags a and c", "make", 2, documents=tagged("a", "c"))
     s.case("Their ordinals are 0 and 1", "column", [0, 1], field=1)
     s.case("Another has the tag b", "make", 1, documents=tagged("b"))
@@ -473,39 +482,41 @@ def write_merges():
     whole = [list(range(8))]
     two = [400_000 if n % 2 == 0 else 20_000 for n in range(16)]
     two[2] = 500_000
-    for sentence, sizes, plan in [
-            ("Eight segments of one size are merged", [100] * 8, whole),
-            ("Eight sizes of one level are merged", list(range(1, 9)), whole),
-            ("Segments of more than a million documents are left alone", [1_000_001] * 8, []),
-            ("No segment is no merge", [], []),
-            ("Seven segments are no merge", [100] * 7, []),
-            ("The greatest size opens a level: 16,817 is with 10,000", [16_817] + [10_000] * 7, whole),
-            ("16,818 is above the level of 10,000", [16_818] + [10_000] * 7, []),
-            ("Two levels are two merges, each with its greatest first", two,
-             [[2, 0, 4, 6, 8, 10, 12, 14], [1, 3, 5, 7, 9, 11, 13, 15]])]:
+    plans: list[tuple[str, list[int], list[list[int]]]] = [
+        ("Eight segments of one size are merged", [100] * 8, whole),
+        ("Eight sizes of one level are merged", list(range(1, 9)), whole),
+        ("Segments of more than a million documents are left alone", [1_000_001] * 8, []),
+        ("No segment is no merge", [], []),
+        ("Seven segments are no merge", [100] * 7, []),
+        ("The greatest size opens a level: 16,817 is with 10,000", [16_817] + [10_000] * 7, whole),
+        ("16,818 is above the level of 10,000", [16_818] + [10_000] * 7, []),
+        ("Two levels are two merges, each with its greatest first", two,
+         [[2, 0, 4, 6, 8, 10, 12, 14], [1, 3, 5, 7, 9, 11, 13, 15]])]
+    for sentence, sizes, plan in plans:
         s.case(sentence, "plan", plan, sizes=sizes)
     usual, small = (10_000, 8, 1_000_000, 100), (1, 2, 1_000_000, 50)
-    for sentence, policy, docs, live, plan in [
-            ("By the usual numbers dead documents are no reason", usual, [100] * 7, [1] * 7, []),
-            ("By the usual numbers eight are a level, whatever is dead", usual, [100] * 8, [1] * 8, whole),
-            ("With a floor of 1 and two members 3 joins 5, and 1 stands alone", small, [1, 5, 3], [1, 5, 3], [[1, 2]]),
-            ("With a floor of 5 all three are of one size, and the first comes first", (5, 2, 1_000_000, 50), [1, 5, 3], [1, 5, 3], [[0, 1, 2]]),
-            ("Equal sizes are one level by their places", small, [7, 7, 7], [7, 7, 7], [[0, 1, 2]]),
-            ("One segment is no level, and half of it dead is not too much", small, [10], [5], []),
-            ("With one more dead it is merged by itself", small, [11], [5], [[0]]),
-            ("A segment of dead documents alone is merged by itself", small, [10, 4], [10, 0], [[1]]),
-            ("Two that are all dead count as the floor, and are one level", small, [10, 4], [0, 0], [[0, 1]]),
-            ("A level comes first, and none of it once more by itself", small, [10, 10, 100], [4, 4, 40], [[0, 1], [2]]),
-            ("A segment over the most is in no level, and merged for its dead", (1, 2, 20, 50), [20, 20, 60, 60], [20, 20, 21, 40],
-             [[0, 1], [2]]),
-            ("At 100 per cent none is merged for its dead", (1, 2, 1_000_000, 100), [10], [0], []),
-            ("No segment is no merge by any numbers", small, [], [], [])]:
+    by_numbers: list[tuple[str, tuple[int, int, int, int], list[int], list[int], list[list[int]]]] = [
+        ("By the usual numbers dead documents are no reason", usual, [100] * 7, [1] * 7, []),
+        ("By the usual numbers eight are a level, whatever is dead", usual, [100] * 8, [1] * 8, whole),
+        ("With a floor of 1 and two members 3 joins 5, and 1 stands alone", small, [1, 5, 3], [1, 5, 3], [[1, 2]]),
+        ("With a floor of 5 all three are of one size, and the first comes first", (5, 2, 1_000_000, 50), [1, 5, 3], [1, 5, 3], [[0, 1, 2]]),
+        ("Equal sizes are one level by their places", small, [7, 7, 7], [7, 7, 7], [[0, 1, 2]]),
+        ("One segment is no level, and half of it dead is not too much", small, [10], [5], []),
+        ("With one more dead it is merged by itself", small, [11], [5], [[0]]),
+        ("A segment of dead documents alone is merged by itself", small, [10, 4], [10, 0], [[1]]),
+        ("Two that are all dead count as the floor, and are one level", small, [10, 4], [0, 0], [[0, 1]]),
+        ("A level comes first, and none of it once more by itself", small, [10, 10, 100], [4, 4, 40], [[0, 1], [2]]),
+        ("A segment over the most is in no level, and merged for its dead", (1, 2, 20, 50), [20, 20, 60, 60], [20, 20, 21, 40],
+         [[0, 1], [2]]),
+        ("At 100 per cent none is merged for its dead", (1, 2, 1_000_000, 100), [10], [0], []),
+        ("No segment is no merge by any numbers", small, [], [], [])]
+    for sentence, policy, sizes, alive, plan in by_numbers:
         floor, members, most, dead = policy
-        s.case(sentence, "plan_by", plan, docs=docs, live=live, floor=floor, members=members, most=most, dead=dead)
+        s.case(sentence, "plan_by", plan, docs=sizes, live=alive, floor=floor, members=members, most=most, dead=dead)
     s.write()
 
 
-def write_wrong():
+def write_wrong() -> None:
     s = Subject("wrong")
     s.case("A word that nothing knows", "tokns", [], text="")
     s.raw('{"case":"No word","text":"","gives":[]}')
@@ -544,7 +555,7 @@ WRITERS = [write_tokens, write_schemas, write_documents, write_scan, write_queri
            write_words, write_wrong]
 
 
-def check():
+def check() -> int:
     """Compares the stored cases with those that are written now, and returns the status."""
     with tempfile.TemporaryDirectory() as case_model.folder:
         for write in WRITERS:

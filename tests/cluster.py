@@ -8,6 +8,8 @@ that runs this: $DILFOREC_PYTHON, or the system's, for which Debian has python3-
 installed by apt-get, if this runs as root on a machine that has it, or from pip's index, if that can be reached, unless
 DILFOREC_INSTALL is 0; else what needs it is skipped, and counted as that. The last line is 'N passed, M failed'.
 """
+from __future__ import annotations
+
 import contextlib
 import os
 import pathlib
@@ -19,11 +21,14 @@ import subprocess
 import sys
 import tempfile
 import time
+from collections.abc import Iterable, Iterator, Mapping, Sequence
+from pathlib import Path
+from typing import Any
 
 import processes
 from counts import Counts
 from debian import install
-from processes import run_tests
+from processes import Done, run_tests
 
 ROOT = pathlib.Path(__file__).resolve().parents[1]
 PACKAGE = ROOT / "bindings/python"
@@ -33,20 +38,20 @@ OUT = ROOT / "bindings/out"
 counts = Counts("cluster")
 
 
-def environment(*paths):
+def environment(*paths: str | Path) -> dict[str, str]:
     return {**os.environ, "PYTHONPATH": os.pathsep.join(map(str, paths)), "PYTHONDONTWRITEBYTECODE": "1"}
 
 
-def run(*words, seconds=240, **settings):
+def run(*words: str | Path, seconds: float = 240, **settings: Any) -> Done:
     """How a command ended, and what it printed. What it left running ends with it."""
     return processes.run(*words, seconds=seconds, **settings)
 
 
-def imports_distributed(python, *paths):
+def imports_distributed(python: str, *paths: str | Path) -> bool:
     return bool(shutil.which(python)) and run(python, "-c", "import distributed", env=environment(*paths)).status == 0
 
 
-def with_distributed():
+def with_distributed() -> tuple[str, list[Path]] | None:
     """A Python that has `distributed`, and the folders that it needs on its path; None if there is none."""
     for python in (os.environ.get("DILFOREC_PYTHON"), sys.executable, "/usr/bin/python3"):
         if python and imports_distributed(python):
@@ -63,7 +68,7 @@ def with_distributed():
     return (sys.executable, [folder]) if imports_distributed(sys.executable, folder) else None
 
 
-def unittests(name, python, *paths, options=()):
+def unittests(name: str, python: str, *paths: str | Path, options: Sequence[str] = ()) -> None:
     """Counts the tests of a module of bindings/python/tests; what they print goes on."""
     done = run_tests(python, *options, "-m", "unittest", name, env=environment(PACKAGE, PACKAGE / "tests", *paths), seconds=480)
     print("".join(line + "\n" for line in done.said.splitlines() if line.startswith("cluster: ")), end="")
@@ -78,14 +83,14 @@ PAGE = ROOT / "docs/SCALE.md"
 LEVELS, MESSAGES = ("info", "warning", "error"), ("timeout of db", "started")
 
 
-def block_with(words):
+def block_with(words: str) -> str:
     """The block of code of the page that has these words."""
     blocks = re.findall(r"(?:^(?:    .*)?\n)+", PAGE.read_text(), re.MULTILINE)
     (block,) = (block for block in blocks if words in block)
     return re.sub("^    ", "", block, flags=re.MULTILINE).strip() + "\n"
 
 
-def example(folder):
+def example(folder: Path) -> str:
     """Writes the page's program beside a folder of log files, and returns what it should print."""
     (folder / "logs.py").write_text(block_with("from dilforec.cluster import Cluster"))
     (folder / "logs").mkdir()
@@ -102,7 +107,7 @@ def example(folder):
     return "".join([f"{len(found)} {levels}\n", *told])
 
 
-def runs_as_told(name, told, python, folder, env, *words):
+def runs_as_told(name: str, told: str, python: str | Path, folder: Path, env: Mapping[str, str], *words: str) -> None:
     done = run(python, "logs.py", *words, cwd=folder, env=env)
     # Dask may have words of its own around it.
     good = done.status == 0 and told in done.said
@@ -110,11 +115,11 @@ def runs_as_told(name, told, python, folder, env, *words):
 
 
 @contextlib.contextmanager
-def commands(python, folder, env, *options):
+def commands(python: str, folder: Path, env: Mapping[str, str], *options: str) -> Iterator[str]:
     """A scheduler and four workers, as the page starts them. Its address."""
     file = folder / "scheduler.json"
     file.unlink(missing_ok=True)
-    both = ["--scheduler-file", file, "--no-dashboard", *options]
+    both: list[str | Path] = ["--scheduler-file", file, "--no-dashboard", *options]
     started = [["scheduler", "--port", "0", "--host", "127.0.0.1"], ["worker", "--nworkers", "4", "--nthreads", "1"]]
     running = [subprocess.Popen([python, "-m", f"distributed.cli.dask_{kind}", *options, *both], cwd=folder, env=env,
                                 stdout=subprocess.DEVNULL, stderr=subprocess.DEVNULL, start_new_session=True)
@@ -123,7 +128,9 @@ def commands(python, folder, env, *options):
         deadline = time.monotonic() + 30
         while not file.exists() and time.monotonic() < deadline:
             time.sleep(0.1)
-        yield re.search(r'"address": "([^"]*)"', file.read_text())[1]
+        address = re.search(r'"address": "([^"]*)"', file.read_text())
+        assert address
+        yield address[1]
     finally:
         for process in reversed(running):
             process.send_signal(signal.SIGINT)
@@ -134,7 +141,7 @@ def commands(python, folder, env, *options):
                 os.killpg(process.pid, signal.SIGKILL)
 
 
-def the_example(python, paths):
+def the_example(python: str, paths: Iterable[Path]) -> None:
     env = environment(PACKAGE, *paths)
     with tempfile.TemporaryDirectory() as name:
         folder = pathlib.Path(name)
@@ -163,7 +170,7 @@ with Client(sys.argv[1], security=security, set_as_default=False) as client, Clu
 """
 
 
-def with_tls(python, paths):
+def with_tls(python: str, paths: Iterable[Path]) -> None:
     """The example over TLS, with the page's certificates and options; a client without a certificate is kept out."""
     env = environment(PACKAGE, *paths)
     with tempfile.TemporaryDirectory() as name:
@@ -172,7 +179,8 @@ def with_tls(python, paths):
         for line in block_with("openssl req -x509").splitlines():
             done = run(*shlex.split(line), cwd=folder)
             if done.status != 0:
-                return counts.check("the certificates", False, done.said)
+                counts.check("the certificates", False, done.said)
+                return
         scheduler, worker = (shlex.split(line) for line in block_with("--protocol tls").splitlines())
         options = scheduler[scheduler.index("--tls-ca-file"):]
         same = options == worker[worker.index("--tls-ca-file"):]
@@ -195,7 +203,7 @@ def with_tls(python, paths):
                 counts.check(f"a client without a certificate, by {stranger[:3]}", refused)
 
 
-def from_the_wheel(python, paths):
+def from_the_wheel(python: str, paths: Iterable[Path]) -> None:
     """The example with the package as a wheel installs it, with its extra, in a plain environment."""
     with tempfile.TemporaryDirectory() as name:
         folder = pathlib.Path(name)
@@ -204,17 +212,19 @@ def from_the_wheel(python, paths):
         done = run(*pip, "wheel", "--quiet", "--no-index", "--no-deps", "--no-build-isolation", "-w", folder, PACKAGE)
         wheels = list(folder.glob("dilforec-*.whl"))
         if done.status != 0 or len(wheels) != 1:
-            return counts.check("the wheel", False, done.said)
+            counts.check("the wheel", False, done.said)
+            return
         run(python, "-m", "venv", "--without-pip", "--system-site-packages", folder / "plain")
         plain = folder / "plain/bin/python"
         env = environment(*paths)
         done = run(*pip, "--python", plain, "install", "--quiet", "--no-index", f"{wheels[0]}[cluster]", env=env)
         if done.status != 0:
-            return counts.check("the wheel, installed", False, done.said)
+            counts.check("the wheel, installed", False, done.said)
+            return
         runs_as_told("the example from the wheel", told, plain, folder, env)
 
 
-def main():
+def main() -> int:
     began = time.monotonic()
     unittests("test_joins", sys.executable)
     found = with_distributed()

@@ -10,8 +10,11 @@ A test has to pass, or to run out of memory outside of a call that it tries agai
 or by what it expected in its place ("a commit: Memory"). Where it tries a call again, what it expects is said to come again ("a
 commit again: Memory"), and this may not fail: one growth is refused, and no other.
 """
+from __future__ import annotations
+
 import re
 import sys
+from collections.abc import Iterable, Sequence
 
 import faults
 from built import ROOT
@@ -30,7 +33,7 @@ OUT_OF_MEMORY = re.compile(
 )
 
 
-def tests(shim, crate, words):
+def tests(shim: str, crate: str, words: Iterable[str]) -> list[list[str]]:
     """The built tests of a crate whose names have one of the words."""
     binary = str(ROOT / f"crates/{crate}/out/{crate}_tests")
     listed = faults.run(shim, [binary, "--list"])[1].decode().splitlines()
@@ -40,14 +43,14 @@ def tests(shim, crate, words):
     return found
 
 
-def passes_without(shim, test, n):
+def passes_without(shim: str, test: Sequence[str], n: int) -> bool:
     """Whether a test passes whose nth growth is refused; else it runs out of memory."""
     status, _, told = faults.run(shim, test, FAIL_GROWTH=n)
     assert status == 0 or OUT_OF_MEMORY.match(told), (test, n, status, told)
     return status == 0
 
 
-def main():
+def main() -> None:
     crate, words = sys.argv[1], sys.argv[2:] or AGAIN[sys.argv[1]]
     with faults.shim() as shim:
         for test in tests(shim, crate, words):

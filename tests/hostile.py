@@ -7,6 +7,8 @@ Build the program first (README.md). Prints for each pair the processor seconds 
 times as long the first took; the parts are terms, strikes, queries, phrases, lines, commits, fields and answers, all without a word.
 Two pairs have a bound, which `tests/sweeps.py` looks at too; the last line says how many kept theirs.
 """
+from __future__ import annotations
+
 import itertools
 import json
 import os
@@ -14,10 +16,11 @@ import subprocess
 import sys
 import tempfile
 import typing
+from collections.abc import Iterable, Iterator, Sequence
 
 from built import PROGRAM
 
-COMMIT = {"commit": True}
+COMMIT: dict[str, typing.Any] = {"commit": True}
 TRIES = 3
 
 # The hash of the kit's maps, whose seed is known: a word is multiplied into the state, and the halves of the product are joined.
@@ -26,22 +29,27 @@ MULTIPLIER = 0x9E37_79B9_7F4A_7C15
 BEGIN = 0x243F_6A88_85A3_08D3
 
 
+# A line as text, or as JSON.
+Line = typing.Union[str, dict[str, typing.Any]]
+Script = list[Line]
+
+
 class Pair(typing.NamedTuple):
     """A script that was made to be slow, and the plain one beside it: lists of lines, each as text or as JSON."""
     name: str
-    slow: list
-    plain: list
+    slow: Script
+    plain: Script
     bound: float | None = None
-    options: tuple = ()
-    plain_options: tuple = ()
+    options: tuple[str, ...] = ()
+    plain_options: tuple[str, ...] = ()
 
 
-def folded(a, b):
+def folded(a: int, b: int) -> int:
     product = a * b
     return product & MASK ^ product >> 64
 
 
-def colliding(count, length=32):
+def colliding(count: int, length: int = 32) -> list[str]:
     """Keys of one hash: any 16 bytes, the 8 bytes of the state after them, and any 8 bytes."""
     second = int.from_bytes(b"-colli--", "little") ^ MULTIPLIER
     fours = [int.from_bytes(b"%04d" % number, "little") for number in range(10_000)]
@@ -54,32 +62,33 @@ def colliding(count, length=32):
             keys.append(b"%b-colli--%b-any-8--" % (first.to_bytes(8, "little"), state.to_bytes(8, "little")))
             if len(keys) == count:
                 return [key.decode() for key in keys]
+    raise ValueError(f"there are only {len(keys)} keys of one hash")
 
 
-def under(kind, *lines):
+def under(kind: str, *lines: Line) -> Script:
     """Lines under the schema of a field `f` of this kind, and a number."""
     fields = [{"name": "f", "kind": kind, "default": True}, {"name": "n", "kind": "u64"}]
     return [{"schema": fields}, *lines]
 
 
-def adds(values, field="f"):
+def adds(values: Iterable[object], field: str = "f") -> Script:
     return [{"add": {field: value}} for value in values]
 
 
-def deletes(terms):
+def deletes(terms: Iterable[str]) -> Script:
     return [{"delete": {"f": term}} for term in terms]
 
 
-def searches(query, times, **more):
+def searches(query: str, times: int, **more: object) -> Script:
     return [{"search": {"query": query, **more}}] * times
 
 
-def filled(piece, joint=" ", size=4096):
+def filled(piece: str, joint: str = " ", size: int = 4096) -> str:
     """A piece again and again, in at most `size` bytes."""
     return joint.join([piece] * ((size + len(joint)) // (len(piece) + len(joint))))
 
 
-def chosen_words():
+def chosen_words() -> Pair:
     count = 30_000
     others = [f"{number:08}-others--........any-8..." for number in range(count)]
     return Pair(
@@ -88,7 +97,7 @@ def chosen_words():
     )
 
 
-def deletes_of_one_term():
+def deletes_of_one_term() -> Pair:
     count = 60_000
     whole = under("keyword", *adds(["a"] * count))
     return Pair(
@@ -97,7 +106,7 @@ def deletes_of_one_term():
     )
 
 
-def terms():
+def terms() -> Iterator[Pair]:
     yield chosen_words()
     rising = [f"k{number:06}" for number in range(60_000)]
     yield Pair(
@@ -106,7 +115,7 @@ def terms():
     )
 
 
-def strikes():
+def strikes() -> Iterator[Pair]:
     yield deletes_of_one_term()
     count = 60_000
     for words in (2, 300):
@@ -126,8 +135,8 @@ def strikes():
     yield Pair("3,000 deletes of different terms over 3,000 segments (`--runs 1`), and over one", few, few, options=("--runs", "1"))
 
 
-def queries():
-    def asked(query):
+def queries() -> Iterator[Pair]:
+    def asked(query: str) -> Script:
         return under("text", *adds(["a b c d"] * 10_000), COMMIT, *searches(query, 10))
 
     for form, query in {
@@ -142,8 +151,8 @@ def queries():
         yield Pair(f"queries of 4,096 bytes, {form}, and `a`", asked(query), asked("a"))
 
 
-def phrases():
-    def asked(text, query):
+def phrases() -> Iterator[Pair]:
+    def asked(text: str, query: str) -> Script:
         return under("text", *adds([text]), COMMIT, *searches(query, 2))
 
     whole = "a " * 500_000
@@ -162,7 +171,7 @@ def phrases():
         yield Pair(name, asked(parted, phrase), asked(parted, "a"))
 
 
-def lines():
+def lines() -> Iterator[Pair]:
     size = 4_000_000
     plain = under("text", *['{"add":{"f":"' + "word " * 200_000 + '"}}'] * 4)
     for form, line in {
@@ -177,7 +186,7 @@ def lines():
         yield Pair(f"lines of up to 4 MB, {form}, and texts of 1 MB", under("text", *[line] * 4), plain)
 
 
-def commits():
+def commits() -> Iterator[Pair]:
     count = 10_000
     one = under("keyword", *(it for value in range(count) for it in ({"add": {"n": value}}, COMMIT)))
     at_once = under("keyword", *adds(range(count), "n"), *[COMMIT] * count)
@@ -190,8 +199,8 @@ def commits():
         yield Pair(name, adds_and_one, adds_and_one, options=options)
 
 
-def fields():
-    def schema(count):
+def fields() -> Iterator[Pair]:
+    def schema(count: int) -> Line:
         return {"schema": [{"name": f"f{number}", "kind": "text", "default": True} for number in range(count)]}
 
     words = " ".join(f"x{number}" for number in range(720))
@@ -212,14 +221,15 @@ def fields():
     )
 
 
-def answers():
+def answers() -> Iterator[Pair]:
     different = under("keyword", *({"add": {"f": f"k{value:06}", "n": value}} for value in range(60_000)), COMMIT)
     plain = [*different, *searches("*", 10)]
-    for form, more in {
+    asked: dict[str, dict[str, object]] = {
         "groups by 60,000 keywords": {"groups": "f"}, "groups by 60,000 numbers": {"groups": "n"},
         "the first 10,000": {"top": {"by": "n", "k": 10_000, "order": "rising"}},
         "the last 10,000": {"top": {"by": "n", "k": 10_000, "order": "falling"}},
-    }.items():
+    }
+    for form, more in asked.items():
         yield Pair(f"10 searches for {form}, and for a count", [*different, *searches("*", 10, **more)], plain)
     apart, near = (
         under("keyword", *adds([0, most] * 2_000, "n"), COMMIT, *searches("*", 10, groups="n")) for most in (65_535, 1)
@@ -231,7 +241,7 @@ def answers():
 PARTS = {part.__name__: part for part in (terms, strikes, queries, phrases, lines, commits, fields, answers)}
 
 
-def seconds(program, script, options):
+def seconds(program: str, script: Script, options: Sequence[str]) -> float:
     """The processor time of a run, which answers each line that isn't blank."""
     with tempfile.TemporaryFile() as given, tempfile.TemporaryFile() as replies:
         written = [line if isinstance(line, str) else json.dumps(line) for line in script]
@@ -244,25 +254,26 @@ def seconds(program, script, options):
         wanted = sum(1 for line in written if not line.isspace())
         told = replies.read().count(b"\n")
         assert (run.returncode, told) == (0, wanted), (run.returncode, told, wanted)
-    return used.ru_utime + used.ru_stime
+    taken: float = used.ru_utime + used.ru_stime
+    return taken
 
 
-def measured(program, pair):
+def measured(program: str, pair: Pair) -> tuple[float, float]:
     """The least seconds of both scripts, which take turns."""
     each = [(seconds(program, pair.slow, pair.options), seconds(program, pair.plain, pair.plain_options)) for _ in range(TRIES)]
     return min(slow for slow, _ in each), min(plain for _, plain in each)
 
 
-def bounded(program):
+def bounded(program: str) -> int:
     """Looks at the pairs that have a bound, and returns how many these are."""
     pairs = [chosen_words(), deletes_of_one_term()]
     for pair in pairs:
         slow, plain = measured(program, pair)
-        assert slow <= pair.bound * plain, (pair.name, slow, plain)
+        assert pair.bound and slow <= pair.bound * plain, (pair.name, slow, plain)
     return len(pairs)
 
 
-def main():
+def main() -> int:
     kept = broken = 0
     print("|made to be slow, and beside it|s|s|times|\n|---|---|---|---|")
     for part in sys.argv[1:] or PARTS:

@@ -19,7 +19,7 @@ import resource
 import subprocess
 import sys
 import tempfile
-from typing import Iterable, Iterator
+from typing import Iterable, Iterator, Sequence
 
 import faults
 from built import PLAIN, PROGRAM, ROOT
@@ -51,7 +51,7 @@ def said_of_faults() -> None:
             ("memory", MEMORY, {"FAIL_GROWTH": faults.growths(shim, [PROGRAM, "run"], SCRIPT)}),
             ("a read", READ, {"FAIL_READ": 1}), ("a write", WRITE, {"FAIL_WRITE": 1}), ("a write of no byte", WRITE, {"ZERO_WRITE": 1}),
         ]:
-            found, _, told = faults.run(shim, [PROGRAM, "run"], SCRIPT, **fault)
+            found, _, told = faults.run(shim, [PROGRAM, "run"], SCRIPT, None, **fault)
             check(name, (found, told) == (status, b"fts: " + words), (found, told))
         # There is no memory for the command line itself.
         found, out, told = faults.run(shim, [PROGRAM, "run"], SCRIPT, FAIL_GROWTH=1)
@@ -85,8 +85,9 @@ def unwritable() -> None:
 
 def of_no_byte() -> None:
     """An input of no byte has no reply, over the list as over segments."""
+    cuts: list[list[str]] = [[], ["--runs", "1"], ["--deal", "1"], ["--deal", "64"]]
     ways = [[PLAIN], *([PROGRAM, "run", *cut, "--merge", merge, "--workers", workers] for cut, merge, workers in itertools.product(
-        ([], ["--runs", "1"], ["--deal", "1"], ["--deal", "64"]), ("off", "policy"), ("1", "3")))]
+        cuts, ("off", "policy"), ("1", "3")))]
     for words in ways:
         done = subprocess.run(words, stdin=subprocess.DEVNULL, capture_output=True)
         check(f"no byte: {' '.join(words)}", (done.returncode, done.stdout, done.stderr) == (0, b"", b""), done)
@@ -161,7 +162,8 @@ def scripts_of_searches() -> list[bytes]:
     long.append({"query": "price:[5 TO 50]"})
     lines = many_documents()
     scripts = []
-    for searches in ([], soon, long):
+    kinds: list[Sequence[object]] = [[], soon, long]
+    for searches in kinds:
         lines += [json.dumps({"search": search}) for search in searches]
         scripts.append("\n".join(lines).encode() + b"\n")
     return scripts

@@ -1,6 +1,9 @@
 """Scripts that only look random: a seed gives one script, always the same."""
+from __future__ import annotations
+
 import json
 import random
+from typing import Any
 
 WORDS = ["a", "b", "c", "Rust", "rust", "straße", "STRASSE", "index"]
 TAGS = ["p", "q", "r s", "Rust", "", "é", "😀"]
@@ -20,12 +23,12 @@ RANGES = [
 BAD = ['{"add":', '{"add":{"colour":1}}', '{"add":{"price":-1}}', '{"drop":true}', '{"delete":{"temp":"x"}}', json.dumps(SCHEMA), "", "[]"]
 
 
-def words(chance, most):
+def words(chance: random.Random, most: int) -> str:
     return " ".join(chance.choice(WORDS) for _ in range(chance.randint(1, most)))
 
 
-def document(chance):
-    made = {}
+def document(chance: random.Random) -> dict[str, Any]:
+    made: dict[str, Any] = {}
     if chance.random() < 0.6:
         made["title"] = words(chance, 5)
     elif chance.random() < 0.75:
@@ -39,7 +42,7 @@ def document(chance):
     return made
 
 
-def query(chance, depth):
+def query(chance: random.Random, depth: int) -> str:
     kind = chance.randrange(9 if depth > 0 else 5)
     if kind == 0:
         return f'"{words(chance, 3)}"' if chance.random() < 0.7 else f'"{chance.choice(WORDS)} {LONG} {chance.choice(WORDS)}"'
@@ -47,8 +50,10 @@ def query(chance, depth):
         low, high = sorted((chance.randrange(-3, 4), chance.randrange(-3, 4)))
         return chance.choice([f"temp:[{low} TO {high}]", f"temp:{{{low} TO *]", f"temp:>={low}", f"price:<{high + 3}", "price:[* TO *]"])
     if kind == 2 and chance.random() < 0.4:
-        low, high = chance.choice(BOUNDS), chance.choice(BOUNDS)
-        return chance.choice([f"tag:[{low} TO {high}]", f"tag:{{{low} TO {high}]", f"tag:[{low} TO {high}}}", f"tag:>{high}", f"tag:<={low}"])
+        first, last = chance.choice(BOUNDS), chance.choice(BOUNDS)
+        return chance.choice([
+            f"tag:[{first} TO {last}]", f"tag:{{{first} TO {last}]", f"tag:[{first} TO {last}}}", f"tag:>{last}", f"tag:<={first}",
+        ])
     if kind == 2:
         return chance.choice(["*", "tag:p", 'tag:"r s"', "price:3", "temp:-1", f"title:{chance.choice(WORDS)}"])
     if kind < 5:
@@ -61,8 +66,8 @@ def query(chance, depth):
     return "(" + " ".join(chance.choice(["", "", "+", "-"]) + part for part in parts) + ")"
 
 
-def search(chance):
-    asked = {"query": query(chance, 3) if chance.random() < 0.95 else chance.choice(["rust OR", "(a", "colour:a", 'title:"'])}
+def search(chance: random.Random) -> dict[str, Any]:
+    asked: dict[str, Any] = {"query": query(chance, 3) if chance.random() < 0.95 else chance.choice(["rust OR", "(a", "colour:a", 'title:"'])}
     if chance.random() < 0.4:
         asked["groups"] = chance.choice(["price", "temp", "tag"])
     if chance.random() < 0.4:
@@ -70,7 +75,7 @@ def search(chance):
     return {"search": asked}
 
 
-def command(chance):
+def command(chance: random.Random) -> dict[str, Any]:
     kind = chance.randrange(100)
     if kind < 55:
         return {"add": document(chance)}
@@ -89,7 +94,7 @@ def command(chance):
     return search(chance)
 
 
-def script(seed):
+def script(seed: int) -> bytes:
     chance = random.Random(seed)
     lines = [json.dumps(SCHEMA)]
     for _ in range(chance.randint(10, 60)):
@@ -99,7 +104,7 @@ def script(seed):
     return "\n".join(lines).encode()
 
 
-def updates(seed):
+def updates(seed: int) -> bytes:
     """A script of many small commits of updates by a keyword, so that segments of several sizes and with many dead documents are merged."""
     chance = random.Random(f"updates {seed}")
     keys, each = chance.choice([3, 20, 60]), chance.choice([1, 1, 3, 10])
@@ -116,13 +121,13 @@ def updates(seed):
     return "\n".join(lines).encode()
 
 
-def strange(chance):
+def strange(chance: random.Random) -> str:
     """A character of any class: letters of many scripts, numbers, marks, signs, spaces, controls, and beyond the first plane."""
     first, last = chance.choice(RANGES)
     return chr(chance.randint(first, last))
 
 
-def damaged(seed):
+def damaged(seed: int) -> bytes:
     """A script with texts of every class of character, of which bytes are flipped and lines are cut, doubled and moved."""
     chance = random.Random(f"damaged {seed}")
     lines = script(seed).split(b"\n")

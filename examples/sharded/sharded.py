@@ -12,6 +12,8 @@ other line goes to all shards. docs/SCALE.md says what the joined answers mean.
 The first writes the lines of each shard into part.0.jsonl and so on, for a runner of batches; the second joins what
 they replied.
 """
+from __future__ import annotations
+
 import argparse
 import contextlib
 import json
@@ -22,7 +24,8 @@ import subprocess
 import sys
 import threading
 import zlib
-from typing import NamedTuple
+from collections.abc import Iterable, Iterator, Sequence
+from typing import IO, Any, NamedTuple, Optional
 
 sys.path.insert(0, str(pathlib.Path(__file__).resolve().parents[2] / "bindings/python"))
 
@@ -35,24 +38,24 @@ class Line(NamedTuple):
     number: int
     text: bytes
     name: str
-    value: object
-    shards: list
+    value: Any
+    shards: list[int]
 
 
 class Router:
     """Says which shards a line goes to."""
 
-    def __init__(self, key, count):
+    def __init__(self, key: str, count: int) -> None:
         self.key, self.all = key, list(range(count))
 
-    def lines(self, script):
+    def lines(self, script: Iterable[bytes]) -> Iterator[Line]:
         for number, text in enumerate(script, 1):
             text = text.rstrip(b"\n")
             if text.strip(b" \t\r"):
                 name, value = command_of(text)
                 yield Line(number, text, name, value, self.shards_of(name, value))
 
-    def shards_of(self, name, value):
+    def shards_of(self, name: str, value: object) -> list[int]:
         if name == "schema":
             self.refuse_text_key(value)
         if isinstance(value, dict) and (name == "add" or name == "delete" and self.key in value):
@@ -60,14 +63,14 @@ class Router:
             return [zlib.crc32(json.dumps(value.get(self.key)).encode()) % len(self.all)]
         return self.all
 
-    def refuse_text_key(self, fields):
+    def refuse_text_key(self, fields: object) -> None:
         """A delete by a word of a text would have to reach documents of every shard."""
         if isinstance(fields, list) and any(field.get("name") == self.key and field.get("kind") == "text"
                                             for field in fields if isinstance(field, dict)):
             raise SystemExit(f"sharded: the key {self.key} is a text; take a keyword or a number")
 
 
-def command_of(text):
+def command_of(text: bytes) -> tuple[str, Any]:
     """The name and the value of a line's command. What is none goes to all shards, and each refuses it."""
     try:
         ((name, value),) = json.loads(text).items()
@@ -76,7 +79,7 @@ def command_of(text):
         return "", None
 
 
-def joined(line, replies):
+def joined(line: Line, replies: list[dict[str, Any]]) -> dict[str, Any]:
     """One reply to a line, from those of its shards."""
     refusals = {shard: reply["error"] for shard, reply in zip(line.shards, replies) if "error" in reply}
     if refusals:
@@ -94,7 +97,7 @@ def joined(line, replies):
     return {word: [reply[word] for reply in replies] for word in replies[0]}
 
 
-def write_replies(lines, replies, out):
+def write_replies(lines: Iterable[Line], replies: Sequence[IO[bytes]], out: IO[bytes]) -> bool:
     """Writes the joined reply to each line, up to the first that lacks one. `replies` has a stream for each shard."""
     for line in lines:
         told = [replies[shard].readline() for shard in line.shards]
@@ -105,40 +108,43 @@ def write_replies(lines, replies, out):
     return True
 
 
-def ask(router, commands, script, out):
+def ask(router: Router, commands: list[list[str]], script: Iterable[bytes], out: IO[bytes]) -> list[int]:
     """Sends each line to its shards, and meanwhile writes the joined replies. Answers the statuses of the shards."""
     shards = [subprocess.Popen(command, stdin=subprocess.PIPE, stdout=subprocess.PIPE) for command in commands]
-    sent = queue.SimpleQueue()
+    sent: queue.SimpleQueue[Optional[Line]] = queue.SimpleQueue()
+    # Both are pipes.
+    asked = [shard.stdin for shard in shards if shard.stdin]
+    told = [shard.stdout for shard in shards if shard.stdout]
 
-    def join():
+    def join() -> None:
         try:
-            write_replies(iter(sent.get, None), [shard.stdout for shard in shards], out)
+            write_replies(iter(sent.get, None), told, out)
         finally:
             # If this ends early, the shards' next writes fail and so do ours to them; nobody waits for ever.
-            for shard in shards:
-                shard.stdout.close()
+            for replies in told:
+                replies.close()
 
     joining = threading.Thread(target=join)
     joining.start()
     try:
         for line in router.lines(script):
             for shard in line.shards:
-                shards[shard].stdin.write(line.text + b"\n")
-                shards[shard].stdin.flush()
+                asked[shard].write(line.text + b"\n")
+                asked[shard].flush()
             # Only now that each of its shards has the line may its replies be waited for.
             sent.put(line)
     except BrokenPipeError:
         pass  # Its status says why the shard ended.
     finally:
         sent.put(None)
-        for shard in shards:
+        for lines in asked:
             with contextlib.suppress(BrokenPipeError):
-                shard.stdin.close()
+                lines.close()
         joining.join()
     return [shard.wait() for shard in shards]
 
 
-def split(router, front, script):
+def split(router: Router, front: str, script: Iterable[bytes]) -> None:
     """Writes the script of each shard."""
     with contextlib.ExitStack() as stack:
         parts = [stack.enter_context(open(f"{front}.{shard}.jsonl", "wb")) for shard in router.all]
@@ -147,7 +153,7 @@ def split(router, front, script):
                 parts[shard].write(line.text + b"\n")
 
 
-def main():
+def main() -> None:
     parser = argparse.ArgumentParser(description=__doc__, formatter_class=argparse.RawDescriptionHelpFormatter)
     parser.add_argument("shards", nargs="*", metavar="COMMAND", help="runs a shard; with --join, a file of its replies")
     parser.add_argument("--key", required=True, help="the keyword or number field by which documents are shared out")

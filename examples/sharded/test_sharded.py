@@ -7,6 +7,8 @@ PROGRAM is `fts`, that of README.md if none is given. Counts, groups and refusal
 the byte; top lists must have its values, and its documents too if no two have one value. The last line is 'N passed,
 M failed'.
 """
+from __future__ import annotations
+
 import json
 import pathlib
 import random
@@ -14,6 +16,7 @@ import re
 import subprocess
 import sys
 import tempfile
+from typing import Any
 
 HERE = pathlib.Path(__file__).resolve().parent
 ROOT = HERE.parents[1]
@@ -27,13 +30,13 @@ SHARDED = [sys.executable, str(HERE / "sharded.py")]
 RUN = [f"{PROGRAM} run"] * 4
 
 
-def run(words, script, status=0):
+def run(words: list[str], script: bytes, status: int = 0) -> bytes:
     done = subprocess.run(words, input=script, capture_output=True, timeout=300)
     assert done.returncode == status, (words, done.returncode, done.stderr)
     return done.stdout
 
 
-def same_answers(script, key, with_documents=False):
+def same_answers(script: bytes, key: str, with_documents: bool = False) -> list[dict[str, Any]]:
     """Compares the replies of four shards to a script with those of one process, and answers the joined ones."""
     whole, shards = (run(words, script).splitlines() for words in ([PROGRAM, "run"], [*SHARDED, "--key", key, *RUN]))
     assert len(whole) == len(shards), (len(whole), len(shards))
@@ -49,17 +52,17 @@ def same_answers(script, key, with_documents=False):
     return [json.loads(reply) for reply in shards]
 
 
-def told(answer, with_documents):
+def told(answer: dict[str, Any], with_documents: bool) -> tuple[int, str, list[tuple[object, object]]]:
     hits = [(hit["value"], hit["doc"] if with_documents else None) for hit in answer["top"]]
     return answer["count"], json.dumps(answer.get("groups")), hits
 
 
-def random_answers():
+def random_answers() -> None:
     for seed in range(60):
         same_answers(random_scripts.script(seed), ["tag", "price", "temp"][seed % 3])
 
 
-def worked_answers():
+def worked_answers() -> None:
     for path in (ROOT / "examples").glob("*.jsonl"):
         if not path.name.endswith(".replies.jsonl"):
             script = path.read_bytes()
@@ -67,10 +70,10 @@ def worked_answers():
             same_answers(script, next(field["name"] for field in fields if field["kind"] != "text"))
 
 
-def books(count):
+def books(count: int) -> bytes:
     """A script of `count` books, some replaced by their keys, with searches. No two have one number."""
     chance = random.Random(count)
-    lines = [{"schema": [
+    lines: list[dict[str, Any]] = [{"schema": [
         {"name": "title", "kind": "text", "default": True}, {"name": "isbn", "kind": "keyword"},
         {"name": "shelf", "kind": "keyword"}, {"name": "number", "kind": "i64"},
     ]}]
@@ -88,13 +91,13 @@ def books(count):
     return "".join(json.dumps(line) + "\n" for line in lines).encode()
 
 
-def whole_documents():
+def whole_documents() -> None:
     answers = same_answers(books(2_000), "isbn", with_documents=True)[-12:]
     shards = {hit["shard"] for answer in answers for hit in answer["top"]}
     assert shards == {0, 1, 2, 3}, shards
 
 
-def batches():
+def batches() -> None:
     """Splitting into files, running each and joining what they replied gives what the four live processes give."""
     script = books(500)
     with tempfile.TemporaryDirectory() as folder:
@@ -107,7 +110,7 @@ def batches():
     assert joined == run([*SHARDED, "--key", "isbn", *RUN], script)
 
 
-def documented():
+def documented() -> None:
     """The script of docs/SCALE.md gives the replies that are beside it."""
     page = (ROOT / "docs/SCALE.md").read_text()
     blocks = re.findall(r"(?:^    .*\n)+", page[page.index("### The example"):], re.MULTILINE)
@@ -115,7 +118,7 @@ def documented():
     assert run([*SHARDED, "--key", "isbn", *RUN], script) == told
 
 
-def refusals():
+def refusals() -> None:
     """No shard; a key that is a text; a shard that ends too early; replies that are missing."""
     script = books(2)
     run([*SHARDED, "--key", "isbn"], script, status=2)
@@ -124,7 +127,7 @@ def refusals():
     run([*SHARDED, "--key", "isbn", "--join", "/dev/null"], script, status=1)
 
 
-def main():
+def main() -> int:
     counts = Counts("sharded", quiet=True)
     for test in (random_answers, worked_answers, whole_documents, batches, documented, refusals):
         try:

@@ -1,9 +1,13 @@
 """A Dask scheduler and workers as processes of their own, which tests kill and start again."""
+from __future__ import annotations
+
 import os
 import pathlib
 import subprocess
 import sys
 import time
+from collections.abc import Callable
+from typing import Any
 
 from distributed import Client
 
@@ -18,11 +22,12 @@ ENVIRONMENT = {
 class Machines:
     """A scheduler, four workers of one thread, and a client."""
 
-    def __init__(self, folder):
+    def __init__(self, folder: str | os.PathLike[str]) -> None:
         self.folder, self.file = pathlib.Path(folder), pathlib.Path(folder, "scheduler.json")
         self.scheduler = self._started("scheduler", "--port", "0", "--host", "127.0.0.1")
-        self.workers = []
-        self.client = None
+        self.workers: list[subprocess.Popen[bytes]] = []
+        # A client of Dask's, once the scheduler runs.
+        self.client: Any = None
         try:
             _wait(self.file.exists)
             self.four()
@@ -32,13 +37,15 @@ class Machines:
             self.close()
             raise
 
-    def _started(self, kind, *options):
+    def _started(self, kind: str, *options: str) -> subprocess.Popen[bytes]:
         module = f"distributed.cli.dask_{kind}"
-        words = [sys.executable, "-m", module, "--scheduler-file", self.file, "--no-dashboard", *options]
+        words: list[str | pathlib.Path] = [
+            sys.executable, "-m", module, "--scheduler-file", self.file, "--no-dashboard", *options,
+        ]
         with open(self.folder / f"{kind}.log", "ab") as log:
             return subprocess.Popen(words, cwd=self.folder, env=ENVIRONMENT, stdout=log, stderr=log)
 
-    def four(self):
+    def four(self) -> None:
         """Starts workers in place of those that died, and waits until they are known."""
         deadline = time.monotonic() + 180
         while not self._are_four():
@@ -47,22 +54,23 @@ class Machines:
                 raise TimeoutError(f"{alive} workers run, and the scheduler knows {len(self._known())}")
             time.sleep(0.05)
 
-    def _are_four(self):
+    def _are_four(self) -> bool:
         """Whether there are four workers, which the scheduler knows. Those that lack are started."""
         self.workers = [worker for worker in self.workers if worker.poll() is None]
         while len(self.workers) < WORKERS:
             self.workers.append(self._started("worker", "--no-nanny", "--nthreads", "1", "--memory-limit", "0"))
         return not self.client or len(self._known()) == WORKERS
 
-    def _known(self):
-        return self.client.scheduler_info()["workers"]
+    def _known(self) -> dict[str, Any]:
+        known: dict[str, Any] = self.client.scheduler_info()["workers"]
+        return known
 
-    def with_partitions(self, states):
+    def with_partitions(self, states: str) -> list[str]:
         """The workers that hold ("has_what"), or are making ("processing"), partitions."""
         told = getattr(self.client, states)()
         return [address for address, keys in told.items() if any("dilforec-partition" in str(key) for key in keys)]
 
-    def kill(self, addresses):
+    def kill(self, addresses: list[str]) -> None:
         """Kills workers at once."""
         pids = self.client.run(os.getpid, workers=addresses).values()
         killed = [worker for worker in self.workers if worker.pid in pids]
@@ -71,7 +79,7 @@ class Machines:
         for worker in killed:
             worker.wait()
 
-    def kill_soon(self, count, states, over):
+    def kill_soon(self, count: int, states: str, over: Callable[[], bool]) -> int:
         """Kills workers as soon as so many have partitions. How many it killed: none, if it is over before."""
         while not over():
             addresses = self.with_partitions(states)[:count]
@@ -80,7 +88,7 @@ class Machines:
                 return count
         return 0
 
-    def close(self):
+    def close(self) -> None:
         if self.client:
             self.client.close()
         for process in (*self.workers, self.scheduler):
@@ -88,7 +96,7 @@ class Machines:
             process.wait()
 
 
-def _wait(there, seconds=180):
+def _wait(there: Callable[[], bool], seconds: float = 180) -> None:
     deadline = time.monotonic() + seconds
     while not there():
         if time.monotonic() > deadline:

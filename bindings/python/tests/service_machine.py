@@ -1,9 +1,13 @@
 """A store beside a model of it, by random operations. It needs hypothesis; test_service_model.py runs it."""
+from __future__ import annotations
+
 import os
 import pathlib
 import random
 import shutil
 import tempfile
+from collections.abc import Iterable, Iterator
+from typing import Any, Optional
 
 from hypothesis import HealthCheck, settings
 from hypothesis import strategies as draw
@@ -14,7 +18,15 @@ from dilforec.service import (
     KeyTaken, NoSuchDocument, NotWritten, OutcomeUnknown, Stopped, Store, TransactionRefused, VersionChanged,
     version_of,
 )
+from dilforec.service._transaction import Transaction
 from service_tools import Failing
+
+Document = dict[str, Any]
+# The name of an operation, and what it is given.
+Operation = tuple[Any, ...]
+# Operations of transactions that wait together, and one's with the versions that it asks for.
+Group = list[list[Operation]]
+Asked = tuple[list[Operation], list[Optional[str]]]
 
 # How many runs there are; if the environment says it, they are others each time.
 EXAMPLES = int(os.environ.get("DILFOREC_EXAMPLES", "60"))
@@ -22,7 +34,7 @@ TITLE, KEY, YEAR = dilforec.text("title", default=True), dilforec.keyword("key")
 NOTE = dilforec.keyword("note")
 
 KEYS = "", "a", "b", 'c "\\', "ä d"
-TITLES = None, "rust", "moss rust", ["rust", "fern"], []
+TITLES: tuple[str | list[str] | None, ...] = None, "rust", "moss rust", ["rust", "fern"], []
 YEARS = None, 0, 1, 2, (1 << 64) - 1
 # Years that the index refuses.
 WRONG = "late", -1, 1.0, 1 << 64
@@ -30,7 +42,7 @@ WRONG = "late", -1, 1.0, 1 << 64
 VERSIONS = None, None, "*", "has", "other"
 
 
-def operations(chance):
+def operations(chance: random.Random) -> Iterator[Operation]:
     """An operation of each kind, by its name and what it is given; some documents are refused."""
     year = chance.choice(WRONG if chance.random() < 0.1 else YEARS)
     document = {"key": chance.choice(KEYS), "title": chance.choice(TITLES), "year": year}
@@ -47,7 +59,7 @@ FAULTS = draw.sampled_from([{"write": 1}, {"sync": 1}, {"sync": 2}, {"sync": 1, 
 GROUPS = draw.lists(draw.lists(OPERATIONS, min_size=1, max_size=3), min_size=1, max_size=4)
 
 
-def stored(document):
+def stored(document: Document) -> Document:
     """A document as the index keeps it: without what has no value."""
     return {name: document[name] for name in sorted(document) if document[name] is not None and document[name] != []}
 
@@ -55,28 +67,33 @@ def stored(document):
 class Model:
     """What a store should have: documents by their numbers, the highest number, and the number of commits."""
 
-    def __init__(self, keyed):
-        self.keyed, self.documents, self.last_id, self.commits = keyed, {}, 0, 0
+    def __init__(self, keyed: bool) -> None:
+        self.keyed, self.last_id, self.commits = keyed, 0, 0
+        self.documents: dict[int, Document] = {}
         # What the transaction in hand has deleted by a value, and may name all the same.
-        self.hidden = {}
+        self.hidden: dict[int, Document] = {}
+        # What it has changed.
+        self.changed: set[int] = set()
 
-    def copy(self):
+    def copy(self) -> Model:
         made = Model(self.keyed)
         made.documents, made.last_id, made.commits = dict(self.documents), self.last_id, self.commits
         return made
 
-    def id_of(self, key):
+    def id_of(self, key: object) -> int | None:
         there = {**self.hidden, **self.documents}
         return min((id for id, document in there.items() if document.get("key") == key), default=None)
 
-    def version(self, id):
+    def version(self, id: int) -> str | None:
         document = self.documents.get(id) or self.hidden.get(id)
         return version_of({**document, "id": id}) if document is not None else None
 
-    def done(self, operations, versions):
+    def done(
+        self, operations: Iterable[Operation], versions: Iterable[str | None],
+    ) -> tuple[int, ...] | type[Exception]:
         """What a transaction answers: its documents' numbers, or the kind of its error, and then nothing is changed."""
-        draft, ids = self.copy(), []
-        draft.changed = set()
+        draft = self.copy()
+        ids: list[int] = []
         refused = any(
             isinstance(each, dict) and each["year"] is not None
             and not (isinstance(each["year"], int) and 0 <= each["year"] < 1 << 64)
@@ -92,60 +109,62 @@ class Model:
         self.documents, self.last_id = draft.documents, draft.last_id
         return tuple(ids)
 
-    def check(self, id, version):
+    def check(self, id: int | None, version: str | None) -> None:
         if id is None or not (id in self.documents or id in self.hidden):
             raise NoSuchDocument(0)
         if version not in (None, "*") and (id in self.changed or self.version(id) != version):
             raise VersionChanged(0)
 
-    def put(self, ids, id, document):
+    def put(self, ids: list[int], id: int, document: Document) -> None:
         self.hidden.pop(id, None)
         self.documents[id] = stored(document)
         self.last_id = max(self.last_id, id)
         self.changed.add(id)
         ids.append(id)
 
-    def do_add(self, ids, _, document):
+    def do_add(self, ids: list[int], _: str | None, document: Document) -> None:
         id = self.id_of(document["key"]) if self.keyed else None
         self.put(ids, id or self.last_id + 1, document)
 
-    def do_replace(self, ids, version, id, document, _):
+    def do_replace(self, ids: list[int], version: str | None, id: int, document: Document, _: str | None) -> None:
         self.check(id, version)
         other = self.id_of(document["key"]) if self.keyed else None
-        if other not in (None, id):
+        if other is not None and other != id:
             raise KeyTaken("", other)
         self.put(ids, id, document)
 
-    def do_put_by_key(self, ids, version, key, document, _):
+    def do_put_by_key(self, ids: list[int], version: str | None, key: str, document: Document, _: str | None) -> None:
         id = self.id_of(key)
         if version is not None:
             self.check(id, version)
         self.put(ids, id or self.last_id + 1, {**document, "key": key})
 
-    def do_delete_document(self, ids, version, id, _):
+    def do_delete_document(self, ids: list[int], version: str | None, id: int, _: str | None) -> None:
         self.check(id, version)
         self.remove([id])
 
-    def do_delete_by_key(self, ids, version, key, _):
-        self.check(self.id_of(key), version)
-        self.remove([self.id_of(key)])
+    def do_delete_by_key(self, ids: list[int], version: str | None, key: str, _: str | None) -> None:
+        id = self.id_of(key)
+        self.check(id, version)
+        assert id is not None
+        self.remove([id])
 
-    def do_delete(self, ids, _, field, value):
+    def do_delete(self, ids: list[int], _: str | None, field: str, value: int) -> None:
         if field == "id":
             self.remove([value])
         else:
             self.hide([id for id, document in self.documents.items() if document.get(field) == value])
 
-    def do_delete_all(self, ids, _):
+    def do_delete_all(self, ids: list[int], _: str | None) -> None:
         self.hide(list(self.documents))
 
-    def remove(self, ids):
+    def remove(self, ids: Iterable[int]) -> None:
         for id in ids:
             self.changed.add(id)
             self.documents.pop(id, None)
             self.hidden.pop(id, None)
 
-    def hide(self, ids):
+    def hide(self, ids: Iterable[int]) -> None:
         for id in ids:
             self.hidden[id] = self.documents.pop(id)
 
@@ -154,41 +173,42 @@ class Machine(RuleBasedStateMachine):
     """Steps of a store on a disk that fails now and then, each compared with the model."""
 
     @initialize(keyed=draw.booleans())
-    def begin(self, keyed):
+    def begin(self, keyed: bool) -> None:
         self.folder = pathlib.Path(tempfile.mkdtemp())
         self.journal, self.disk = self.folder / "journal", Failing()
         self.fields, self.model = [TITLE, KEY, YEAR], Model(keyed)
         self.open()
         self.do([[("add", {"key": key, "title": "rust", "year": 1})] for key in KEYS])
 
-    def teardown(self):
+    def teardown(self) -> None:
         if hasattr(self, "store"):
             self.store.close()
             shutil.rmtree(self.folder)
 
-    def open(self):
+    def open(self) -> None:
         key = "key" if self.model.keyed else None
         self.disk.fails, self.disk.after = {}, {}
         self.store = Store(self.fields, self.journal, key=key, disk=self.disk)
 
     @rule(group=GROUPS)
-    def change(self, group):
+    def change(self, group: Group) -> None:
         """Transactions that wait together."""
         self.do(group)
 
     @rule(group=GROUPS)
-    def change_more(self, group):
+    def change_more(self, group: Group) -> None:
         """The same: most steps are such ones."""
         self.do(group)
 
     @rule(group=GROUPS, fault=FAULTS)
-    def change_with_fault(self, group, fault):
+    def change_with_fault(self, group: Group, fault: dict[str, int]) -> None:
         """Transactions whose first write or sync fails, and maybe its cutting back."""
         self.do(group, fault)
 
-    def do(self, group, fault=None):
+    def do(self, group: Group, fault: dict[str, int] | None = None) -> None:
         group = [[each for each in operations if self.model.keyed or "by_key" not in each[0]] for operations in group]
-        wait, asked = [], []
+        wait: list[Transaction] = []
+        asked: list[Asked] = []
         for operations in filter(None, group):
             versions = [self.version(operation) for operation in operations]
             transaction = self.store.new_transaction()
@@ -214,7 +234,7 @@ class Machine(RuleBasedStateMachine):
         if not self.store.writable:
             self.restart_unknown(wait, asked)
 
-    def restart_unknown(self, wait, asked):
+    def restart_unknown(self, wait: list[Transaction], asked: list[Asked]) -> None:
         """After an unknown outcome the transactions are there after a restart, all those of one sync, or none."""
         self.store.close()
         unknown = [each for transaction, each in zip(wait, asked) if isinstance(transaction.error, OutcomeUnknown)]
@@ -224,17 +244,17 @@ class Machine(RuleBasedStateMachine):
                 assert isinstance(self.model.done(operations, versions), tuple)
             self.model.commits += 1
 
-    def version(self, operation):
+    def version(self, operation: Operation) -> str | None:
         """The version that an operation asks for."""
         if operation[0] not in ("replace", "put_by_key", "delete_document", "delete_by_key"):
             return None
-        chosen = operation[-1]
+        chosen: str | None = operation[-1]
         if chosen not in ("has", "other"):
             return chosen
         id = self.model.id_of(operation[1]) if "by_key" in operation[0] else operation[1]
         return self.model.version(id) or "0" * 32 if chosen == "has" else "0" * 32
 
-    def ask(self, transaction, operation, version):
+    def ask(self, transaction: Transaction, operation: Operation, version: str | None) -> None:
         name, *given = operation
         if name in ("replace", "put_by_key", "delete_document", "delete_by_key"):
             if name == "put_by_key":
@@ -244,7 +264,7 @@ class Machine(RuleBasedStateMachine):
             getattr(transaction, name)(*given)
 
     @rule(fault=draw.sampled_from([None, None, ("write", 0), ("sync", 0), ("sync", 1), ("rename", 0)]))
-    def compact(self, fault):
+    def compact(self, fault: tuple[str, int] | None) -> None:
         if fault:
             self.disk.fails, self.disk.after = {fault[0]: 1}, {fault[0]: fault[1]}
         try:
@@ -256,7 +276,7 @@ class Machine(RuleBasedStateMachine):
         assert [path.name for path in self.folder.iterdir()] == ["journal"]
 
     @rule(default=draw.booleans(), drops=draw.booleans())
-    def change_schema(self, default, drops):
+    def change_schema(self, default: bool, drops: bool) -> None:
         """A field comes and goes, with its values; a mark changes."""
         key = dilforec.keyword("key", default)
         if drops and NOTE in self.fields:
@@ -266,7 +286,7 @@ class Machine(RuleBasedStateMachine):
         self.fields = self.store.fields
 
     @rule(tail=draw.sampled_from([None, None, b"", b"\0" * 9, b'{"add":{"id":99}}\n', b'{"commit":tr']))
-    def restart(self, tail):
+    def restart(self, tail: bytes | None) -> None:
         """It is closed, or its process dies, in the middle of a write maybe; and it is opened again."""
         if tail is None:
             self.store.close()
@@ -278,7 +298,7 @@ class Machine(RuleBasedStateMachine):
 
     @precondition(lambda self: hasattr(self, "store"))
     @invariant()
-    def is_the_same(self):
+    def is_the_same(self) -> None:
         there = {document["id"]: document for document in self.store.documents(limit=10_000)}
         assert there == {id: {**has, "id": id} for id, has in self.model.documents.items()}
         assert (len(self.store), self.store.commits) == (len(there), self.model.commits)

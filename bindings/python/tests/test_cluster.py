@@ -4,6 +4,8 @@ Replies are also compared with what dilforec.joins makes of each partition's own
 
 It needs `distributed`. tests/cluster.py runs it, and prints what it counted.
 """
+from __future__ import annotations
+
 import asyncio
 import contextlib
 import functools
@@ -21,7 +23,9 @@ import tempfile
 import threading
 import time
 import unittest
+from collections.abc import Callable, Collection, Iterable, Iterator, Sequence
 from concurrent.futures import ThreadPoolExecutor
+from typing import Any
 from unittest import mock
 
 from distributed import Client
@@ -32,14 +36,24 @@ import dilforec
 import machines
 from dilforec import joins
 from dilforec.cluster import (
-    Cluster, Documents, JsonLines, Refusal, Script, Search, SourceChanged, SourceRefused, SourceUnreadable, _connections,
-    _gathering, _requests, _responder, _rounds, _sources,
+    Cluster, Documents, JsonLines, Refusal, Script, Search, Source, SourceChanged, SourceRefused, SourceUnreadable,
+    _connections, _gathering, _requests, _responder, _rounds, _sources,
 )
+from dilforec.cluster._listener import Listener
 
 ROOT = pathlib.Path(__file__).resolve().parents[3]
 sys.path[:0] = [str(ROOT / "tests")]
 
 import random_scripts  # noqa: E402
+
+Document = dict[str, Any]
+Call = Callable[[], object]
+
+# What setUpModule makes; the client is Dask's.
+KEEP: tempfile.TemporaryDirectory[str]
+FOLDER: pathlib.Path
+MACHINES: machines.Machines
+CLIENT: Any
 
 SCHEMA = (
     dilforec.text("title", default=True), dilforec.keyword("tag", default=True), dilforec.u64("price"),
@@ -54,7 +68,7 @@ AWKWARD = [
 ]
 
 
-def setUpModule():
+def setUpModule() -> None:
     global KEEP, FOLDER, MACHINES, CLIENT
     KEEP = tempfile.TemporaryDirectory()
     FOLDER = pathlib.Path(KEEP.name)
@@ -62,28 +76,28 @@ def setUpModule():
     CLIENT = MACHINES.client
 
 
-def tearDownModule():
+def tearDownModule() -> None:
     MACHINES.close()
     KEEP.cleanup()
 
 
-def cluster(sources, **settings):
+def cluster(sources: Iterable[str | os.PathLike[str] | Source], **settings: Any) -> Cluster:
     return Cluster(CLIENT, SCHEMA, sources, progress=False, **settings)
 
 
-def written(name, lines):
+def written(name: str, lines: Iterable[bytes]) -> str:
     """A file of these lines."""
     path = FOLDER / name
     path.write_bytes(b"".join(line + b"\n" for line in lines))
     return str(path)
 
 
-def line(command):
+def line(command: object) -> bytes:
     return json.dumps(command).encode()
 
 
 @contextlib.contextmanager
-def killing(count, states):
+def killing(count: int, states: str) -> Iterator[None]:
     """Kills workers in the middle of what is done meanwhile, and then starts others."""
     over = threading.Event()
     with ThreadPoolExecutor(1) as thread:
@@ -96,12 +110,13 @@ def killing(count, states):
     assert killed.result() == count, "it was over before"
 
 
-def listed(documents):
+def listed(documents: list[Document]) -> Callable[[], list[Document]]:
     """A function that gives these documents."""
-    return functools.partial(list, documents)
+    given: functools.partial[list[Document]] = functools.partial(list, documents)
+    return given
 
 
-def index_of(documents):
+def index_of(documents: Iterable[Document]) -> dilforec.Index:
     """An index of its own, as a partition of these documents is."""
     index = dilforec.Index(*SCHEMA)
     index.add_many(documents)
@@ -109,7 +124,7 @@ def index_of(documents):
     return index
 
 
-def made(first, last):
+def made(first: int, last: int) -> Iterator[Document]:
     """Documents that are the same each time. No two have one price."""
     chance = random.Random(first)
     for number in range(first, last):
@@ -117,16 +132,16 @@ def made(first, last):
         yield {"title": title, "tag": f"t{number % 997}", "price": number, "temp": number % 101 - 50}
 
 
-def made_in_turn(firsts, step):
+def made_in_turn(firsts: Iterable[int], step: int) -> Iterator[Document]:
     for first in firsts:
         yield from made(first, first + step)
 
 
-def source(first, last):
+def source(first: int, last: int) -> Documents:
     return Documents(f"{first}", functools.partial(made, first, last))
 
 
-def searches(seed):
+def searches(seed: int) -> list[dict[str, Any]]:
     """Searches of each kind, those of a random script among them."""
     chance = random.Random(seed)
     asked = [random_scripts.search(chance)["search"] for _ in range(6)]
@@ -134,15 +149,15 @@ def searches(seed):
     return asked
 
 
-def without(search, *names):
+def without(search: dict[str, Any], *names: str) -> bytes:
     return line({"search": {name: value for name, value in search.items() if name not in names}})
 
 
 class Exact(unittest.TestCase):
-    def setUp(self):
+    def setUp(self) -> None:
         MACHINES.four()
 
-    def compare(self, one, many, asked):
+    def compare(self, one: dilforec.Index, many: Cluster, asked: list[dict[str, Any]]) -> None:
         """Counts, groups and refusals are one index's to the byte; top lists have its values."""
         lines = [without(search, "top") for search in asked] + [line({"search": search}) for search in asked]
         with one.searcher() as searcher:
@@ -157,7 +172,9 @@ class Exact(unittest.TestCase):
                 documents = [[hit["doc"] for hit in reply["top"]][:-1] for reply in (mine, theirs)]
                 self.assertEqual(documents[0], documents[1])
 
-    def compare_bytes(self, names, parts, many, asked):
+    def compare_bytes(
+        self, names: list[str], parts: list[list[Document]], many: Cluster, asked: list[dict[str, Any]],
+    ) -> None:
         """Replies are the bytes that joins makes of each partition's own."""
         with contextlib.ExitStack() as stack:
             searchers = [stack.enter_context(index_of(part)).searcher() for part in parts]
@@ -169,13 +186,14 @@ class Exact(unittest.TestCase):
                     expected = joins.encoded(joins.answer(search, list(map(json.loads, own)), marks))
                 self.assertEqual(many.execute(line({"search": search})), expected)
 
-    def test_bytes(self):
+    def test_bytes(self) -> None:
         """Long top lists, of which partitions are asked for a few hits first: dealt out, by rising values, with ties."""
         for seed, values in enumerate((10**6, 40, 1)):
             chance = random.Random(seed)
-            every = [{"title": chance.choice(AWKWARD), "tag": chance.choice(AWKWARD), "temp": chance.randrange(values)}
-                     for _ in range(2_000)]
-            for documents in every, sorted(every, key=lambda document: document["temp"]):
+            every: list[Document] = [
+                {"title": chance.choice(AWKWARD), "tag": chance.choice(AWKWARD), "temp": chance.randrange(values)}
+                for _ in range(2_000)]
+            for documents in every, sorted(every, key=lambda document: int(document["temp"])):
                 parts = [documents[first:first + 250] for first in range(0, 2_000, 250)]
                 names = [f'{place} "é"' for place in range(8)]
                 with cluster(Documents(*each) for each in zip(names, map(listed, parts))) as many:
@@ -183,18 +201,20 @@ class Exact(unittest.TestCase):
                              for k in (1, 100, 700, 10_000) for order in ("rising", "falling")]
                     self.compare_bytes(names, parts, many, asked)
 
-    def test_random_cuttings(self):
+    def test_random_cuttings(self) -> None:
         """The documents of random scripts, cut anyhow into files and functions; every other time, workers ask workers."""
         compared = 0
         fan_out = mock.patch.object(_requests, "FAN_OUT", 1)
         for seed in range(CUTTINGS):
             chance = random.Random(seed)
             commands = [random_scripts.document(chance) for _ in range(chance.randrange(60))]
-            parts = [[] for _ in range(chance.randint(1, 5))]
+            parts: list[list[Document]] = [[] for _ in range(chance.randint(1, 5))]
             for document in commands:
                 chance.choice(parts).append(document)
             sources = [self.source(f"{seed}.{place}", part, chance.randrange(3)) for place, part in enumerate(parts)]
-            between = fan_out if seed % 2 else contextlib.nullcontext()
+            between: contextlib.AbstractContextManager[Any] = contextlib.nullcontext()
+            if seed % 2:
+                between = fan_out
             with dilforec.Index(*SCHEMA) as one, cluster(sources) as many, between:
                 for document in commands:
                     one.add(document)
@@ -206,17 +226,17 @@ class Exact(unittest.TestCase):
             compared += 1
         print(f"cluster: {compared} random cuttings compared")
 
-    def source(self, name, documents, kind):
+    def source(self, name: str, documents: list[Document], kind: int) -> Source:
         if kind == 0:
-            return Documents(name, functools.partial(list, documents))
+            return Documents(name, listed(documents))
         if kind == 1:
             return JsonLines(written(name, map(line, documents)))
         return Script(written(name, [line({"add": document}) for document in documents]))
 
-    def test_many_documents(self):
+    def test_many_documents(self) -> None:
         """Many documents over 8 partitions; workers are killed while they are searched, and then two at once."""
         step = DOCUMENTS // 8
-        asked = [
+        asked: list[dict[str, Any]] = [
             {"query": "w1"}, {"query": "+w1 +w2", "groups": "tag"}, {"query": "temp:[-3 TO 3] w7", "groups": "temp"},
             {"query": "w5", "top": {"by": "price", "k": 50, "order": "falling"}},
             {"query": "*", "groups": "temp", "top": {"by": "price", "k": 3, "order": "rising"}},
@@ -235,7 +255,7 @@ class Exact(unittest.TestCase):
                             self.compare(one, many, asked)
         print(f"cluster: {8 * step:,} documents in 8 partitions, built in {built:.1f} s; right while workers died")
 
-    def test_killed_while_building(self):
+    def test_killed_while_building(self) -> None:
         """Workers that die while they make partitions."""
         step = DOCUMENTS // 50
         firsts = range(0, 8 * step, step)
@@ -246,7 +266,7 @@ class Exact(unittest.TestCase):
                 with killing(count, "processing"), cluster(source(first, first + step) for first in firsts) as many:
                     self.compare(one, many, [{"query": "w1", "groups": "tag"}, {"query": "*"}])
 
-    def test_killed_meanwhile(self):
+    def test_killed_meanwhile(self) -> None:
         """Workers that die before a search, while it waits for them, and after it."""
         with cluster(source(first, first + 100) for first in range(0, 800, 100)) as many:
             expected = many.search("*", groups="tag")
@@ -262,7 +282,7 @@ class Exact(unittest.TestCase):
                     self.assertEqual(answer.result(), expected)
                 self.assertEqual(many.search("*", groups="tag"), expected)
 
-    def test_deadly(self):
+    def test_deadly(self) -> None:
         """A source that ends every worker that reads it: Dask gives up, and says so."""
         CLIENT.run_on_scheduler(_allow, 1)
         try:
@@ -272,7 +292,7 @@ class Exact(unittest.TestCase):
 
 
 @contextlib.contextmanager
-def slow_answers(seconds):
+def slow_answers(seconds: float) -> Iterator[None]:
     """The workers of now take their time for each search."""
     CLIENT.run(_slow_down, seconds)
     try:
@@ -281,25 +301,30 @@ def slow_answers(seconds):
         CLIENT.run(_slow_down, 0)
 
 
-def _slow_down(seconds):
+def _slow_down(seconds: float) -> None:
     before = getattr(_responder, "search_at_once", _responder.search)
-    _responder.search_at_once = before
-    _responder.search = lambda *given: (time.sleep(seconds), before(*given))[1]
+
+    def slow(*given: Any) -> Any:
+        time.sleep(seconds)
+        return before(*given)
+
+    vars(_responder).update(search_at_once=before, search=slow)
 
 
-def _allow(failures, dask_scheduler):
+def _allow(failures: int, dask_scheduler: Any) -> None:
     dask_scheduler.allowed_failures = failures
 
 
-def _die():
+def _die() -> list[Document]:
     os.kill(os.getpid(), signal.SIGKILL)
+    return []
 
 
 class Sources(unittest.TestCase):
-    def setUp(self):
+    def setUp(self) -> None:
         MACHINES.four()
 
-    def test_refused_lines(self):
+    def test_refused_lines(self) -> None:
         """A refused line is skipped, counted and listed with its source and line; a strict cluster raises."""
         lines = [b'{"title":"a"}', b"", b"nonsense", b'{"colour":1}', b'{"price":1},"add":{"price":2}',
                  b'{"title":"\\u0061"}', b'{"price":1}}', b'"' + b"x" * 4_194_305 + b'"', b'{"price":7}']
@@ -316,11 +341,11 @@ class Sources(unittest.TestCase):
         with cluster([Documents("given", lambda: [{"colour": 1}, {"title": "\ud800"}, {"title": "b"}])]) as many:
             self.assertEqual(many.refused(), [Refusal("given", 1, "UnknownField"), Refusal("given", 2, "BadJson")])
 
-    def test_many_refused(self):
+    def test_many_refused(self) -> None:
         with cluster([written("many.jsonl", [b"{"] * 1_500 + [b"{}"])]) as many:
             self.assertEqual((len(many.refused()), [*many.counts().values()]), (1_000, [(1, 1_500)]))
 
-    def test_scripts(self):
+    def test_scripts(self) -> None:
         """A delete reaches its own source alone; a rollback, and the schema of a script, are its own too."""
         schema = {"schema": [{"name": field.name, "kind": field.kind, "default": field.default} for field in SCHEMA]}
         script = [schema, {"add": {"title": "a", "price": 1}}, {"add": {"title": "b", "price": 2}},
@@ -333,10 +358,10 @@ class Sources(unittest.TestCase):
             self.assertEqual([many.search(word).count for word in "abcd"], [1, 1, 0, 1])
             self.assertEqual(many.refused(), [Refusal(paths[1], 2, "SchemaTwice")])
 
-    def test_hits(self):
+    def test_hits(self) -> None:
         """Hits have their source; equal values come by source, then stamp; chosen fields, several groups, all hits."""
         found = {name: [{"title": f"x {name}", "price": number // 2} for number in range(4)] for name in "ba"}
-        sources = [Documents(name, functools.partial(list, documents)) for name, documents in found.items()]
+        sources = [Documents(name, listed(documents)) for name, documents in found.items()]
         with cluster(sources) as many:
             first = dilforec.Top("price", 3, "falling")
             answer = many.search("x", groups=["price", "tag"], top=first, fields=["price"])
@@ -350,10 +375,11 @@ class Sources(unittest.TestCase):
             with many.searcher() as searcher:
                 self.assertEqual((many.stats(), searcher.stats()), ((2, 8, 8), (2, 8, 8)))
 
-    def test_compressed(self):
+    def test_compressed(self) -> None:
         """Files that gzip or xz made; one that is cut off is no source."""
         lines = b"".join(line(document) + b"\n" for document in made(0, 50))
-        for suffix, compress in (".gz", gzip.compress), (".xz", lzma.compress):
+        kinds: tuple[tuple[str, Callable[[bytes], bytes]], ...] = (".gz", gzip.compress), (".xz", lzma.compress)
+        for suffix, compress in kinds:
             path = FOLDER / f"day.jsonl{suffix}"
             path.write_bytes(compress(lines))
             with cluster([path, Documents("more", list)]) as many:
@@ -361,7 +387,7 @@ class Sources(unittest.TestCase):
                 path.write_bytes(compress(lines)[:-20])
                 self.assertRaises(EOFError, many.add_source, path)
 
-    def test_long_lines(self):
+    def test_long_lines(self) -> None:
         """A line that is too long is refused, however long; a blank one is passed over, as a shorter one is."""
         long = _sources.PIECE
         path = FOLDER / "long.jsonl"
@@ -376,15 +402,16 @@ class Sources(unittest.TestCase):
         longest = b"x" * dilforec.index.LONGEST_LINE + b"\r\n"
         self.assertEqual([*_sources.whole_lines(io.BytesIO(longest))], [longest])
 
-    def test_errors(self):
+    def test_errors(self) -> None:
         """Each refusal of a search is the exception that an index raises."""
         with cluster([Documents("a", list)]) as many:
-            for refusal, call in [
+            calls: list[tuple[type[dilforec.Refused], Call]] = [
                 (dilforec.Syntax, lambda: many.search("rust OR")), (dilforec.AllNegative, lambda: many.search("-rust")),
                 (dilforec.UnknownField, lambda: many.search("x", groups="colour")),
                 (dilforec.BadLimit, lambda: many.search("x", top=dilforec.Top("price", 0))),
                 (dilforec.UnknownField, lambda: many.search("x", top=dilforec.Top("price", 1), fields=["colour"])),
-            ]:
+            ]
+            for refusal, call in calls:
                 self.assertRaises(refusal, call)
             self.assertEqual(json.loads(many.execute('{"add":{}}')), {"error": "BadCommand", "line": 1})
             self.assertRaises(FileNotFoundError, many.add_source, FOLDER / "none.jsonl")
@@ -400,15 +427,16 @@ class Sources(unittest.TestCase):
         with self.assertRaises(dilforec.BadName):
             Cluster(CLIENT, [dilforec.text("AND")], [Documents("a", list)], progress=False)
 
-    def test_progress(self):
+    def test_progress(self) -> None:
         """Dask's bar is on a terminal alone."""
         for terminal in True, False:
-            with io.StringIO() as out, contextlib.redirect_stdout(out):
-                out.isatty = lambda: terminal  # noqa: B023
+            with io.StringIO() as out, contextlib.redirect_stdout(out), mock.patch.object(
+                out, "isatty", lambda: terminal,  # noqa: B023
+            ):
                 Cluster(CLIENT, SCHEMA, [source(0, 10)]).close()
                 self.assertEqual(bool(out.getvalue()), terminal)
 
-    def test_added_and_dropped(self):
+    def test_added_and_dropped(self) -> None:
         """A new source, and one that goes, touch no other partition."""
         with cluster([source(0, 10), source(10, 20)]) as many:
             keys = {name: part.future.key for name, part in many._channel.parts.items()}
@@ -424,27 +452,31 @@ class Sources(unittest.TestCase):
 
 
 class Lost(unittest.TestCase):
-    def setUp(self):
+    def setUp(self) -> None:
         MACHINES.four()
 
-    def kill_all(self):
+    def kill_all(self) -> None:
         """Kills every worker that has a partition."""
         MACHINES.kill(MACHINES.with_partitions("has_what"))
         MACHINES.four()
 
-    def test_changed_file(self):
+    def test_changed_file(self) -> None:
         """A file that isn't what it was: SourceChanged, again and again, until it is added again or dropped."""
         path = written("day.jsonl", [b'{"title":"a"}', b'{"title":"b"}'])
         with cluster([path, source(0, 10)]) as many:
             self.kill_all()
             self.assertEqual(many.search("*").count, 12)
             changed = functools.partial(written, "day.jsonl", [b'{"title":"a"}', b'{"title":"c"}'])
-            for change, refusal in (changed, SourceChanged), (functools.partial(os.unlink, path), SourceUnreadable):
+            changes: tuple[tuple[Call, type[SourceChanged] | type[SourceUnreadable]], ...] = (
+                (changed, SourceChanged), (functools.partial(os.unlink, path), SourceUnreadable),
+            )
+            for change, refusal in changes:
                 change()
                 self.kill_all()
                 for _ in range(2):
                     with self.assertRaises(refusal) as raised:
                         many.search("*")
+                    assert isinstance(raised.exception, (SourceChanged, SourceUnreadable))
                     self.assertEqual(raised.exception.source, path)
                 written("day.jsonl", [b'{"title":"new"}'])
                 many.add_source(path)
@@ -455,14 +487,14 @@ class Lost(unittest.TestCase):
             many.drop_source(path)
             self.assertEqual(many.search("*").count, 10)
 
-    def test_unfaithful_function(self):
+    def test_unfaithful_function(self) -> None:
         """A function that gives other documents the second time."""
         with cluster([Documents("clock", lambda: [{"price": time.monotonic_ns()}])]) as many:
             self.assertEqual(many.search("*").count, 1)
             self.kill_all()
             self.assertRaises(SourceChanged, many.search, "*")
 
-    def test_moved(self):
+    def test_moved(self) -> None:
         """A partition that Dask copies to other workers goes as its source, and is made there at its first search."""
         with cluster([source(0, 20_000)]) as many:
             (part,) = many._channel.parts.values()
@@ -476,7 +508,7 @@ class Lost(unittest.TestCase):
                 self.assertEqual(many.search("*", groups="tag").count, 20_000)
 
 
-    def test_source_alone(self):
+    def test_source_alone(self) -> None:
         """A partition whose source alone is left is made on the worker that has it, also if that fails at first."""
         with cluster([counted("alone", fail_at=(2,))]) as many:
             (part,) = many._channel.parts.values()
@@ -487,7 +519,7 @@ class Lost(unittest.TestCase):
             self.assertEqual((many.search("*").count, builds("alone")), (10, 3))
             self.assertEqual((many.search("*").count, builds("alone")), (10, 3))
 
-    def test_forgotten(self):
+    def test_forgotten(self) -> None:
         """A worker that gives a partition up, or that loses it without knowing."""
         with cluster([source(0, 10), source(10, 20)]) as many:
             for forget in _give_up, _lose:
@@ -496,7 +528,7 @@ class Lost(unittest.TestCase):
                 self.assertEqual((many.search("*").count, many.search("price:15").count), (20, 1))
                 self.assertEqual([*CLIENT.run(_has, key).values()].count(True), 1)
 
-    def test_unreadable(self):
+    def test_unreadable(self) -> None:
         """A source that can't be read is tried again, then said to be that, and found as soon as it can be read."""
         with cluster([counted("once", fail_at=(2,)), source(10, 20)]) as many:
             self.kill_all()
@@ -511,7 +543,7 @@ class Lost(unittest.TestCase):
             (FOLDER / "long.builds").write_text("x" * 100)
             self.assertEqual(many.search("*").count, 20)
 
-    def test_cancelled(self):
+    def test_cancelled(self) -> None:
         """What cancels the partitions, as a restart of the cluster does, takes them away for good."""
         with cluster([source(0, 10), source(10, 20)]) as many:
             CLIENT.cancel(many._channel.parts["10"].future)
@@ -519,12 +551,15 @@ class Lost(unittest.TestCase):
             many.add_source(source(10, 20))
             self.assertEqual(many.search("*").count, 20)
 
-    def test_timeout(self):
+    def test_timeout(self) -> None:
         """A search that isn't answered in time raises; later ones are answered."""
         with cluster([counted("slow", slow_at=2)]) as many:
             self.kill_all()
-            for call in (functools.partial(many.search, "*", timeout=0.3), many.searcher(timeout=0.3).stats,
-                         functools.partial(many.search_many, ["*", "x"], timeout=0.3)):
+            calls: tuple[Call, ...] = (
+                functools.partial(many.search, "*", timeout=0.3), many.searcher(timeout=0.3).stats,
+                functools.partial(many.search_many, ["*", "x"], timeout=0.3),
+            )
+            for call in calls:
                 self.assertRaises(TimeoutError, call)
             self.assertEqual(many.search("*", timeout=300).count, 10)
             self.assertRaises(ValueError, many.search, "*", timeout=0)
@@ -533,16 +568,16 @@ class Lost(unittest.TestCase):
 class Paths(unittest.TestCase):
     """The ways that searches take."""
 
-    def setUp(self):
+    def setUp(self) -> None:
         MACHINES.four()
 
-    def same(self, many):
+    def same(self, many: Cluster) -> contextlib.closing[_Same]:
         """That searches give the same on another way, in the block of a `with`."""
         asked = [line({"search": search}) for seed in range(3) for search in searches(seed)]
         before = many._channel.ask_each(asked, None)
         return contextlib.closing(_Same(lambda: self.assertEqual(many._channel.ask_each(asked, None), before)))
 
-    def test_tree(self):
+    def test_tree(self) -> None:
         """Workers that ask others, also if one of them dies and its own have to be asked again."""
         with cluster(source(first, first + 50) for first in range(0, 600, 50)) as many, self.same(many):
             patch = mock.patch.object(_requests, "FAN_OUT", 1)
@@ -554,7 +589,7 @@ class Paths(unittest.TestCase):
                 for _ in range(20):
                     self.assertEqual(many.search("*").count, 600)
 
-    def test_trees(self):
+    def test_trees(self) -> None:
         """Each worker is in a tree once, and none asks more than 16 others."""
         for count in (1, 16, 17, 18, 100, 400):
             wanted = {f"{place}": [_requests.Wanted(place, f"key {place}", None)] for place in range(count)}
@@ -566,7 +601,7 @@ class Paths(unittest.TestCase):
                 self.assertTrue(all(len(node.below) <= 16 for node in nodes))
                 nodes = [each for node in nodes for each in node.below]
 
-    def test_threads(self):
+    def test_threads(self) -> None:
         """Workers of several threads, with more partitions than threads and with fewer, in one process with the client."""
         with Client(processes=False, n_workers=2, threads_per_worker=3, dashboard_address=None, set_as_default=False) as client:
             for step in 10, 200:
@@ -575,9 +610,9 @@ class Paths(unittest.TestCase):
                 with Cluster(client, SCHEMA, sources, progress=False) as many, cluster(sources) as others:
                     self.assertEqual(many._channel.ask_each(asked, None), others._channel.ask_each(asked, None))
 
-    def test_through_the_scheduler(self):
+    def test_through_the_scheduler(self) -> None:
         """Workers that the client can't reach by itself."""
-        async def fails(*_):
+        async def fails(*_: object) -> None:
             raise OSError("no way")
 
         with cluster([source(0, 10), source(10, 20), source(20, 30)]) as many, self.same(many):
@@ -585,7 +620,7 @@ class Paths(unittest.TestCase):
             patch.start()
             self.addCleanup(patch.stop)
 
-    def test_connections(self):
+    def test_connections(self) -> None:
         """Once there are connections nothing goes by rpc, until they end with the cluster, or with its client."""
         with contextlib.ExitStack() as stack:
             client = Client(scheduler_file=str(MACHINES.file), set_as_default=False)
@@ -603,14 +638,15 @@ class Paths(unittest.TestCase):
                 wait_until(lambda: not any(CLIENT.run(_accepted).values()))
             self.assertFalse([each.open for each in client.preloads if each.open])
 
-    def test_broken_connections(self):
+    def test_broken_connections(self) -> None:
         """Connections that end, or whose workers die, while they are asked: others answer, or rpc does."""
         with cluster(source(first, first + 50) for first in range(0, 400, 50)) as many:
             expected = many.search("*", groups="price")
-            for breaking in (
+            breaks: tuple[Call, ...] = (
                 lambda: CLIENT.run(_break), lambda: MACHINES.kill(MACHINES.with_partitions("has_what")[:1]),
                 lambda: MACHINES.kill(MACHINES.with_partitions("has_what")),
-            ):
+            )
+            for breaking in breaks:
                 with_connections(many)
                 with slow_answers(1.5), ThreadPoolExecutor(1) as thread:
                     answer = thread.submit(many.search, "*", groups="price")
@@ -620,14 +656,16 @@ class Paths(unittest.TestCase):
                     self.assertEqual(answer.result(), expected)
                 self.assertEqual(many.search("*", groups="price"), expected)
 
-    def test_shared_rounds(self):
+    def test_shared_rounds(self) -> None:
         """Searches that wait while a round is under way go together in the next."""
         with cluster([source(0, 10), source(10, 20)]) as many, ThreadPoolExecutor(64) as threads:
             rounds, gather = [], _gathering.Gathering.results
 
-            async def gathered(self, task, searches=()):
+            async def gathered(self: _gathering.Gathering, task: Any, searches: Sequence[Any] = ()) -> Any:
                 rounds.append(len(searches))
-                while len(rounds) == 1 and rounds[0] + len(many._channel._rounds._waiting) < 64:
+                under_way = many._channel._rounds
+                assert under_way
+                while len(rounds) == 1 and rounds[0] + len(under_way._waiting) < 64:
                     await asyncio.sleep(0.01)
                 return await gather(self, task, searches)
 
@@ -636,10 +674,11 @@ class Paths(unittest.TestCase):
             self.assertEqual((counts, sum(rounds)), ([1] * 64, 64))
             self.assertEqual(len(rounds), 2)
 
-    def test_search_many(self):
+    def test_search_many(self) -> None:
         """The same answers as from searches by themselves, in their order; a refusal is raised."""
         first = dilforec.Top("price", 30, "falling")
-        asked = [("*", {}), ("w1", {"groups": "tag"}), ("*", {"groups": ["tag", "temp"], "top": first}),
+        asked: list[tuple[str, dict[str, Any]]] = [
+            ("*", {}), ("w1", {"groups": "tag"}), ("*", {"groups": ["tag", "temp"], "top": first}),
                  ("*", {"top": first, "fields": ["price"]}), ("w2", {"groups": []})]
         with cluster(source(first, first + 100) for first in range(0, 800, 100)) as many:
             alone = [many.search(query, **given) for query, given in asked]
@@ -649,7 +688,7 @@ class Paths(unittest.TestCase):
             self.assertEqual([answer.count for answer in many.search_many(["*"] * 1_000)], [800] * 1_000)
             self.assertRaises(dilforec.Syntax, many.search_many, ["*", "rust OR", "w1"])
 
-    def test_stealing(self):
+    def test_stealing(self) -> None:
         """One worker is busy, the others are idle: it answers meanwhile, and no partition is made a second time."""
         with cluster(counted(f"stolen.{number}") for number in range(8)) as many:
             (busy, *_) = MACHINES.with_partitions("has_what")
@@ -665,7 +704,7 @@ class Paths(unittest.TestCase):
             CLIENT.gather(blocking)
             self.assertEqual([builds(f"stolen.{number}") for number in range(9)], [1] * 9)
 
-    def test_beside_others(self):
+    def test_beside_others(self) -> None:
         """A fork, the client's own event loop, a second cluster, a client that is closed."""
         with cluster([source(0, 10)]) as many, cluster([source(0, 20)]) as other:
             self.assertEqual((many.search("*").count, other.search("*").count), (10, 20))
@@ -674,7 +713,7 @@ class Paths(unittest.TestCase):
                 os._exit(0 if _refusal_of(many) is RuntimeError else 1)
             self.assertEqual(os.waitpid(child, 0)[1], 0)
 
-            async def from_the_loop():
+            async def from_the_loop() -> type[Exception] | None:
                 return _refusal_of(many)
 
             loop = CLIENT.loop.asyncio_loop
@@ -684,7 +723,7 @@ class Paths(unittest.TestCase):
             self.assertEqual(many.search("*").count, 10)
         self.assertIs(_refusal_of(many), RuntimeError)
 
-    def test_closed_meanwhile(self):
+    def test_closed_meanwhile(self) -> None:
         """A cluster that is closed while a source is added stays closed."""
         many = cluster([source(0, 10)])
         with ThreadPoolExecutor(1) as thread:
@@ -696,12 +735,12 @@ class Paths(unittest.TestCase):
         self.assertRaises(dilforec.Closed, many.add_source, source(0, 10))
 
 
-def with_connections(many):
+def with_connections(many: Cluster) -> None:
     """Has searches go over connections: they are made beside the first, and again some time after they broke."""
     with mock.patch.object(_connections, "BETWEEN", 0):
         many._connections._next_try.clear()
 
-        def are_open():
+        def are_open() -> bool:
             many.search("*")
             places = many._places._known.values()
             return all(many._connections._connections[address].is_open for (address, *_) in places)
@@ -709,7 +748,7 @@ def with_connections(many):
         wait_until(are_open)
 
 
-def wait_until(good):
+def wait_until(good: Callable[[], bool]) -> None:
     deadline = time.monotonic() + 60
     while not good():
         assert time.monotonic() < deadline
@@ -719,23 +758,24 @@ def wait_until(good):
 class _Same:
     """What is checked at the end of a block."""
 
-    def __init__(self, close):
+    def __init__(self, close: Callable[[], None]) -> None:
         self.close = close
 
 
-def _refusal_of(many):
+def _refusal_of(many: Cluster) -> type[Exception] | None:
     try:
         many.search("*")
     except Exception as error:
         return type(error)
+    return None
 
 
-def counted(name, fail_at=(), slow_at=None):
+def counted(name: str, fail_at: Collection[int] = (), slow_at: int | None = None) -> Documents:
     """Ten documents, from a function that writes down how often it was called, and may fail or take its time."""
     return Documents(name, functools.partial(_counted, str(FOLDER / f"{name}.builds"), fail_at, slow_at))
 
 
-def _counted(path, fail_at, slow_at):
+def _counted(path: str, fail_at: Collection[int], slow_at: int | None) -> list[Document]:
     with open(path, "a") as file:
         file.write("x")
     calls = os.path.getsize(path)
@@ -746,45 +786,51 @@ def _counted(path, fail_at, slow_at):
     return [{"title": "x", "tag": "t", "price": number} for number in range(10)]
 
 
-def builds(name):
+def builds(name: str) -> int:
     return os.path.getsize(FOLDER / f"{name}.builds")
 
 
-def _give_up(key, dask_worker):
+def _give_up(key: str, dask_worker: Any) -> None:
     if key in dask_worker.data:
         dask_worker.handle_stimulus(FreeKeysEvent(keys=[key], stimulus_id="test"))
 
 
-def _lose(key, dask_worker):
+def _lose(key: str, dask_worker: Any) -> None:
     dask_worker.data.pop(key, None)
 
 
-def _listener(dask_worker):
-    return dask_worker.handlers[_requests.OPERATION].__self__.listener
+def _listener(dask_worker: Any) -> Listener:
+    listener: Listener = dask_worker.handlers[_requests.OPERATION].__self__.listener
+    return listener
 
 
-def _accepted(dask_worker):
+def _accepted(dask_worker: Any) -> int:
     return len(_listener(dask_worker)._accepted)
 
 
-def _break(dask_worker):
-    dask_worker.loop.add_callback(lambda: [each.close() for each in _listener(dask_worker)._accepted])
+def _break(dask_worker: Any) -> None:
+    def close() -> None:
+        for each in _listener(dask_worker)._accepted:
+            each.close()
+
+    dask_worker.loop.add_callback(close)
 
 
-def _has(key, dask_worker):
+def _has(key: str, dask_worker: Any) -> bool:
     return key in dask_worker.data
 
 
-def _wait_for(path, number):
+def _wait_for(path: str, number: int) -> None:
     while not os.path.exists(path):
         time.sleep(0.01)
 
 
-def _size_known(key, dask_scheduler):
-    return dask_scheduler.tasks[key].nbytes
+def _size_known(key: str, dask_scheduler: Any) -> int:
+    size: int = dask_scheduler.tasks[key].nbytes
+    return size
 
 
-def _pickled_length(key, dask_worker):
+def _pickled_length(key: str, dask_worker: Any) -> int:
     return len(pickle.dumps(dask_worker.data[key]))
 
 

@@ -4,6 +4,8 @@ Each test runs in asyncio's loop, and in uvloop's if that is there; none may lea
 
 It needs `distributed`. tests/cluster.py runs it.
 """
+from __future__ import annotations
+
 import asyncio
 import contextlib
 import functools
@@ -16,6 +18,8 @@ import subprocess
 import tempfile
 import unittest
 import warnings
+from collections.abc import AsyncIterator, Callable, Coroutine
+from typing import Any, TypeVar
 from unittest import mock
 
 from distributed.security import Security
@@ -26,7 +30,9 @@ from dilforec.cluster._frames import HEAD, Frames
 from dilforec.cluster._listener import TOKEN, Listener
 from dilforec.cluster._requests import LISTENER, OPERATION
 
-LOOPS = {"asyncio": asyncio.new_event_loop}
+Test = TypeVar("Test", bound=unittest.TestCase)
+
+LOOPS: dict[str, Callable[[], asyncio.AbstractEventLoop]] = {"asyncio": asyncio.new_event_loop}
 with contextlib.suppress(ImportError):
     import uvloop
 
@@ -35,10 +41,10 @@ with contextlib.suppress(ImportError):
 SIZES = (0, 1, 300, 65_536, 3_000_000)
 
 
-def in_each_loop(test):
+def in_each_loop(test: Callable[[Test], Coroutine[Any, Any, None]]) -> Callable[[Test], None]:
     """A test that is a coroutine, run in each loop. Then no task, no open socket and no exception is left."""
     @functools.wraps(test)
-    def run(self):
+    def run(self: Test) -> None:
         for name, new_loop in LOOPS.items():
             with self.subTest(loop=name), warnings.catch_warnings(record=True) as warned:
                 warnings.simplefilter("always", ResourceWarning)
@@ -62,13 +68,13 @@ def in_each_loop(test):
 class Worker:
     """A stand-in for a worker, with the handlers of `rpc`. It answers requests by themselves, turned around."""
 
-    def __init__(self, address="tcp://127.0.0.1:0", security=None):
+    def __init__(self, address: str = "tcp://127.0.0.1:0", security: Any = None) -> None:
         self.address, self.security = address, security or Security()
         self.listener = Listener(self, self.reply_to)
-        self.wait = None
-        self.asked = []
+        self.wait: Callable[[bytes], Coroutine[Any, Any, None]] | None = None
+        self.asked: list[bytes] = []
 
-    async def reply_to(self, request):
+    async def reply_to(self, request: bytes | memoryview) -> bytes:
         request = bytes(request)
         self.asked.append(request)
         if self.wait:
@@ -77,33 +83,40 @@ class Worker:
             raise ValueError("no")
         return request[::-1]
 
+    async def told(self) -> tuple[int, bytes]:
+        """The port and the token of its listener."""
+        told = await self.listener.tell(None)
+        assert told is not None
+        return told
+
 
 class Rpc:
     """A stand-in for the rpc of a client that knows one worker. It counts what is asked."""
 
-    def __init__(self, worker):
+    def __init__(self, worker: Worker) -> None:
         self.worker, self.connection_args = worker, worker.security.get_connection_args("client")
         self.requests, self.listeners = 0, 0
 
-    def __call__(self, address):
+    def __call__(self, address: str) -> Rpc:
         assert address == self.worker.address
         return self
 
-    async def answer(self, request):
+    async def answer(self, request: bytes) -> bytes:
         self.requests += 1
         return await self.worker.reply_to(request)
 
-    async def tell(self):
+    async def tell(self) -> tuple[int, bytes] | None:
         self.listeners += 1
         # Another process goes on.
         return await asyncio.shield(self.worker.listener.tell(None))
 
-    def __getattr__(self, name):
-        return {OPERATION: self.answer, LISTENER: self.tell}[name]
+    def __getattr__(self, name: str) -> Callable[..., Any]:
+        handlers: dict[str, Callable[..., Any]] = {OPERATION: self.answer, LISTENER: self.tell}
+        return handlers[name]
 
 
 @contextlib.asynccontextmanager
-async def connected(worker=None):
+async def connected(worker: Worker | None = None) -> AsyncIterator[tuple[Worker, Rpc, Connections]]:
     """A worker, its rpc, and connections of which the one to the worker is there if it can be."""
     worker = worker or Worker()
     rpc = Rpc(worker)
@@ -120,44 +133,44 @@ async def connected(worker=None):
 class Stranger(Frames):
     """Who connects without knowing the token."""
 
-    def __init__(self):
+    def __init__(self) -> None:
         super().__init__()
-        self.frames = asyncio.Queue()
-        self.lost = asyncio.get_running_loop().create_future()
+        self.frames: asyncio.Queue[tuple[int, bytes]] = asyncio.Queue()
+        self.lost: asyncio.Future[None] = asyncio.get_running_loop().create_future()
 
-    def received(self, number, data):
+    def received(self, number: int, data: memoryview) -> None:
         self.frames.put_nowait((number, bytes(data)))
 
-    def connection_lost(self, error):
+    def connection_lost(self, error: Exception | None) -> None:
         self.lost.set_result(None)
 
 
-async def stranger(worker, *sent):
-    port, _ = await worker.listener.tell(None)
+async def stranger(worker: Worker, *sent: bytes) -> Stranger:
+    port, _ = await worker.told()
     _, come = await asyncio.get_running_loop().create_connection(Stranger, "127.0.0.1", port)
     for data in sent:
         come._transport.write(data)
     return come
 
 
-def frame(number, data):
+def frame(number: int, data: bytes) -> bytes:
     return HEAD.pack(number, len(data)) + data
 
 
 class ConnectionsTest(unittest.TestCase):
     @in_each_loop
-    async def test_as_by_rpc(self):
+    async def test_as_by_rpc(self) -> None:
         """The reply is that of rpc, whatever its length; rpc is asked once, before there is a connection."""
         async with connected() as (worker, rpc, connections):
             for size in SIZES[1:]:
                 data = os.urandom(size)
-                self.assertEqual(bytes(await connections.ask(worker.address, data)), data[::-1])
+                self.assertEqual(bytes(await connections.ask(worker.address, data) or b""), data[::-1])
             self.assertEqual((rpc.requests, rpc.listeners), (1, 1))
 
     @in_each_loop
-    async def test_at_once(self):
+    async def test_at_once(self) -> None:
         """Several requests under way, whose replies come in another order."""
-        async def wait(request):
+        async def wait(request: bytes) -> None:
             await asyncio.sleep(0.1 / (1 + request[0]))
 
         async with connected() as (worker, rpc, connections):
@@ -167,7 +180,7 @@ class ConnectionsTest(unittest.TestCase):
             self.assertEqual((list(map(bytes, replies)), rpc.requests), (sent, 1))
 
     @in_each_loop
-    async def test_what_rpc_does(self):
+    async def test_what_rpc_does(self) -> None:
         """A failure is raised by rpc; what is too long, there and back, goes by rpc."""
         async with connected() as (worker, rpc, connections):
             with self.assertRaises(ValueError):
@@ -178,11 +191,11 @@ class ConnectionsTest(unittest.TestCase):
                 self.assertEqual(rpc.requests, 3)
             with mock.patch.object(_listener, "LONGEST", 100):
                 self.assertEqual(await connections.ask(worker.address, b"y" * 101), b"y" * 101)
-                self.assertEqual(bytes(await connections.ask(worker.address, b"z" * 100)), b"z" * 100)
+                self.assertEqual(bytes(await connections.ask(worker.address, b"z" * 100) or b""), b"z" * 100)
             self.assertEqual(rpc.requests, 4)
 
     @in_each_loop
-    async def test_broken(self):
+    async def test_broken(self) -> None:
         """A connection that ends while it is asked, as with a worker that dies, and is made again later."""
         async with connected() as (worker, rpc, connections):
             worker.wait = lambda request: asyncio.sleep(60)
@@ -202,48 +215,52 @@ class ConnectionsTest(unittest.TestCase):
                 connections._next_try.clear()
                 self.assertEqual(await connections.ask(worker.address, b"ab"), b"ba")
                 await asyncio.gather(*connections._making)
-                self.assertEqual(bytes(await connections.ask(worker.address, b"ab")), b"ba")
+                self.assertEqual(bytes(await connections.ask(worker.address, b"ab") or b""), b"ba")
             self.assertEqual((rpc.requests, rpc.listeners), (4, 2))
 
     @in_each_loop
-    async def test_cancelled(self):
+    async def test_cancelled(self) -> None:
         """A reply to one that doesn't wait any more is dropped."""
         async with connected() as (worker, rpc, connections):
             worker.wait = lambda request: asyncio.sleep(0.05)
             asking = asyncio.ensure_future(connections.ask(worker.address, b"ab"))
             await asyncio.sleep(0.01)
             asking.cancel()
-            self.assertEqual(bytes(await connections.ask(worker.address, b"cd")), b"dc")
+            self.assertEqual(bytes(await connections.ask(worker.address, b"cd") or b""), b"dc")
             self.assertEqual(rpc.requests, 1)
 
     @in_each_loop
-    async def test_no_listener(self):
+    async def test_no_listener(self) -> None:
         """A worker of another kind of transport, one whose interface isn't here, one without the handler."""
         for address in "inproc://1.2.3.4/5/6", "tcp://192.0.2.1:80":
             async with connected(Worker(address)) as (worker, rpc, connections):
                 self.assertEqual(await connections.ask(worker.address, b"ab"), b"ba")
                 self.assertEqual(rpc.requests, 2)
         worker = Worker()
-        worker.listener.tell = mock.AsyncMock(return_value=None)
+        patch = mock.patch.object(worker.listener, "tell", mock.AsyncMock(return_value=None))
+        patch.start()
+        self.addCleanup(patch.stop)
         async with connected(worker) as (_, rpc, connections):
             self.assertEqual(await connections.ask(worker.address, b"ab"), b"ba")
             self.assertEqual((rpc.requests, rpc.listeners), (2, 1))
 
     @in_each_loop
-    async def test_unreachable(self):
+    async def test_unreachable(self) -> None:
         """A port that can't be reached, and one that takes no connection in time: rpc goes on."""
-        async def closed_port(comm):
+        async def closed_port(comm: Any) -> tuple[int, bytes]:
             with socket.create_server(("127.0.0.1", 0)) as unused:
                 return unused.getsockname()[1], b"x" * TOKEN
 
         worker = Worker()
-        worker.listener.tell = closed_port
+        patch = mock.patch.object(worker.listener, "tell", closed_port)
+        patch.start()
+        self.addCleanup(patch.stop)
         async with connected(worker) as (_, rpc, connections):
             self.assertEqual(await connections.ask(worker.address, b"ab"), b"ba")
             self.assertEqual((rpc.requests, rpc.listeners), (2, 1))
 
     @in_each_loop
-    async def test_closed_meanwhile(self):
+    async def test_closed_meanwhile(self) -> None:
         """Connections that are closed while one is being made, or is asked."""
         worker = Worker()
         for steps in range(30):
@@ -271,10 +288,10 @@ class ConnectionsTest(unittest.TestCase):
 
 class ListenerTest(unittest.TestCase):
     @in_each_loop
-    async def test_strangers(self):
+    async def test_strangers(self) -> None:
         """Who doesn't begin with the token gets nothing, and nothing of his is taken for a request."""
         async with connected() as (worker, rpc, connections):
-            _, token = await worker.listener.tell(None)
+            _, token = await worker.told()
             request = frame(1, b"request")
             for sent in (
                 request, frame(0, b"x" * TOKEN) + request, frame(0, token[:-1]) + request, frame(0, b"") + request,
@@ -292,7 +309,7 @@ class ListenerTest(unittest.TestCase):
             await come.lost
 
     @in_each_loop
-    async def test_silent(self):
+    async def test_silent(self) -> None:
         """Who says nothing is given up."""
         async with connected() as (worker, rpc, connections):
             with mock.patch.object(_listener, "PATIENCE", 0.1):
@@ -300,10 +317,10 @@ class ListenerTest(unittest.TestCase):
                 await asyncio.wait_for(come.lost, 5)
 
     @in_each_loop
-    async def test_too_long(self):
+    async def test_too_long(self) -> None:
         """A frame that is too long ends the connection, on either side, before it is read."""
         async with connected() as (worker, rpc, connections):
-            _, token = await worker.listener.tell(None)
+            _, token = await worker.told()
             come = await stranger(worker, frame(0, token), HEAD.pack(1, _frames.LONGEST + 1) + b"x" * 100)
             await asyncio.wait_for(come.lost, 5)
             (accepted,) = worker.listener._accepted
@@ -315,10 +332,10 @@ class ListenerTest(unittest.TestCase):
                 await asking
 
     @in_each_loop
-    async def test_pieces(self):
+    async def test_pieces(self) -> None:
         """Frames that come byte by byte, and many at once."""
         async with connected() as (worker, rpc, connections):
-            _, token = await worker.listener.tell(None)
+            _, token = await worker.told()
             come = await stranger(worker)
             for byte in frame(0, token) + frame(1, b"ab") + frame(2, b"") + frame(3, b"cd"):
                 come._transport.write(bytes([byte]))
@@ -332,10 +349,10 @@ class ListenerTest(unittest.TestCase):
             await come.lost
 
     @in_each_loop
-    async def test_slow_reader(self):
+    async def test_slow_reader(self) -> None:
         """Who doesn't read his replies isn't read either, until he does."""
         async with connected() as (worker, rpc, connections):
-            _, token = await worker.listener.tell(None)
+            _, token = await worker.told()
             come = await stranger(worker, frame(0, token))
             come._transport.pause_reading()
             for number in range(200):
@@ -353,10 +370,10 @@ class ListenerTest(unittest.TestCase):
             await come.lost
 
     @in_each_loop
-    async def test_closed(self):
+    async def test_closed(self) -> None:
         """A listener that is closed while it is asked leaves nothing, and takes nobody in any more."""
         async with connected() as (worker, rpc, connections):
-            port, token = await worker.listener.tell(None)
+            port, token = await worker.told()
             worker.wait = lambda request: asyncio.sleep(60)
             asking = asyncio.ensure_future(connections.ask(worker.address, b"ab"))
             await asyncio.sleep(0.05)
@@ -369,14 +386,18 @@ class ListenerTest(unittest.TestCase):
 
 @unittest.skipUnless(shutil.which("openssl"), "there is no openssl")
 class TlsTest(unittest.TestCase):
+    # Each is a Security of Dask's.
+    security: Any
+    other: Any
+
     @classmethod
-    def setUpClass(cls):
+    def setUpClass(cls) -> None:
         folder = tempfile.TemporaryDirectory()
         cls.addClassCleanup(folder.cleanup)
         cls.security, cls.other = (cls.made(pathlib.Path(folder.name), name) for name in ("own", "other"))
 
     @staticmethod
-    def made(folder, name):
+    def made(folder: pathlib.Path, name: str) -> Any:
         """An authority of its own, and a certificate of it."""
         for words in (
             f"req -x509 -newkey rsa:2048 -nodes -days 2 -subj /CN=authority -keyout {name}.a.key -out {name}.a.pem",
@@ -389,22 +410,22 @@ class TlsTest(unittest.TestCase):
         return Security(require_encryption=True, tls_ca_file=f"{folder}/{name}.a.pem", **given)
 
     @in_each_loop
-    async def test_tls(self):
+    async def test_tls(self) -> None:
         """The same over TLS; the bytes of a request aren't to be seen, and who has no certificate isn't heard."""
         async with connected(Worker("tls://127.0.0.1:0", self.security)) as (worker, rpc, connections):
             for size in SIZES[1:]:
                 data = os.urandom(size)
-                self.assertEqual(bytes(await connections.ask(worker.address, data)), data[::-1])
+                self.assertEqual(bytes(await connections.ask(worker.address, data) or b""), data[::-1])
             self.assertEqual(rpc.requests, 1)
             (connection,) = connections._connections.values()
             self.assertIsNotNone(connection._transport.get_extra_info("cipher"))
-            _, token = await worker.listener.tell(None)
+            _, token = await worker.told()
             come = await stranger(worker, frame(0, token) + frame(1, b"request"))
             await asyncio.wait_for(come.lost, 5)
             self.assertNotIn(b"request", worker.asked)
 
     @in_each_loop
-    async def test_other_authority(self):
+    async def test_other_authority(self) -> None:
         """A client with the certificate of another authority asks by rpc, which is refused as it may be."""
         worker = Worker("tls://127.0.0.1:0", self.security)
         rpc = Rpc(worker)
@@ -419,7 +440,7 @@ class TlsTest(unittest.TestCase):
         worker.listener.close()
 
     @in_each_loop
-    async def test_without_certificates(self):
+    async def test_without_certificates(self) -> None:
         """A worker of TLS without certificates opens no socket in the clear."""
         worker = Worker("tls://127.0.0.1:0")
         self.assertIsNone(await worker.listener.tell(None))

@@ -1,10 +1,17 @@
 """The package over the worked scripts, in threads, and at its edges."""
+from __future__ import annotations
+
 import json
 import pathlib
 import threading
 import unittest
+from collections.abc import Callable
+from typing import Any
 
 import dilforec
+from dilforec.values import Order
+
+Call = Callable[[], object]
 
 EXAMPLES = pathlib.Path(__file__).resolve().parents[3] / "examples"
 FIELDS = (dilforec.text("title", default=True), dilforec.keyword("shelf"), dilforec.u64("year"), dilforec.i64("rating"))
@@ -15,7 +22,7 @@ BOOKS = [
 ]
 
 
-def opened():
+def opened() -> dilforec.Index:
     index = dilforec.Index(*FIELDS)
     for book in BOOKS:
         index.add(book)
@@ -24,7 +31,7 @@ def opened():
 
 
 class Worked(unittest.TestCase):
-    def test_scripts(self):
+    def test_scripts(self) -> None:
         """Each worked script gives the replies that are stored beside it."""
         scripts = [path for path in sorted(EXAMPLES.glob("*.jsonl")) if not path.name.endswith(".replies.jsonl")]
         self.assertGreater(len(scripts), 5)
@@ -35,14 +42,14 @@ class Worked(unittest.TestCase):
 
 
 class Calls(unittest.TestCase):
-    def test_answers(self):
+    def test_answers(self) -> None:
         with opened() as index:
             answer = index.search("programming", groups="shelf", top=dilforec.Top("year", 1, "falling"))
             self.assertEqual((answer.count, answer.groups), (2, {"computing": 2}))
             self.assertEqual(list(answer), [dilforec.Hit(2021, 3, BOOKS[2])])
             self.assertEqual(index.search("*", groups="year").groups, {1986: 1, 1994: 1, 2021: 1})
 
-    def test_operations(self):
+    def test_operations(self) -> None:
         with opened() as index:
             self.assertEqual(index.delete("shelf", "computing"), 5)
             self.assertEqual(index.rollback(), 4)
@@ -53,29 +60,30 @@ class Calls(unittest.TestCase):
             self.assertEqual(index.delete_all(), 8)
             self.assertEqual((index.search("*").count, index.commit(), index.search("*").count), (3, 9, 0))
 
-    def test_together(self):
+    def test_together(self) -> None:
         """Commands are done together, with a stamp each, or none is, and the first that can't be is told."""
         with opened() as index:
             index.add({"title": "before"})
             stamps = index.execute_all([{"delete": {"shelf": "computing"}}, {"add": {"title": "after"}}])
             self.assertEqual((stamps, index.execute_all([])), ([6, 7], []))
-            for refusal, sentence, command in [
+            commands: list[tuple[type[dilforec.Refused], str, dict[str, Any]]] = [
                 (dilforec.WrongKind, "command 3: 'year' is a u64 field, and can't be 'late'", {"add": {"year": "late"}}),
                 (dilforec.UnknownField, "command 3: the schema has no field 'none'", {"delete": {"none": 1}}),
                 (dilforec.BadCommand, "command 3: ", {"commit": True}),
                 (dilforec.BadCommand, "command 3: ", {"search": {"query": "*"}}),
                 (dilforec.BadJson, "command 3: ", {"add": {"title": "\ud800"}}),
                 (dilforec.LineTooLong, "command 3 ", {"add": {"title": "x" * 4_194_304}}),
-            ]:
+            ]
+            for refusal, sentence, command in commands:
                 with self.subTest(refusal.__name__), self.assertRaises(refusal) as raised:
                     index.execute_all([{"delete_all": True}, {"add": {}}, command, {"add": 1}])
                 self.assertIn(sentence, str(raised.exception))
             self.assertEqual((index.commit(), index.search("*").count, index.search("after").count), (8, 3, 1))
 
-    def test_refusals(self):
+    def test_refusals(self) -> None:
         """A refusal is an exception of its name, and leaves the index as it was."""
         with opened() as index:
-            for refusal, call in [
+            calls: list[tuple[type[dilforec.Refused], Call]] = [
                 (dilforec.UnknownField, lambda: index.add({"colour": "red"})),
                 (dilforec.WrongKind, lambda: index.add({"year": "late"})),
                 (dilforec.WrongKind, lambda: index.delete("year", "late")),
@@ -85,7 +93,8 @@ class Calls(unittest.TestCase):
                 (dilforec.BadLimit, lambda: index.search("rust", top=dilforec.Top("year", 0))),
                 (dilforec.NotANumberField, lambda: index.search("rust", top=dilforec.Top("shelf", 1))),
                 (dilforec.BadJson, lambda: index.search("\ud800")),
-            ]:
+            ]
+            for refusal, call in calls:
                 with self.subTest(refusal.__name__), self.assertRaises(refusal) as raised:
                     call()
                 self.assertEqual(raised.exception.name, refusal.__name__)
@@ -93,14 +102,15 @@ class Calls(unittest.TestCase):
         with self.assertRaises(dilforec.BadName):
             dilforec.Index(dilforec.text("AND"))
 
-    def test_hits(self):
+    def test_hits(self) -> None:
         """All hits, a page at a time, equal values by their stamps; a page that has one value alone is told."""
         with dilforec.Index(*FIELDS) as index:
             for number in range(40):
                 index.add({"title": "rust", "year": number // 3, "rating": -number})
             index.add({"title": "rust"})
             index.commit()
-            for order, sign in ("rising", 1), ("falling", -1):
+            orders: tuple[tuple[Order, int], ...] = ("rising", 1), ("falling", -1)
+            for order, sign in orders:
                 hits = [(hit.value, hit.stamp) for hit in index.hits("rust", "year", order=order, page=5)]
                 self.assertEqual(hits, sorted(hits, key=lambda hit: (sign * hit[0], hit[1])))
                 self.assertEqual(len(hits), 40)
@@ -111,7 +121,7 @@ class Calls(unittest.TestCase):
 
 
 class Searchers(unittest.TestCase):
-    def test_one_commit(self):
+    def test_one_commit(self) -> None:
         """A searcher finds its commit, whatever becomes of the index, and has the calls of a search."""
         with opened() as index:
             index.add({"title": "programming"})
@@ -125,7 +135,7 @@ class Searchers(unittest.TestCase):
                 self.assertEqual((answer.count, answer.groups), (2, {"computing": 2}))
                 self.assertEqual([hit.value for hit in each.hits("*", "year", page=2)], [1986, 1994, 2021])
 
-    def test_searches_alone(self):
+    def test_searches_alone(self) -> None:
         """A searcher takes nothing but searches, each as a first line."""
         with opened() as index, index.searcher() as searcher:
             self.assertEqual(searcher.execute('{"add":{}}'), b'{"error":"BadCommand","line":1}\n')
@@ -133,11 +143,11 @@ class Searchers(unittest.TestCase):
                 with self.assertRaises(dilforec.Syntax) as raised:
                     searcher.search("rust OR")
                 self.assertEqual(raised.exception.line, 1)
-            with self.assertRaises(dilforec.LineTooLong) as raised:
+            with self.assertRaises(dilforec.LineTooLong) as refused:
                 searcher.execute(b" " * (4_194_304 + 1))
-            self.assertEqual((raised.exception.line, searcher.search("*").count, index.add({})), (None, 3, 5))
+            self.assertEqual((refused.exception.line, searcher.search("*").count, index.add({})), (None, 3, 5))
 
-    def test_closed(self):
+    def test_closed(self) -> None:
         index = opened()
         searcher = index.searcher()
         index.close()
@@ -149,7 +159,7 @@ class Searchers(unittest.TestCase):
 
 
 class Edges(unittest.TestCase):
-    def test_closed(self):
+    def test_closed(self) -> None:
         """A call on a closed index is an exception, in each thread; closing twice is none."""
         index = opened()
         index.close()
@@ -157,16 +167,17 @@ class Edges(unittest.TestCase):
         for call in (index.commit, lambda: index.search("rust"), lambda: index.execute(b"")):
             self.assertRaises(dilforec.Closed, call)
 
-    def test_without_schema(self):
+    def test_without_schema(self) -> None:
         with dilforec.Index() as index, self.assertRaises(dilforec.NoSchema) as raised:
             index.search("rust")
         self.assertEqual((raised.exception.name, raised.exception.line), ("NoSchema", 1))
 
-    def test_bytes(self):
+    def test_bytes(self) -> None:
         """Bytes that aren't UTF-8, a byte 0, a blank line, a long reply, and a line over the limit."""
         with opened() as index:
             taken = 5
-            for line in (b'{"add":{"title":"\xff"}}', b"{\0}", "nonsense"):
+            lines: tuple[str | bytes, ...] = (b'{"add":{"title":"\xff"}}', b"{\0}", "nonsense")
+            for line in lines:
                 taken += 1
                 self.assertEqual(index.execute(line), b'{"error":"BadJson","line":%d}\n' % taken)
             self.assertEqual(index.execute(" \t\r"), b"")
@@ -180,11 +191,11 @@ class Edges(unittest.TestCase):
 
 
 class Threads(unittest.TestCase):
-    def test_searches_beside_a_writer(self):
+    def test_searches_beside_a_writer(self) -> None:
         """Four threads search an index while another adds and commits: each finds as many as before, or more."""
         wrong = []
 
-        def look(index):
+        def look(index: dilforec.Index) -> None:
             counts = [index.search("rust").count for _ in range(100)]
             wrong.extend([] if counts == sorted(counts) else [counts])
 
@@ -199,11 +210,11 @@ class Threads(unittest.TestCase):
                 thread.join()
             self.assertEqual((wrong, index.search("rust").count), ([], 100))
 
-    def test_searchers_beside_a_writer(self):
+    def test_searchers_beside_a_writer(self) -> None:
         """Four threads search their own searcher while another adds and commits: each finds its commit alone."""
         wrong = []
 
-        def look(searcher, count):
+        def look(searcher: dilforec.Searcher, count: int) -> None:
             with searcher:
                 counts = {searcher.search("rust").count for _ in range(200)}
             wrong.extend([] if counts == {count} else [(count, counts)])
@@ -220,9 +231,9 @@ class Threads(unittest.TestCase):
                 thread.join()
             self.assertEqual((wrong, len(threads), index.search("rust").count), ([], 4, 100))
 
-    def test_one_index(self):
+    def test_one_index(self) -> None:
         """Threads that share an index take turns, so no call sees half of another."""
-        def add(index):
+        def add(index: dilforec.Index) -> None:
             for _ in range(100):
                 index.add({"title": "rust"})
 

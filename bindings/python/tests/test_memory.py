@@ -3,11 +3,17 @@
 A call that is refused raises MemoryError and changes nothing, so the same call, made again, gives what it would have.
 `add_many` tells which documents were done, and goes on after them.
 """
+from __future__ import annotations
+
 import ctypes
 import pathlib
 import unittest
+from collections.abc import Callable, Sequence
+from typing import TypeVar
 
 import dilforec
+
+T = TypeVar("T")
 
 EXAMPLES = pathlib.Path(__file__).resolve().parents[3] / "examples"
 REFUSE = ctypes.CDLL(None).refuse_growth
@@ -20,10 +26,10 @@ class Memory(unittest.TestCase):
     refusals = 0
 
     @classmethod
-    def tearDownClass(cls):
+    def tearDownClass(cls) -> None:
         print(f"{cls.refusals} refusals")
 
-    def again(self, call, asker=b"libdilforec"):
+    def again(self, call: Callable[[], T], asker: bytes | None = b"libdilforec") -> T:
         """What a call gives once it is granted all growths: the first time none, then one, then two and so on."""
         for growth in range(1, 1_000_000):
             REFUSE(growth, asker)
@@ -35,8 +41,9 @@ class Memory(unittest.TestCase):
                 type(self).refusals += 1
             finally:
                 REFUSE(0, None)
+        raise AssertionError("it is never granted")
 
-    def test_scripts(self):
+    def test_scripts(self) -> None:
         for name in ("groups", "ties", "shelves"):
             before = self.refusals
             script = (EXAMPLES / f"{name}.jsonl").read_bytes().split(b"\n")
@@ -45,7 +52,7 @@ class Memory(unittest.TestCase):
                 self.assertEqual(b"".join(told), (EXAMPLES / f"{name}.replies.jsonl").read_bytes())
                 self.assertGreater(self.refusals, before + 5)
 
-    def test_documents_are_added_once(self):
+    def test_documents_are_added_once(self) -> None:
         """Growths of the library and of Python are refused, and each document is there once."""
         for asker in b"libdilforec", None:
             with dilforec.Index(*FIELDS) as index:
@@ -55,7 +62,7 @@ class Memory(unittest.TestCase):
                 self.again(index.commit, asker)
                 self.assertEqual((len(index), index.commit()), (DOCUMENTS, DOCUMENTS + 2))
 
-    def test_documents_are_replaced_once(self):
+    def test_documents_are_replaced_once(self) -> None:
         with dilforec.Index(*FIELDS) as index:
             index.add({"title": "rust", "year": 7})
             for number in range(DOCUMENTS):
@@ -65,7 +72,7 @@ class Memory(unittest.TestCase):
             index.commit()
             self.assertEqual((len(index), index.search(f"{DOCUMENTS - 1}").count), (1, 1))
 
-    def test_together(self):
+    def test_together(self) -> None:
         """Commands that are done together find memory for all, or none is done."""
         with dilforec.Index(*FIELDS) as index:
             commands = [{"add": {"title": f"rust {number}", "year": number}} for number in range(DOCUMENTS)]
@@ -73,9 +80,9 @@ class Memory(unittest.TestCase):
             index.commit()
             self.assertEqual(len(index), DOCUMENTS)
 
-    def test_transactions(self):
+    def test_transactions(self) -> None:
         """A block that finds no memory leaves nothing of it, and is done once when it is tried again."""
-        def block():
+        def block() -> dilforec.Transaction:
             with index.transaction() as transaction:
                 index.delete("title", "before")
                 index.add({"title": "rust"})
@@ -91,7 +98,7 @@ class Memory(unittest.TestCase):
                 self.assertGreater(self.refusals, before + 5)
                 self.assertEqual((len(index), index.commit()), (DOCUMENTS + 1, DOCUMENTS + 6))
 
-    def test_rollbacks(self):
+    def test_rollbacks(self) -> None:
         """A rollback at the end of a block that finds no memory is made before the next change."""
         with dilforec.Index(*FIELDS) as index:
             for growth in range(1, 1_000_000):
@@ -107,7 +114,7 @@ class Memory(unittest.TestCase):
                 transaction.add({"title": "rust"})
             self.assertEqual((list(transaction.stamps), len(index)), ([1], 1))
 
-    def test_merges(self):
+    def test_merges(self) -> None:
         """A merge that finds no memory is begun, run or ended when it is tried again."""
         with dilforec.Index(*FIELDS) as index:
             index.limit_merges(0)
@@ -115,20 +122,24 @@ class Memory(unittest.TestCase):
                 index.add({"title": "rust", "year": number})
                 index.commit()
             before = self.refusals
-            with self.again(index.begin_merge) as merge:
+            begun = self.again(index.begin_merge)
+            assert begun
+            with begun as merge:
                 self.again(merge.run)
                 self.assertTrue(self.again(index.end_merge))
             self.assertGreater(self.refusals, before + 5)
             self.assertEqual((index.stats(), index.search("rust").count), ((1, 8, 8), 8))
 
-    def test_many_are_added_once(self):
+    def test_many_are_added_once(self) -> None:
         """Each growth of a block is refused in turn; what was done is told, and isn't done twice."""
         for asker in b"libdilforec", None:
             with dilforec.Index(*FIELDS) as index:
                 documents = [{"title": f"rust {number}", "year": number} for number in range(DOCUMENTS)]
-                stamps, growth = [], 1
+                stamps: list[int | None] = []
+                growth = 1
                 while len(stamps) < DOCUMENTS:
                     REFUSE(growth, asker)
+                    more: Sequence[int | None]
                     try:
                         more = index.add_many(documents[len(stamps):])
                     except dilforec.Unfinished as error:
@@ -145,7 +156,7 @@ class Memory(unittest.TestCase):
                 index.commit()
                 self.assertEqual(len(index), DOCUMENTS)
 
-    def test_large_replies(self):
+    def test_large_replies(self) -> None:
         """A reply that finds no room is asked for again."""
         with dilforec.Index(*FIELDS) as index:
             index.add({"title": "rust " * 100_000, "year": 1})

@@ -1,4 +1,6 @@
 """Forks, pools, signals and threads with small stacks."""
+from __future__ import annotations
+
 import concurrent.futures
 import multiprocessing
 import os
@@ -6,6 +8,7 @@ import signal
 import threading
 import time
 import unittest
+from collections.abc import Callable
 
 import dilforec
 from dilforec import memory
@@ -13,13 +16,13 @@ from dilforec import memory
 FIELDS = (dilforec.text("title", default=True), dilforec.u64("year"))
 
 
-def search_badly(_):
+def search_badly(_: object) -> int:
     with dilforec.Index(*FIELDS) as index:
         return index.search("rust OR").count
 
 
 class Pools(unittest.TestCase):
-    def test_a_refusal_crosses(self):
+    def test_a_refusal_crosses(self) -> None:
         """A worker's refusal comes to the parent as it was, and the pool goes on."""
         kinds = multiprocessing.get_context("spawn")
         with concurrent.futures.ProcessPoolExecutor(1, mp_context=kinds) as pool:
@@ -36,11 +39,11 @@ class Pools(unittest.TestCase):
 
 class Forks(unittest.TestCase):
     @unittest.skipUnless(hasattr(os, "fork"), "needs fork")
-    def test_forks_under_load(self):
+    def test_forks_under_load(self) -> None:
         """A child of a fork in the middle of other threads' calls has an index and searchers that work."""
         stop = threading.Event()
 
-        def work(index, searcher):
+        def work(index: dilforec.Index, searcher: dilforec.Searcher) -> None:
             while not stop.is_set():
                 index.add_many({"title": "rust", "year": year} for year in range(50))
                 index.commit()
@@ -62,7 +65,7 @@ class Forks(unittest.TestCase):
         self.assertEqual(ended, [0] * 10)
 
     @staticmethod
-    def child(index, searcher):
+    def child(index: dilforec.Index, searcher: dilforec.Searcher) -> int:
         """The status of a child that uses both. It is killed after ten seconds, by its alarm."""
         time.sleep(0.02)
         pid = os.fork()
@@ -75,14 +78,16 @@ class Forks(unittest.TestCase):
         return os.waitpid(pid, 0)[1]
 
     @unittest.skipUnless(hasattr(os, "fork"), "needs fork")
-    def test_fork_while_a_merge_runs(self):
+    def test_fork_while_a_merge_runs(self) -> None:
         """A fork doesn't wait for a merge; the child has the index without what it makes."""
         with dilforec.Index(*FIELDS) as index:
             index.limit_merges(0)
             for _ in range(8):
                 index.add_many({"title": "rust"} for _ in range(1000))
                 index.commit()
-            with index.begin_merge() as merge:
+            begun = index.begin_merge()
+            assert begun
+            with begun as merge:
                 thread = threading.Thread(target=merge.run)
                 thread.start()
                 pid = os.fork()
@@ -93,11 +98,11 @@ class Forks(unittest.TestCase):
                 thread.join()
                 self.assertTrue(index.end_merge())
 
-    def test_fork_in_a_handler(self):
+    def test_fork_in_a_handler(self) -> None:
         """A fork in a signal handler that interrupted a call doesn't wait for it."""
         children = []
 
-        def handle(*_):
+        def handle(*_: object) -> None:
             # One is enough: where a fork takes longer than the timer, each would begin within the one before.
             signal.setitimer(signal.ITIMER_REAL, 0)
             pid = os.fork()
@@ -110,7 +115,7 @@ class Forks(unittest.TestCase):
         self.assertEqual(os.waitpid(children[0], 0)[1], 0)
 
 
-def interrupted(index, handle, done):
+def interrupted(index: dilforec.Index, handle: Callable[..., None], done: Callable[[], object]) -> None:
     """Calls an index until a signal that comes meanwhile was handled in the middle of a call, or for ten seconds."""
     before = signal.signal(signal.SIGALRM, handle)
     signal.setitimer(signal.ITIMER_REAL, 0.001, 0.001)
@@ -124,11 +129,12 @@ def interrupted(index, handle, done):
 
 
 class Signals(unittest.TestCase):
-    def test_a_handler_in_a_call(self):
+    def test_a_handler_in_a_call(self) -> None:
         """A handler of a signal that came within a call gets an error that says so, and the call ends as ever."""
-        told, calls = [], [0]
+        told: list[str] = []
+        calls = [0]
 
-        def handle(*_):
+        def handle(*_: object) -> None:
             calls[0] += 1
             try:
                 index.search("rust")
@@ -143,11 +149,11 @@ class Signals(unittest.TestCase):
 
 
 class Stacks(unittest.TestCase):
-    def test_a_small_stack(self):
+    def test_a_small_stack(self) -> None:
         """A call needs at most 512 KiB, and Python a little: a thread of 1 MiB takes the deepest query."""
         found = []
 
-        def look():
+        def look() -> None:
             with dilforec.Index(*FIELDS) as index:
                 found.append(index.search("(" * 32 + "rust" + ")" * 32).count)
 
@@ -162,11 +168,11 @@ class Stacks(unittest.TestCase):
 
 
 class Memory(unittest.TestCase):
-    def resident(self):
+    def resident(self) -> int:
         with open("/proc/self/statm") as file:
             return int(file.read().split()[1]) * os.sysconf("SC_PAGE_SIZE")
 
-    def test_trim(self):
+    def test_trim(self) -> None:
         """What an index took goes back to the system, once it is closed."""
         with dilforec.Index(*FIELDS) as index:
             for block in range(200):

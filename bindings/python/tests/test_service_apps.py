@@ -1,4 +1,6 @@
 """The application without the command: as ASGI, called as a server calls it, and as WSGI, on servers of the library."""
+from __future__ import annotations
+
 import asyncio
 import concurrent.futures
 import functools
@@ -10,7 +12,9 @@ import urllib.error
 import urllib.request
 import wsgiref.simple_server
 import wsgiref.validate
+from collections.abc import Iterable
 from socketserver import ThreadingMixIn
+from typing import Any
 from unittest import mock
 
 from dilforec.service import application, asgi
@@ -19,13 +23,16 @@ from service_tools import Stored
 
 
 class Asgi(Stored):
-    def setUp(self):
+    def setUp(self) -> None:
         super().setUp()
         self.store = self.opened()
         self.app = asgi(self.store, hosts=["here"], token="abcdefghijklmnop", body_limit=100, body_seconds=0.2)
         self.addCleanup(self.app.close)
 
-    async def ask(self, method, path, *parts, token="abcdefghijklmnop", ends=True, scope=None, headers=()):
+    async def ask(
+        self, method: str, path: str, *parts: bytes, token: str = "abcdefghijklmnop", ends: bool | None = True,
+        scope: dict[str, Any] | None = None, headers: Iterable[tuple[bytes, bytes]] = (),
+    ) -> Any:
         """The status, the headers and the body of an answer; parts of a body come one after another."""
         given = [(b"host", b"here"), (b"content-type", b"application/json"), *headers]
         given += [(b"authorization", b"Bearer " + token.encode())] if token else []
@@ -34,7 +41,7 @@ class Asgi(Stored):
                  **(scope or {})}
         sent, left, self.read = [], list(parts), 0
 
-        async def receive():
+        async def receive() -> dict[str, Any]:
             self.read += 1
             if left:
                 return {"type": "http.request", "body": left.pop(0), "more_body": bool(left) or not ends}
@@ -44,7 +51,7 @@ class Asgi(Stored):
                 await asyncio.sleep(60)
             return {"type": "http.request"}
 
-        async def send(message):
+        async def send(message: dict[str, Any]) -> None:
             sent.append(message)
 
         await self.app(asked, receive, send)
@@ -58,10 +65,10 @@ class Asgi(Stored):
                          len(body["body"]) if method != "HEAD" else int(told[b"content-length"]))
         return start["status"], told, json.loads(body["body"] or b"null")
 
-    def asked(self, *given, **more):
+    def asked(self, *given: Any, **more: Any) -> Any:
         return asyncio.run(self.ask(*given, **more))
 
-    def test_calls(self):
+    def test_calls(self) -> None:
         """A body in parts, a search, a head without a body, and errors."""
         self.assertEqual(self.asked("POST", "/documents", b'{"tit', b'le":', b'"a"}')[::2],
                          (201, {"ids": [1], "commit": 1}))
@@ -71,7 +78,7 @@ class Asgi(Stored):
         self.assertEqual(self.asked("POST", "/documents", b"x" * 60, b"x" * 60)[::2][0], 413)
         self.assertEqual(self.asked("GET", "/", headers=[(b"x", b"a" * 90_000)])[0], 431)
 
-    def test_body(self):
+    def test_body(self) -> None:
         """A body isn't read before the token is looked at, has a time, and a client may go away within it."""
         status, headers, _ = self.asked("POST", "/documents", b"{}", token="wrong")
         self.assertEqual((status, self.read), (401, 0))
@@ -80,9 +87,9 @@ class Asgi(Stored):
         self.assertIsNone(self.asked("POST", "/documents", b"{", ends=None))
         self.assertEqual(len(self.store), 0)
 
-    def test_bodies(self):
+    def test_bodies(self) -> None:
         """Bodies that arrive at a time are held up to a number of bytes; others are refused, and taken again later."""
-        async def many():
+        async def many() -> tuple[Any, list[Any]]:
             half = b"[" + b" " * 80
             slow = [asyncio.create_task(self.ask("POST", "/documents", half, ends=False)) for _ in range(19)]
             await asyncio.sleep(0.05)
@@ -94,11 +101,11 @@ class Asgi(Stored):
         self.assertEqual({status for status, _, _ in slow}, {408})
         self.assertEqual(self.asked("POST", "/documents", b"{}")[0], 201)
 
-    def test_together(self):
+    def test_together(self) -> None:
         """Changes of one round share a sync, and each has its own answer; a failing store answers each."""
-        async def many():
+        async def many() -> list[Any]:
             bodies = [b"{}", b'{"year":"x"}', b"{}", b"["] * 5
-            return await asyncio.gather(*(self.ask("POST", "/documents", body) for body in bodies))
+            return list(await asyncio.gather(*(self.ask("POST", "/documents", body) for body in bodies)))
 
         told = asyncio.run(many())
         self.assertEqual([status for status, _, _ in told], [201, 400, 201, 400] * 5)
@@ -110,14 +117,14 @@ class Asgi(Stored):
         self.store.close()
         self.assertEqual(self.asked("POST", "/documents", b"{}")[::2], (503, {"error": "Stopped", "message": mock.ANY}))
 
-    def test_lifespan(self):
+    def test_lifespan(self) -> None:
         """A server tells it when it begins and ends."""
         sent, events = [], [{"type": "lifespan.startup"}, {"type": "lifespan.shutdown"}]
 
-        async def receive():
+        async def receive() -> dict[str, Any]:
             return events.pop(0)
 
-        async def send(message):
+        async def send(message: dict[str, Any]) -> None:
             sent.append(message["type"])
 
         asyncio.run(self.app({"type": "lifespan"}, receive, send))
@@ -127,12 +134,12 @@ class Asgi(Stored):
 
 
 class Calls(unittest.TestCase):
-    def test_threads(self):
+    def test_threads(self) -> None:
         """Calls are made by so many threads at most, which are started when they are needed, and end."""
         threads = Threads(3, "test-call")
         wait, at_a_time, most = threading.Barrier(3), [], []
 
-        def call(number):
+        def call(number: int) -> int:
             at_a_time.append(number)
             most.append(len(at_a_time))
             wait.wait(20)
@@ -141,7 +148,7 @@ class Calls(unittest.TestCase):
                 raise KeyError(number)
             return number
 
-        async def made():
+        async def made() -> None:
             self.assertEqual(await threads.call(lambda: "alone"), "alone")
             self.assertEqual(len(self.named()), 1)
             calls = [threads.call(functools.partial(call, number)) for number in range(12)]
@@ -163,15 +170,15 @@ class Calls(unittest.TestCase):
         self.assertEqual(self.named(), [])
 
     @staticmethod
-    def named():
+    def named() -> list[threading.Thread]:
         return [thread for thread in threading.enumerate() if thread.name.startswith("test-call")]
 
-    def test_no_thread(self):
+    def test_no_thread(self) -> None:
         """A system without threads is an error of the first call alone, and later ones are made by those there are."""
         threads = Threads(2, "test-call")
         self.addCleanup(threads.close)
 
-        async def made():
+        async def made() -> None:
             none = mock.patch.object(threading.Thread, "start", side_effect=RuntimeError("can't start new thread"))
             with none, self.assertRaises(RuntimeError):
                 await threads.call(lambda: 1)
@@ -188,15 +195,15 @@ class Threading(ThreadingMixIn, wsgiref.simple_server.WSGIServer):
 
 
 class Quiet(wsgiref.simple_server.WSGIRequestHandler):
-    def log_message(self, *_):
+    def log_message(self, *_: object) -> None:
         pass
 
 
 class Wsgi(Stored):
-    def test_served(self):
+    def test_served(self) -> None:
         """On a server with threads, which looks whether it is WSGI: searches, changes of many clients, refusals."""
         store = self.opened()
-        server = wsgiref.simple_server.make_server("127.0.0.1", 0, None, Threading, Quiet)
+        server = Threading(("127.0.0.1", 0), Quiet)
         port = server.server_port
         made = application(store, hosts=[f"127.0.0.1:{port}"], body_limit=1000)
         # It lets no answer be without a type, as one of 304 is.
@@ -207,7 +214,7 @@ class Wsgi(Stored):
         self.addCleanup(thread.join)
         self.addCleanup(server.shutdown)
 
-        def ask(path, body=None):
+        def ask(path: str, body: bytes | None = None) -> tuple[int, Any]:
             asked = urllib.request.Request(f"http://127.0.0.1:{port}{path}", body, {"Content-Type": "application/json"})
             try:
                 with urllib.request.urlopen(asked, timeout=30) as told:

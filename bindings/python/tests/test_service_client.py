@@ -1,4 +1,6 @@
 """The client beside a store, what keys, versions and pages answer over HTTP, and the description of all of it."""
+from __future__ import annotations
+
 import json
 import pathlib
 import random
@@ -8,39 +10,44 @@ import sys
 import threading
 import time
 import unittest
+from collections.abc import Callable
+from typing import Any
 
 import dilforec
 from dilforec import Top
 from dilforec.service import (
-    Client, NotAllowed, OutcomeUnknown, Store, TransactionRefused, Unavailable, version_of,
+    Client, ClientTransaction, NotAllowed, OutcomeUnknown, Store, Transaction, TransactionRefused, Unavailable,
+    version_of,
 )
-from service_tools import SCHEMA, Served
+from service_tools import SCHEMA, Served, Server
 
 FIELDS = [dilforec.Field(**field) for field in SCHEMA]
 
 
 class Clients(Served):
-    def client(self, server, **more):
+    def client(self, server: Server, **more: Any) -> Client:
         client = Client(f"http://127.0.0.1:{server.port}", timeout=30, **more)
         self.addCleanup(client.close)
         return client
 
-    def outcome(self, call):
+    def outcome(self, call: Callable[[], object]) -> object:
         """What a call gives, or the exception that it raises, with all that it says."""
         try:
             return call()
         except Exception as error:
             return type(error).__name__, [str(each) for each in error.args if not isinstance(each, Exception)][:1]
 
-    def test_like_a_store(self):
+    def test_like_a_store(self) -> None:
         """Random calls give on a client what they give on a store: results, exceptions, numbers."""
         server = self.serve("--key", "day")
         client, chance = self.client(server), random.Random(7)
 
-        def documents():
-            document = {"title": chance.choice(["Rust book", "old book", "é"]), "day": f"d{chance.randrange(12)}",
-                        "year": chance.randrange(3)}
-            refused = [{"title": "no day"}, {"day": "d1", "year": -1}, {"day": "d1", "none": 1}]
+        def documents() -> dict[str, Any]:
+            document: dict[str, Any] = {
+                "title": chance.choice(["Rust book", "old book", "é"]), "day": f"d{chance.randrange(12)}",
+                "year": chance.randrange(3),
+            }
+            refused: list[dict[str, Any]] = [{"title": "no day"}, {"day": "d1", "year": -1}, {"day": "d1", "none": 1}]
             return chance.choice([document] * 6 + refused)
 
         with Store(FIELDS, self.folder / "other", key="day") as store:
@@ -51,16 +58,18 @@ class Clients(Served):
                 query = chance.choice(["book", "*", "year:>0", "rust OR", "é AND (", "none:1", "+old -rust"])
                 top = chance.choice([None, Top("year", 3, "falling"), Top("year", 2), Top("title", 1)])
                 kind = chance.randrange(9)
-                call = [
+                calls: list[Callable[[Client | Store], object]] = [
                     lambda it: it.add(document), lambda it: it.replace(id, document, version=version and "*"),
                     lambda it: it.delete(id), lambda it: it.put_by_key(day, {**document, "day": day}, version=version),
                     lambda it: it.delete_by_key(day, version=version), lambda it: it.get(id),
                     lambda it: it.get_by_key(day),
                     lambda it: it.documents(id, 3),
                     lambda it: it.search(query, top=top, fields=["year"], after=(1, id) if top else None),
-                ][kind]
+                ]
+                call = calls[kind]
                 mine, wanted = self.outcome(lambda: call(client)), self.outcome(lambda: call(store))
                 if isinstance(wanted, tuple) and isinstance(wanted[0], str):
+                    assert isinstance(mine, tuple), (kind, mine, wanted)
                     self.assertEqual(mine[0], wanted[0], (kind, mine, wanted))
                 else:
                     self.assertEqual(mine, wanted, kind)
@@ -68,15 +77,16 @@ class Clients(Served):
             self.assertEqual((client.fields, client.writable), (FIELDS, True))
             self.assertEqual(client.search("*", groups=["day"]).groups["day"],
                              store.search("*", groups=["day"]).groups["day"])
-            with client.transaction() as mine, store.transaction() as wanted:
-                for each in mine, wanted:
+            with client.transaction() as ours, store.transaction() as theirs:
+                both: tuple[ClientTransaction | Transaction, ...] = ours, theirs
+                for each in both:
                     each.delete_all()
                     each.add({"day": "x"})
                     each.command({"add": {"day": "y"}})
-            self.assertEqual(mine.done, wanted.done)
+            self.assertEqual(ours.done, theirs.done)
             self.assertEqual(client.documents(), store.documents())
 
-    def test_errors(self):
+    def test_errors(self) -> None:
         """What isn't a store's own: tokens, a transaction's place, a service that isn't there or goes."""
         token = self.folder / "token"
         token.write_text("abcdefghijklmnop")
@@ -90,9 +100,9 @@ class Clients(Served):
         self.assertEqual((caught.exception.number, type(caught.exception.refusal)), (2, dilforec.WrongKind))
         with self.assertRaises(ValueError), client.transaction():
             pass
-        with self.assertRaises(dilforec.Syntax) as caught:
+        with self.assertRaises(dilforec.Syntax) as refused:
             client.search("я AND")
-        self.assertEqual(caught.exception.at, len("я "))
+        self.assertEqual(refused.exception.at, len("я "))
         for url in "localhost:8090", "ftp://localhost", "":
             with self.assertRaises(ValueError):
                 Client(url)
@@ -104,7 +114,7 @@ class Clients(Served):
         with self.assertRaises(Unavailable):
             client.add({})
 
-    def test_broken(self):
+    def test_broken(self) -> None:
         """A change whose connection breaks before the answer may have been done; one that is idle is opened again."""
         server = self.serve("--idle", 1, slow_syncs=True)
         client = self.client(server)
@@ -117,11 +127,11 @@ class Clients(Served):
             client.add({})
         thread.join()
 
-    def test_threads(self):
+    def test_threads(self) -> None:
         """Many threads use one client, each with a connection of its own meanwhile."""
         client, found = self.client(self.serve()), []
 
-        def work(number):
+        def work(number: int) -> None:
             for place in range(10):
                 found.append(client.add({"title": f"by {number} {place}"}))
                 self.assertIsNotNone(client.get(found[-1]))
@@ -135,7 +145,7 @@ class Clients(Served):
 
 
 class Keys(Served):
-    def test_keys(self):
+    def test_keys(self) -> None:
         """Documents by their keys: a post replaces, and GET, PUT and DELETE have a path of the key."""
         server = self.serve("--key", "day")
         ask = server.ask
@@ -147,7 +157,7 @@ class Keys(Served):
         self.assertEqual(ask("PUT", "/documents/key/new", {"year": 3})[1]["ids"], [3])
         self.assertEqual(ask("PUT", "/documents/key/new", {"day": "new", "year": 4})[1]["ids"], [3])
         self.assertEqual(ask("DELETE", "/documents/key/a%2Fb"), (200, {"ids": [], "commit": 5}))
-        for method, path, body, status, name in [
+        refused: list[tuple[str, str, object, int, str]] = [
             ("GET", "/documents/key/a%2Fb", None, 404, "NoSuchDocument"),
             ("DELETE", "/documents/key/none", None, 404, "NoSuchDocument"),
             ("PUT", "/documents/key/new", {"day": "old"}, 400, "BadKey"),
@@ -156,7 +166,8 @@ class Keys(Served):
             ("POST", "/documents", [{"day": "x"}, {"day": 1}], 400, "WrongKind"),
             ("PUT", "/documents/2", {"day": "new"}, 409, "KeyTaken"), ("GET", "/documents/key/", None, 404, "NotFound"),
             ("POST", "/documents/key/x", {}, 405, "MethodNotAllowed"),
-        ]:
+        ]
+        for method, path, body, status, name in refused:
             with self.subTest(method=method, path=path, body=body):
                 got, told = ask(method, path, body)
                 self.assertEqual((got, told["error"]), (status, name), told)
@@ -169,7 +180,7 @@ class Keys(Served):
         self.assertIn("title", self.refused("serve", "--schema", self.schema, "--journal", self.folder / "text",
                                             "--key", "title"))
 
-    def test_versions(self):
+    def test_versions(self) -> None:
         """A change may say which version it is of; a reader who has what is there gets a 304."""
         server = self.serve("--key", "day")
         ask = server.ask
@@ -194,7 +205,7 @@ class Keys(Served):
         ask("GET", "/documents/1")
         self.assertEqual(ask("DELETE", "/documents/1", If_Match=server.headers["ETag"])[0], 200)
 
-    def test_unchanged_searches(self):
+    def test_unchanged_searches(self) -> None:
         """An answer to a search is of a commit and an address: until the next commit it is a 304."""
         server = self.serve()
         for path in "/search?q=x", "/documents?after=0":
@@ -213,7 +224,7 @@ class Keys(Served):
         # Another process may have another journal.
         self.assertEqual(self.serve().ask("GET", path, If_None_Match=tag)[0], 200)
 
-    def test_pages(self):
+    def test_pages(self) -> None:
         """Each hit is reached once, a page after another, among equal values too."""
         server = self.serve()
         server.ask("POST", "/documents", [{"title": "x", "year": place % 4} for place in range(50)])
@@ -233,14 +244,16 @@ class Keys(Served):
         for after in "x", "1", "1,2,3", "1,-2", "1,x":
             self.assertEqual(server.ask("GET", f"/search?after={after}")[1]["error"], "BadParameter")
 
-    def test_schemas(self):
+    def test_schemas(self) -> None:
         """A compaction with another schema: by the command, and while it serves."""
         server = self.serve()
         server.ask("POST", "/documents", {"title": "kept", "day": "gone", "year": 1})
         wanted = [*SCHEMA[::2], {"name": "isbn", "kind": "keyword"}]
         status, told = server.ask("POST", "/compact", {"schema": wanted})
         self.assertEqual((status, told["error"]), (400, "BadSchema"))
-        wrong = {"drop": ["day"]}, {"schema": 5}, {"schema": wanted, "more": 1}, [], {"schema": wanted, "drop": "day"}
+        wrong: tuple[object, ...] = (
+            {"drop": ["day"]}, {"schema": 5}, {"schema": wanted, "more": 1}, [], {"schema": wanted, "drop": "day"},
+        )
         for body in wrong:
             self.assertEqual(server.ask("POST", "/compact", body)[1]["error"], "BadSchema")
         self.assertEqual(server.ask("POST", "/compact", {"schema": wanted, "drop": ["day"]})[0], 200)
@@ -260,7 +273,7 @@ class Keys(Served):
 class Described(Served):
     """/openapi.json, which what is answered has to fit."""
 
-    def fits(self, value, schema):
+    def fits(self, value: object, schema: dict[str, Any]) -> bool:
         """Whether a value is one of a schema, of those parts of JSON Schema that the description uses."""
         if "$ref" in schema:
             return self.fits(value, self.schemas[schema["$ref"].rpartition("/")[2]])
@@ -286,7 +299,9 @@ class Described(Served):
                 for name, each in value.items())
         return True
 
-    def asked(self, server, method, template, body=None, query="", **headers):
+    def asked(
+        self, server: Server, method: str, template: str, body: object = None, query: str = "", **headers: str,
+    ) -> None:
         """Asks, and compares the answer with the description."""
         path = template.replace("{id}", "1").replace("{key}", "mon")
         status, told = server.ask(method.upper(), path + query, body, **headers)
@@ -302,7 +317,7 @@ class Described(Served):
                 self.assertTrue(self.fits(told, content[type]["schema"]), (method, template, status, told))
         self.tried.add((template, method, status))
 
-    def test_answers(self):
+    def test_answers(self) -> None:
         """Each path, each method, and what each refuses is as it is described, and nothing else is there."""
         token = self.folder / "token"
         token.write_text("abcdefghijklmnop")
@@ -312,7 +327,8 @@ class Described(Served):
         right, reads = {"Authorization": "Bearer abcdefghijklmnop"}, {"Authorization": "Bearer only-for-reading"}
         described = server.ask("GET", "/openapi.json", **reads)[1]
         self.assertTrue(described["openapi"].startswith("3.1"))
-        self.paths, self.schemas, self.tried = described["paths"], described["components"]["schemas"], set()
+        self.paths, self.schemas = described["paths"], described["components"]["schemas"]
+        self.tried: set[tuple[str, str, int]] = set()
         server.ask("POST", "/documents", [{"day": "mon", "title": ["a", "b"], "year": 5}, {"day": "tue"}], **right)
         bodies = {"/documents": {"day": "wed"}, "/documents/{id}": {"day": "mon"}, "/documents/key/{key}": {"year": 1},
                   "/transaction": [{"add": {"day": "x"}}, {"delete": {"day": "x"}}], "/compact": None}
@@ -320,10 +336,11 @@ class Described(Served):
                         method) for path in self.paths for method in self.paths[path] if method != "parameters")
         for _, path, method in order:
             body = bodies.get(path) if method in ("post", "put") else None
-            for headers in [
+            tokens: list[dict[str, str]] = [
                 {}, reads, {"Authorization": "Bearer x"}, {**right, "Host": "elsewhere"},
                 {**right, "Origin": "http://elsewhere"},
-            ]:
+            ]
+            for headers in tokens:
                 self.asked(server, method, path, body, **headers)
             self.asked(server, method, path, body, "?none=1", **right)
             self.asked(server, method, path, body, "?" + "a" * 70_000, **right)
@@ -353,12 +370,12 @@ class Described(Served):
                     told = server.ask(method.upper(), path.replace("{id}", "1").replace("{key}", "mon"), {}, **right)
                     self.assertEqual(told[0], 405, (method, path))
 
-    def written(self, token):
+    def written(self, token: str) -> pathlib.Path:
         path = self.folder / token
         path.write_text(token)
         return path
 
-    def test_parameters(self):
+    def test_parameters(self) -> None:
         """The parameters of a search that are described are taken, and no others."""
         server = self.serve()
         for path, values in [
@@ -373,7 +390,7 @@ class Described(Served):
         for path in server.ask("GET", "/openapi.json")[1]["paths"]:
             self.assertIn(path.replace("{id}", "7").replace("{key}", "978-"), page)
 
-    def test_metrics(self):
+    def test_metrics(self) -> None:
         """Seconds are told as a histogram, whose parts add up."""
         server = self.serve()
         for _ in range(5):

@@ -1,6 +1,9 @@
 """Processes that have a store and fork: by themselves, for a pool of processes, and under a server that forks."""
+from __future__ import annotations
+
 import multiprocessing
 import os
+import pathlib
 import shutil
 import signal
 import socket
@@ -8,13 +11,15 @@ import subprocess
 import threading
 import time
 import unittest
+from collections.abc import Callable
+from typing import Any
 
 import dilforec
-from dilforec.service import Stopped, Store
+from dilforec.service import Snapshot, Stopped, Store
 from service_tools import FIELDS, HERE, Stored, child
 
 
-def descriptors(path):
+def descriptors(path: str | pathlib.Path) -> list[str]:
     """The descriptors of this process that are of files whose names begin so."""
     found = []
     for name in os.listdir("/proc/self/fd"):
@@ -25,9 +30,11 @@ def descriptors(path):
     return found
 
 
-def is_left(store, path):
+def is_left(store: Store, path: str | pathlib.Path) -> bool:
     """Whether a store is closed here, in a child, and has nothing of the file."""
-    calls = lambda: store.add({}), lambda: store.search("*"), lambda: store.delete(1), store.compact, store.snapshot
+    calls: tuple[Callable[[], object], ...] = (
+        lambda: store.add({}), lambda: store.search("*"), lambda: store.delete(1), store.compact, store.snapshot,
+    )
     for call in calls:
         try:
             call()
@@ -39,13 +46,13 @@ def is_left(store, path):
     return not store.writable and not descriptors(path)
 
 
-def count(snapshot, counts):
+def count(snapshot: Snapshot, counts: Any) -> None:
     signal.alarm(20)
     counts.put(snapshot.search("rust").count)
 
 
 class Forks(Stored):
-    def forked(self, call):
+    def forked(self, call: Callable[[], object]) -> int:
         """A child's number that makes a call. Its status is 0 if that returns true; an alarm ends it after 20 s."""
         pid = os.fork()
         if pid == 0:
@@ -57,7 +64,7 @@ class Forks(Stored):
                 os._exit(status)
         return pid
 
-    def status(self, pid):
+    def status(self, pid: int) -> int:
         """A child's status. One that hangs before it has set its alarm is aborted after 30 s, so that it tells where."""
         until = time.monotonic() + 30
         while (told := os.waitpid(pid, os.WNOHANG)) == (0, 0):
@@ -67,7 +74,7 @@ class Forks(Stored):
             time.sleep(0.002)
         return told[1]
 
-    def test_both_write(self):
+    def test_both_write(self) -> None:
         """A child can't write, and what its parent writes is there after a restart."""
         store = self.opened()
         store.add({"title": "before"})
@@ -78,12 +85,17 @@ class Forks(Stored):
         store.close()
         self.assertEqual(self.all(self.opened()), there)
 
-    def test_the_lock_goes(self):
+    def test_the_lock_goes(self) -> None:
         """A child that lives longer than the parent's store doesn't keep the journal locked."""
         store = self.opened()
         store.add({})
         reader, writer = os.pipe()
-        pid = self.forked(lambda: os.close(writer) or os.read(reader, 1) == b"")
+
+        def closed() -> bool:
+            os.close(writer)
+            return os.read(reader, 1) == b""
+
+        pid = self.forked(closed)
         os.close(reader)
         try:
             store.close()
@@ -92,16 +104,17 @@ class Forks(Stored):
             os.close(writer)
             self.assertEqual(self.status(pid), 0)
 
-    def test_under_load(self):
+    def test_under_load(self) -> None:
         """Forks while threads write, search and compact: each child is apart, and no answered change is lost."""
-        store, ended, added = self.opened(), threading.Event(), {}
+        store, ended = self.opened(), threading.Event()
+        added: dict[int, dict[str, Any]] = {}
 
-        def write(writer):
+        def write(writer: int) -> None:
             while not ended.is_set():
                 title = f"w{writer} n{len(added)}"
                 added[store.add({"title": title})] = {"title": title}
 
-        def compact():
+        def compact() -> None:
             while not ended.is_set():
                 store.compact()
 
@@ -122,7 +135,7 @@ class Forks(Stored):
         store.close()
         self.assertEqual(self.all(self.opened()), added)
 
-    def add_in_both(self, store, ends):
+    def add_in_both(self, store: Store, ends: list[int]) -> None:
         """Has a call add a document in the middle of which a child is forked, whose number `ends` gets.
 
         The parent's is done, and the child's isn't. No wait hangs: an alarm ends the child after 20 s.
@@ -138,25 +151,26 @@ class Forks(Stored):
         self.assertEqual((status, os.waitstatus_to_exitcode(self.status(ends[0]))), (0, 7))
         self.assertEqual(self.all(store), {1: {"title": "parent"}})
 
-    def fork_in_a_call(self, ends):
+    def fork_in_a_call(self, ends: list[int]) -> None:
         ends.append(os.fork())
         if ends[0] == 0:
             signal.alarm(20)
 
-    def test_in_a_handler(self):
+    def test_in_a_handler(self) -> None:
         """A child of a fork in the middle of a wait isn't left waiting; the parent's change is done."""
         store = self.opened()
         slow = store._journal.disk.sync
-        begun, ends = [], []
+        begun: list[bool] = []
+        ends: list[int] = []
         main = os.getpid()
 
-        def handle(*_):
+        def handle(*_: object) -> None:
             # One is enough: where a fork takes longer than the time between signals, each would begin within the last.
             if not begun:
                 begun.append(True)
                 self.fork_in_a_call(ends)
 
-        def sync(fd):
+        def sync(fd: int) -> None:
             # A signal that comes just before the wait begins is handled after it, so it is sent again.
             end = time.monotonic() + 20
             while not ends and time.monotonic() < end:
@@ -167,39 +181,39 @@ class Forks(Stored):
 
         before = signal.signal(signal.SIGUSR1, handle)
         try:
-            store._journal.disk.sync = sync
+            self.put(store._journal.disk, "sync", sync)
             self.add_in_both(store, ends)
         finally:
             signal.signal(signal.SIGUSR1, before)
 
-    def test_before_a_wait(self):
+    def test_before_a_wait(self) -> None:
         """A child of a fork between a change's handing in and the wait for it isn't left waiting either."""
         store = self.opened()
         slow, hand_in = store._journal.disk.sync, store._worker._hand_in
-        ends = []
+        ends: list[int] = []
 
-        def handed_in(jobs):
+        def handed_in(jobs: Any) -> None:
             hand_in(jobs)
             if not ends:
                 self.fork_in_a_call(ends)
 
-        def sync(fd):
+        def sync(fd: int) -> None:
             end = time.monotonic() + 20
             while not ends and time.monotonic() < end:
                 time.sleep(0.001)
             slow(fd)
 
-        store._journal.disk.sync = sync
-        store._worker._hand_in = handed_in
+        self.put(store._journal.disk, "sync", sync)
+        self.put(store._worker, "_hand_in", handed_in)
         self.add_in_both(store, ends)
 
-    def test_within_a_fork(self):
+    def test_within_a_fork(self) -> None:
         """A signal handler may fork in the middle of a fork: no lock that a fork takes is in its way."""
         program = child(WITHIN, self.journal)
         told = program.communicate(timeout=300)[0]
         self.assertEqual((program.returncode, told), (0, b"[0, 0] 2\n"))
 
-    def test_readers(self):
+    def test_readers(self) -> None:
         """Processes of multiprocessing search a snapshot that was taken before they were forked."""
         store = self.opened()
         for _ in range(5):
@@ -216,8 +230,9 @@ class Forks(Stored):
             for reader in readers:
                 reader.join(20)
         self.assertEqual([reader.exitcode for reader in readers], [0, 0, 0])
+        absolute: Callable[[int], int] = abs
         with kind.Pool(2) as pool:
-            self.assertEqual(pool.map_async(abs, [-1, 2]).get(20), [1, 2])
+            self.assertEqual(pool.map_async(absolute, [-1, 2]).get(20), [1, 2])
         self.assertEqual(len(store), 6)
 
 
@@ -274,15 +289,17 @@ def application(environ, start_response):
 
 @unittest.skipUnless(shutil.which("gunicorn"), "gunicorn isn't there")
 class Gunicorn(Stored):
-    def test_preload(self):
+    def test_preload(self) -> None:
         """Workers that a server forks after it has loaded the application can't write, and damage nothing."""
         (self.folder / "preloaded.py").write_text(PRELOADED)
         with socket.socket() as bound:
             bound.bind(("127.0.0.1", 0))
             port = bound.getsockname()[1]
         paths = [str(self.folder), str(HERE), os.environ.get("PYTHONPATH", "")]
+        gunicorn = shutil.which("gunicorn")
+        assert gunicorn
         server = subprocess.Popen(
-            [shutil.which("gunicorn"), "--preload", "--workers", "2", "--graceful-timeout", "2",
+            [gunicorn, "--preload", "--workers", "2", "--graceful-timeout", "2",
              "--bind", f"127.0.0.1:{port}", "preloaded:application"],
             env={**os.environ, "PYTHONPATH": os.pathsep.join(paths), "JOURNAL": str(self.journal)},
             stdout=subprocess.DEVNULL, stderr=subprocess.DEVNULL,
@@ -298,7 +315,7 @@ class Gunicorn(Stored):
         self.assertEqual(set(statuses), {b"503"})
         self.assertEqual(self.all(self.opened()), {1: {"title": "before"}})
 
-    def ask(self, port):
+    def ask(self, port: int) -> bytes:
         until = time.monotonic() + 20
         while True:
             try:

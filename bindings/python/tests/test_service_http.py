@@ -1,4 +1,6 @@
 """The service over HTTP, as its command serves it: answers, refusals, and clients that mean no good."""
+from __future__ import annotations
+
 import concurrent.futures
 import contextlib
 import json
@@ -23,7 +25,7 @@ from service_tools import SCHEMA, Served, Server
 
 GUIDE = pathlib.Path(__file__).resolve().parents[3] / "docs/SERVICE.md"
 class Answers(Served):
-    def test_calls(self):
+    def test_calls(self) -> None:
         """Each call, as docs/SERVICE.md has it."""
         server = self.serve()
         self.assertRegex(server.ready, r"^0 documents in [0-9.]+ s, at http://127\.0\.0\.1:[0-9]+/\n$")
@@ -51,8 +53,8 @@ class Answers(Served):
         status = ask("GET", "/status")[1]
         self.assertEqual((status["documents"], status["commit"], status["schema"][0]), (4, 6, SCHEMA[0]))
         self.assertGreaterEqual(status["segments"], 1)
-        told, text = ask("GET", "/metrics")
-        self.assertEqual(told, 200)
+        code, text = ask("GET", "/metrics")
+        self.assertEqual(code, 200)
         self.assertIn("\ndilforec_documents 4\n", text)
         self.assertIn(f"\ndilforec_segments {status['segments']}\n", text)
         self.assertRegex(text, r"\ndilforec_deleted_documents [0-9]+\n")
@@ -60,19 +62,19 @@ class Answers(Served):
         self.assertEqual(ask("POST", "/compact")[0], 200)
         self.assertEqual(ask("POST", "/transaction", [{"delete_all": True}]), (201, {"ids": [], "commit": 7}))
         self.assertEqual(ask("HEAD", "/documents"), (200, ""))
-        status, page = ask("GET", "/")
-        self.assertEqual((status, "<script>" in page), (200, True))
+        found, page = ask("GET", "/")
+        self.assertEqual((found, "<script>" in page), (200, True))
         self.assertIn("default-src 'none'", server.headers["Content-Security-Policy"])
         self.assertEqual(server.stop(signal.SIGTERM), 0)
         with Store([dilforec.Field(**field) for field in SCHEMA], self.journal) as store:
             self.assertEqual((len(store), store.commits), (0, 7))
 
-    def test_refusals(self):
+    def test_refusals(self) -> None:
         """A bad request says what is wrong and where, and changes nothing."""
         server = self.serve("--body", 100_000)
         server.ask("POST", "/documents", {"title": "kept"})
         lines = {"Content_Type": "application/x-ndjson"}
-        for method, path, body, status, name, at, headers in [
+        refused: list[tuple[str, str, object, int, str, int | None, dict[str, str]]] = [
             ("POST", "/documents", {"titel": "x"}, 400, "UnknownField", 1, {}),
             ("POST", "/documents", [{}, {"year": "late"}], 400, "WrongKind", 2, {}),
             ("POST", "/documents", b'{}\n\n{"year":-1}\n', 400, "WrongKind", 3, lines),
@@ -111,7 +113,8 @@ class Answers(Served):
             ("GET", "/nowhere", None, 404, "NotFound", None, {}),
             ("POST", "/search", b"{}", 405, "MethodNotAllowed", None, {}),
             ("BREW", "/documents", b"{}", 501, "NotImplemented", None, {}),
-        ]:
+        ]
+        for method, path, body, status, name, at, headers in refused:
             with self.subTest(method=method, path=path[:40], name=name):
                 got, told = server.ask(method, path, body, **headers)
                 self.assertEqual((got, told["error"], told.get("at")), (status, name, at), told)
@@ -123,7 +126,7 @@ class Answers(Served):
         self.assertEqual(server.ask("GET", "/documents"), (200, {"documents": [{"id": 1, "title": "kept"}]}))
         self.assertNotIn("Traceback", server.said())
 
-    def test_groups(self):
+    def test_groups(self) -> None:
         """Groups are cut: the most frequent values first, equal counts by value, 100 if nothing is said."""
         server = self.serve()
         days = [f"d{number:03}" for number in range(150)]
@@ -144,7 +147,7 @@ class Answers(Served):
         status, told = server.ask("GET", "/search?groups=" + ",".join(f"f{number}" for number in range(9)))
         self.assertEqual((status, told["error"]), (400, "TooManyGroups"))
 
-    def test_limits(self):
+    def test_limits(self) -> None:
         """What one search may ask and be answered is bounded, and the refusal says so."""
         server = self.serve("--clauses", 5, "--answer", 5000)
         server.ask("POST", "/documents", [{"title": "word " * 100}] * 30)
@@ -165,7 +168,7 @@ class Answers(Served):
         self.assertIn("fields", server.ask("GET", "/search")[1]["message"])
 
     @unittest.skipUnless(shutil.which("curl"), "there is no curl")
-    def test_documented(self):
+    def test_documented(self) -> None:
         """The commands of docs/SERVICE.md that ask a service do what they say."""
         server = self.serve()
         blocks = re.findall(r"(?:^    .*\n)+", GUIDE.read_text("utf-8"), re.MULTILINE)
@@ -182,7 +185,7 @@ class Answers(Served):
             {"ids": [5, 6, 7], "commit": 3}, {"ids": [], "commit": 4}])
         self.assertEqual(server.ask("GET", "/status")[1]["documents"], 1)
 
-    def test_retention(self):
+    def test_retention(self) -> None:
         """A keyword `day`, and one delete a day."""
         server = self.serve()
         for day in ("2026-11-25", "2026-11-26", "2026-11-27"):
@@ -192,13 +195,13 @@ class Answers(Served):
         found = server.ask("GET", "/search?q=line&groups=day")[1]
         self.assertEqual(found["groups"], {"day": [["2026-11-26", 3], ["2026-11-27", 3]]})
 
-    def test_killed(self):
+    def test_killed(self) -> None:
         """kill -9 while clients post: what was acknowledged is there after the next start."""
         acknowledged, lock = set(), threading.Lock()
         for _ in range(3):
             server = self.serve()
 
-            def post():
+            def post() -> None:
                 while True:
                     try:
                         status, told = server.ask("POST", "/documents", [{"title": "pair"}, {"title": "pair"}])
@@ -228,14 +231,14 @@ class Connections(Served):
     """What clients do with their connections."""
 
     @staticmethod
-    def request(server, title, *more):
+    def request(server: Server, title: str, *more: str) -> tuple[bytes, bytes]:
         body = json.dumps({"title": title}).encode()
         lines = ["POST /documents HTTP/1.1", f"Host: 127.0.0.1:{server.port}", "Content-Type: application/json",
                  f"Content-Length: {len(body)}", *more]
         return "\r\n".join([*lines, "", ""]).encode(), body
 
     @staticmethod
-    def answers(sock, count):
+    def answers(sock: socket.socket, count: int) -> list[int]:
         """The ids of so many answers."""
         told = b""
         while told.count(b"\n{") < count or not told.endswith(b"\n"):
@@ -245,15 +248,15 @@ class Connections(Served):
             told += data
         return [int(id) for id in re.findall(rb'^\{"ids":\[([0-9]+)\]', told, re.MULTILINE)]
 
-    def opened(self, server):
+    def connected(self, server: Server) -> socket.socket:
         sock = socket.create_connection(("127.0.0.1", server.port), timeout=30)
         self.addCleanup(sock.close)
         return sock
 
-    def test_one_connection(self):
+    def test_one_connection(self) -> None:
         """Requests that come at once, one after another, in pieces, after a pause, and after a question."""
         server = self.serve()
-        sock = self.opened(server)
+        sock = self.connected(server)
         sock.sendall(b"".join(b"".join(self.request(server, f"at once {number}")) for number in range(20)))
         self.assertEqual(self.answers(sock, 20), list(range(1, 21)))
         for number in range(21, 31):
@@ -271,11 +274,11 @@ class Connections(Served):
         sock.sendall(head + body)
         self.assertEqual(self.answers(sock, 2), [32])
 
-    def test_more_connections_than_threads(self):
+    def test_more_connections_than_threads(self) -> None:
         server = self.serve("--threads", "2")
         found = []
 
-        def post(number):
+        def post(number: int) -> None:
             with socket.create_connection(("127.0.0.1", server.port), timeout=30) as sock:
                 for place in range(25):
                     sock.sendall(b"".join(self.request(server, f"{number} {place}")))
@@ -285,7 +288,7 @@ class Connections(Served):
                     sock.sendall(self.request(server, "half")[0])
 
         threads = [threading.Thread(target=post, args=(number,)) for number in range(12)]
-        idle = [self.opened(server) for _ in range(4)]
+        idle = [self.connected(server) for _ in range(4)]
         for thread in threads:
             thread.start()
         for thread in threads:
@@ -295,12 +298,12 @@ class Connections(Served):
             sock.sendall(b"".join(self.request(server, "at last")))
             self.assertEqual(self.answers(sock, 1), [number])
 
-    def test_end(self):
+    def test_end(self) -> None:
         """It ends under a client that never stops, and what was answered is there."""
         server = self.serve()
-        last = []
+        last: list[int] = []
 
-        def post():
+        def post() -> None:
             with contextlib.suppress(OSError), socket.create_connection(("127.0.0.1", server.port), timeout=30) as sock:
                 while not last or last[-1]:
                     sock.sendall(b"".join(self.request(server, "again")))
@@ -315,17 +318,17 @@ class Connections(Served):
         with Store([dilforec.Field(**field) for field in SCHEMA], self.journal) as store:
             self.assertGreaterEqual(len(store), max(last))
 
-    def test_end_in_progress(self):
+    def test_end_in_progress(self) -> None:
         """What is on its way to the disk when it ends is answered."""
         server = self.serve(slow_syncs=True)
-        sock, before = self.opened(server), self.journal.stat().st_size
+        sock, before = self.connected(server), self.journal.stat().st_size
         sock.sendall(b"".join(self.request(server, "the last")))
         while self.journal.stat().st_size == before:
             time.sleep(0.001)
         self.assertEqual(server.stop(signal.SIGTERM), 0)
         self.assertEqual(self.answers(sock, 1), [1])
 
-    def test_together(self):
+    def test_together(self) -> None:
         """Changes that wait at the same time share a sync, and each is answered by itself."""
         server = self.serve(slow_syncs=True)
         self.assertEqual(server.ask("POST", "/documents", [{"title": "a"}, {"title": "b"}])[0], 201)
@@ -347,12 +350,12 @@ class Connections(Served):
             if method != "DELETE":
                 self.assertEqual((found, told.get("error")), (status, error), (method, path, told))
         self.assertLess(len({told["commit"] for _, told in answers if "commit" in told}), 6)
-        found = server.ask("GET", "/search?q=c")[1]
-        self.assertEqual((found["count"], sorted(hit["document"]["title"] for hit in found["hits"])), (4, ["c"] * 4))
+        there = server.ask("GET", "/search?q=c")[1]
+        self.assertEqual((there["count"], sorted(hit["document"]["title"] for hit in there["hits"])), (4, ["c"] * 4))
 
 
 class Starts(Served):
-    def test_refused(self):
+    def test_refused(self) -> None:
         """What stops a start says so, with status 2."""
         schema, journal = ("--schema", self.schema), ("--journal", self.journal)
         bad = self.folder / "bad.json"
@@ -393,13 +396,13 @@ class Starts(Served):
         self.assertRegex(self.refused("serve", *schema, *journal), "line 4, byte [0-9]+: WrongKind")
         self.assertEqual(self.journal.read_bytes(), before)
 
-    def test_without_uvicorn(self):
+    def test_without_uvicorn(self) -> None:
         (self.folder / "uvicorn.py").write_text("raise ImportError\n")
         path = os.pathsep.join([str(self.folder), os.environ.get("PYTHONPATH", "")])
         told = self.refused("serve", "--example", env={**os.environ, "PYTHONPATH": path})
         self.assertIn("python3-uvicorn", told)
 
-    def test_torn(self):
+    def test_torn(self) -> None:
         """A torn tail is cut off and told."""
         server = self.serve()
         server.ask("POST", "/documents", {"title": "x"})
@@ -410,7 +413,7 @@ class Starts(Served):
             self.assertEqual(server.ask("GET", "/status")[1]["documents"], 1)
             self.assertIn("cut 14 bytes", server.said())
 
-    def test_not_ready(self):
+    def test_not_ready(self) -> None:
         """While the journal is read the port is open: it says how far it is, and answers nothing else."""
         server = self.serve()
         for _ in range(3):
@@ -424,8 +427,8 @@ class Starts(Served):
         while (told := server.ask("GET", "/readyz", Host="anything"))[0] == 503:
             self.assertFalse(told[1]["ready"])
             found.append(told[1]["documents"])
-            status, told = server.ask("GET", "/search")
-            self.assertIn((status, told.get("error")), [(503, "Starting"), (200, None)])
+            status, answer = server.ask("GET", "/search")
+            self.assertIn((status, answer.get("error")), [(503, "Starting"), (200, None)])
             time.sleep(0.1)
         self.assertEqual(told[1], {"ready": True, "documents": 750, "writable": True})
         self.assertEqual((found, found[0]), (sorted(found), 0))
@@ -436,7 +439,7 @@ class Starts(Served):
         server = self.serve(program=("-c", slow + "sys.exit(_command.main(sys.argv[1:]))"), waits=False)
         self.assertEqual(server.stop(signal.SIGTERM), 0)
 
-    def test_systemd(self):
+    def test_systemd(self) -> None:
         """systemd is told when it is ready, and when it ends."""
         path = str(self.folder / "notify")
         with socket.socket(socket.AF_UNIX, socket.SOCK_DGRAM) as told, mock.patch.dict(os.environ, NOTIFY_SOCKET=path):
@@ -447,7 +450,7 @@ class Starts(Served):
                 self.assertEqual(server.stop(signal.SIGINT), 0)
                 self.assertEqual(told.recv(100), b"STOPPING=1")
 
-    def test_example(self):
+    def test_example(self) -> None:
         """The example's books, in a journal that goes with the process."""
         with Server("--example") as server:
             found = server.ask("GET", "/search?q=whale+OR+windmills&groups=language")[1]
@@ -455,7 +458,7 @@ class Starts(Served):
 
 
 class Guards(Served):
-    def test_hosts_and_origins(self):
+    def test_hosts_and_origins(self) -> None:
         """A page elsewhere can't use it: neither by a name that leads here, nor by a request of its own."""
         server = self.serve("--host", "search.example.org")
         port = server.port
@@ -475,15 +478,17 @@ class Guards(Served):
         self.assertEqual(server.ask("DELETE", "/documents/1", Origin="http://evil.example")[0], 403)
         self.assertEqual(server.ask("DELETE", "/documents/1", Content_Type="text/plain")[0], 415)
 
-    def test_tokens(self):
+    def test_tokens(self) -> None:
         """With a token, what changes something needs it, and, if wanted, what reads; the page alone doesn't."""
         token = self.folder / "token"
         token.write_text("abcdefghijklmnop\n")
         right, wrong = {"Authorization": "Bearer abcdefghijklmnop"}, {"Authorization": "Bearer abcdefghijklmnoq"}
-        for reads in (), ("--token-reads",):
+        ways: tuple[tuple[str, ...], ...] = (), ("--token-reads",)
+        for reads in ways:
             server = self.serve("--token-file", token, *reads, journal=self.folder / f"journal{len(reads)}")
             basic = {"Authorization": "Basic abcdefghijklmnop"}
-            for headers, status in ({}, 401), (wrong, 401), (basic, 401), (right, 201):
+            tokens: tuple[tuple[dict[str, str], int], ...] = ({}, 401), (wrong, 401), (basic, 401), (right, 201)
+            for headers, status in tokens:
                 self.assertEqual(server.ask("POST", "/documents", {}, **headers)[0], status)
             self.assertEqual(server.ask("DELETE", "/documents/1")[0], 401)
             self.assertEqual(server.headers["WWW-Authenticate"], "Bearer")
@@ -492,18 +497,20 @@ class Guards(Served):
                 self.assertEqual(server.ask("GET", path, **right)[0], 200)
             self.assertEqual(server.ask("GET", "/")[0], 200)
 
-    def test_read_token(self):
+    def test_read_token(self) -> None:
         """A token that only reads: reads need one of the two, changes the other, and SIGHUP reads both again."""
         write, read = self.folder / "write", self.folder / "read"
         write.write_text("writes-and-reads-all")
         read.write_text("reads-and-no-more")
         server = self.serve("--token-file", write, "--read-token-file", read)
 
-        def statuses(token):
+        def statuses(token: str) -> list[int]:
             given = {"Authorization": f"Bearer {token}"} if token else {}
-            return [server.ask(*asked, **given)[0] for asked in (
-                ("GET", "/search"), ("GET", "/status"), ("POST", "/documents", {}), ("DELETE", "/documents/9"),
-            )]
+            asked: list[tuple[str, str, object]] = [
+                ("GET", "/search", None), ("GET", "/status", None), ("POST", "/documents", {}),
+                ("DELETE", "/documents/9", None),
+            ]
+            return [server.ask(method, path, body, **given)[0] for method, path, body in asked]
 
         self.assertEqual(statuses(""), [401] * 4)
         self.assertEqual(statuses("neither-of-the-two"), [401] * 4)
@@ -527,7 +534,7 @@ class Guards(Served):
         self.assertIn("the tokens stay as they are", server.said())
         self.assertEqual(statuses("reads-from-now-on"), [200, 200, 403, 403])
 
-    def test_log(self):
+    def test_log(self) -> None:
         """Who isn't let in is logged with the address, and no path can forge a line."""
         token = self.folder / "token"
         token.write_text("abcdefghijklmnop")
@@ -544,7 +551,7 @@ class Guards(Served):
         self.assertIn(r"'/documents\n2026-11-28 00:00:00,000 INFO ended\x1b[31m' 404", said)
         self.assertNotIn("\x1b", said)
 
-    def test_other_sites(self):
+    def test_other_sites(self) -> None:
         """Pages of a site that is allowed may search, and none may change anything."""
         friend, other = "https://www.example.org", "https://www.example.net"
         server = self.serve("--allow-origin", friend, "--allow-origin", "http://localhost:3000")
@@ -569,13 +576,14 @@ class Guards(Served):
                 told = self.refused("serve", "--example", "--allow-origin", bad)
                 self.assertIn("isn't an origin", told)
 
-    def test_local_socket(self):
+    def test_local_socket(self) -> None:
         """A local socket, which only its owner and group may use, and which is gone at the end."""
         path = self.folder / "socket"
         with socket.socket(socket.AF_UNIX) as left:
             left.bind(str(path))
         words = [sys.executable, "-m", "dilforec", "serve", "--example", "--listen", f"unix:{path}"]
         with subprocess.Popen(words, stdout=subprocess.PIPE, stderr=subprocess.DEVNULL) as served:
+            assert served.stdout
             self.assertIn(f"at unix:{path}", served.stdout.readline().decode())
             self.assertEqual(path.stat().st_mode & 0o777, 0o660)
             self.assertIn("can't listen", self.refused("serve", "--example", "--listen", f"unix:{path}"))
@@ -588,7 +596,7 @@ class Guards(Served):
             self.assertEqual(served.wait(30), 0)
         self.assertFalse(path.exists())
 
-    def test_beyond_the_machine(self):
+    def test_beyond_the_machine(self) -> None:
         """Where it listens beyond the machine, nothing can be changed without a token, and it says so."""
         server = Server("--schema", self.schema, "--journal", self.journal, "--listen", "0.0.0.0:0")
         with server:
@@ -597,33 +605,34 @@ class Guards(Served):
 
 
 class Hostile(Served):
-    def setUp(self):
+    def setUp(self) -> None:
         super().setUp()
         self.server = self.serve("--idle", 3, "--connections", 1500)
         self.assertEqual(self.server.ask("POST", "/documents", [{"title": "rust"}] * 10)[0], 201)
 
-    def resident(self):
-        return self.server.ask("GET", "/status")[1]["resident_bytes"]
+    def resident(self) -> int:
+        bytes: int = self.server.ask("GET", "/status")[1]["resident_bytes"]
+        return bytes
 
-    def opened(self, data=b""):
+    def connected(self, data: bytes = b"") -> socket.socket:
         connection = socket.create_connection(("127.0.0.1", self.server.port), timeout=30)
         self.addCleanup(connection.close)
         connection.sendall(data)
         return connection
 
-    def answers(self, count=20):
+    def answers(self, count: int = 20) -> None:
         """Whether others are answered, each within ten seconds."""
         for _ in range(count):
             began = time.monotonic()
             self.assertEqual(self.server.ask("GET", "/search?q=rust")[1]["count"], 10)
             self.assertLess(time.monotonic() - began, 10)
 
-    def test_idle(self):
+    def test_idle(self) -> None:
         """1,000 connections that are silent or drip: others are answered, and the silent ones are closed."""
         before = self.resident()
         head = f"POST /documents HTTP/1.1\r\nHost: 127.0.0.1:{self.server.port}\r\nContent-Length: 999999\r\n".encode()
-        silent = [self.opened() for _ in range(500)]
-        dripping = [self.opened(head[:40] if number % 2 else head + b"\r\n{") for number in range(500)]
+        silent = [self.connected() for _ in range(500)]
+        dripping = [self.connected(head[:40] if number % 2 else head + b"\r\n{") for number in range(500)]
         began = time.monotonic()
         while time.monotonic() - began < 6:
             for connection in dripping:
@@ -636,14 +645,14 @@ class Hostile(Served):
         self.answers()
         self.assertLess(self.resident() - before, 100 << 20)
 
-    def test_large(self):
+    def test_large(self) -> None:
         """Bodies of 1 GB, announced and in chunks, are refused, and memory stays."""
         before, port = self.resident(), self.server.port
         head = f"POST /documents HTTP/1.1\r\nHost: 127.0.0.1:{port}\r\nContent-Type: application/json\r\n"
         for _ in range(50):
-            connection = self.opened((head + "Content-Length: 1073741824\r\n\r\n").encode())
+            connection = self.connected((head + "Content-Length: 1073741824\r\n\r\n").encode())
             self.assertIn(b" 413 ", connection.recv(100))
-        connection = self.opened((head + "Transfer-Encoding: chunked\r\n\r\n").encode())
+        connection = self.connected((head + "Transfer-Encoding: chunked\r\n\r\n").encode())
         block = b"100000\r\n" + b"x" * 0x100000 + b"\r\n"
         with self.assertRaises(OSError):
             for _ in range(1000):
@@ -651,14 +660,14 @@ class Hostile(Served):
         self.answers()
         self.assertLess(self.resident() - before, 100 << 20)
 
-    def test_broken(self):
+    def test_broken(self) -> None:
         """Requests that aren't ones, pipelined ones, and clients that go away."""
         port = self.server.port
         for data in (b"\0\0\0\0\r\n\r\n", b"GET\r\n\r\n", b"GET / HTTP/9.9\r\n\r\n",
                      b"GET /\xff?\xff HTTP/1.1\r\nHost: \xff\r\n\r\n",
                      b"POST / HTTP/1.1\r\nContent-Length: -1\r\n\r\n", b"POST / HTTP/1.1\r\nContent-Length: x\r\n\r\n",
                      b"POST / HTTP/1.1\r\nTransfer-Encoding: chunked\r\n\r\nzz\r\n", b"x" * 200_000):
-            connection = self.opened()
+            connection = self.connected()
             try:
                 connection.sendall(data)
                 told = connection.recv(1000)
@@ -666,13 +675,13 @@ class Hostile(Served):
                 continue
             self.assertRegex(told, rb"^(HTTP/1\.[01] [45][0-9][0-9] |$)")
         request = f"GET /search?q=rust HTTP/1.1\r\nHost: 127.0.0.1:{port}\r\n\r\n".encode()
-        connection, told = self.opened(request * 100), b""
+        connection, told = self.connected(request * 100), b""
         while told.count(b'{"count":10') < 100:
             read = connection.recv(1 << 16)
             self.assertNotEqual(read, b"")
             told += read
         for number in range(200):
-            self.opened(request[: number % len(request)] if number % 2 else request).close()
+            self.connected(request[: number % len(request)] if number % 2 else request).close()
         self.answers()
         self.assertEqual(self.server.ask("GET", "/documents")[1]["documents"][9]["id"], 10)
 

@@ -1,4 +1,7 @@
 """Interrupts, at each line that a caller runs of the service, and by Ctrl-C; and what a worker does with jobs."""
+from __future__ import annotations
+
+import functools
 import gc
 import pathlib
 import random
@@ -9,6 +12,9 @@ import threading
 import time
 import unittest
 import weakref
+from collections.abc import Callable, Iterator
+from types import FrameType
+from typing import Any, Optional
 from unittest import mock
 
 import dilforec
@@ -16,28 +22,31 @@ from dilforec.service import Busy, Stopped, Store
 from dilforec.service._worker import Job, Worker
 from service_tools import FIELDS, Stored, child
 
+# A function that sys.settrace takes.
+Trace = Callable[[FrameType, str, Any], Optional[Callable[..., Any]]]
+
 SERVICE = str(pathlib.Path(dilforec.__file__).parent / "service")
 
 
 class Interrupted:
     """Raises KeyboardInterrupt in this thread, before the nth line of the service that it comes to."""
 
-    def __init__(self, after):
+    def __init__(self, after: int) -> None:
         self.left = after
 
-    def __enter__(self):
+    def __enter__(self) -> Interrupted:
         sys.settrace(self.called)
         return self
 
-    def __exit__(self, kind, *_):
+    def __exit__(self, kind: type[BaseException] | None, *_: object) -> bool:
         sys.settrace(None)
         self.interrupted = kind is KeyboardInterrupt
         return self.interrupted
 
-    def called(self, frame, event, _):
+    def called(self, frame: FrameType, event: str, _: object) -> Trace | None:
         return self.line if frame.f_code.co_filename.startswith(SERVICE) else None
 
-    def line(self, frame, event, _):
+    def line(self, frame: FrameType, event: str, _: object) -> Trace:
         if event == "line":
             self.left -= 1
             if self.left == 0:
@@ -47,7 +56,7 @@ class Interrupted:
 
 
 class EachLine(Stored):
-    def interrupt_each(self, call, look):
+    def interrupt_each(self, call: Callable[[], object], look: Callable[[], object]) -> int:
         """Interrupts a call before each of its lines, and looks at what is left. Returns how many lines that were."""
         after, is_over = 0, False
         while not is_over:
@@ -59,11 +68,11 @@ class EachLine(Stored):
                 self.in_time(look)
         return after - 1
 
-    def in_time(self, call):
+    def in_time(self, call: Callable[[], object]) -> None:
         """Makes a call in another thread, which has to return soon."""
         raised = []
 
-        def called():
+        def called() -> None:
             try:
                 call()
             except BaseException as error:
@@ -76,16 +85,16 @@ class EachLine(Stored):
         if raised:
             raise raised[0]
 
-    def test_changes(self):
+    def test_changes(self) -> None:
         """Whatever line a caller is interrupted at, its change is done whole or not at all, and others are done."""
         store = self.opened()
 
-        def call():
+        def call() -> None:
             with store.transaction() as transaction:
                 transaction.add({"title": "pair one"})
                 transaction.add({"title": "pair two"})
 
-        def look():
+        def look() -> None:
             store.delete(store.add({"title": "other"}))
             one, two = (store.search(f'"pair {word}"').count for word in ("one", "two"))
             self.assertEqual(one, two)
@@ -95,22 +104,22 @@ class EachLine(Stored):
         self.in_time(store.close)
         self.assertEqual(self.all(self.opened()), there)
 
-    def test_searches(self):
+    def test_searches(self) -> None:
         store = self.opened()
         store.add({"title": "rust"})
 
-        def look():
+        def look() -> None:
             self.assertEqual((store.search("rust").count, store.replace(1, {"title": "rust"}).ids), (1, (1,)))
 
         self.assertGreater(self.interrupt_each(lambda: store.search("rust", groups=["shelf"]), look), 20)
 
-    def test_compactions(self):
+    def test_compactions(self) -> None:
         """An interrupted compaction is given up or done, and the next one is done."""
         store = self.opened()
         for year in range(50):
             store.add({"title": "rust", "year": year})
 
-        def look():
+        def look() -> None:
             until = time.monotonic() + 20
             while True:
                 try:
@@ -125,12 +134,12 @@ class EachLine(Stored):
         store.close()
         self.assertEqual(len(self.opened()), 50)
 
-    def test_closing(self):
+    def test_closing(self) -> None:
         """A store whose closing is interrupted is closed by another call, and its journal is free then."""
         stores = [self.opened()]
         stores[0].add({"title": "rust"})
 
-        def look():
+        def look() -> None:
             stores[0].close()
             stores[0] = Store(FIELDS, self.journal)
             self.assertEqual(len(stores[0]), 1)
@@ -140,7 +149,7 @@ class EachLine(Stored):
 
 
 class CtrlC(Stored):
-    def test_programs(self):
+    def test_programs(self) -> None:
         """A program that adds in a loop ends soon after Ctrl-C."""
         code = """if True:
             import signal, sys, service_tools
@@ -158,13 +167,14 @@ class CtrlC(Stored):
         chance = random.Random(79)
         for _ in range(12):
             process = child("import faulthandler; faulthandler.enable()\n" + code, self.journal, stderr=subprocess.PIPE)
+            assert process.stdout
             self.assertEqual(process.stdout.readline(), b"begun\n")
             time.sleep(chance.uniform(0.01, 0.06))
             process.send_signal(signal.SIGINT)
             self.assertEqual(self.ended(process), (0, ""))
         self.assertGreater(len(self.opened()), 0)
 
-    def ended(self, process):
+    def ended(self, process: subprocess.Popen[bytes]) -> tuple[int, str]:
         """The status of a program and what it says of errors. If it doesn't end, that is where its threads are."""
         try:
             said = process.communicate(timeout=60)[1]
@@ -175,7 +185,7 @@ class CtrlC(Stored):
 
 
 class Workers(unittest.TestCase):
-    def worker(self, work):
+    def worker(self, work: Callable[[Iterator[Task]], int]) -> Worker[Task]:
         """A worker of tasks, which is ended after the test."""
         made = Worker("test", work)
         self.addCleanup(made.wait_for_end)
@@ -183,24 +193,26 @@ class Workers(unittest.TestCase):
         return made
 
     @staticmethod
-    def one(waiting):
+    def one(waiting: Iterator[Task]) -> int:
         next(waiting).run()
         return 1
 
-    def test_order(self):
+    def test_order(self) -> None:
         """Threads that hand in several jobs at a time get all of them done, in their order, however many are taken."""
-        done, early, chance = [], [], random.Random(1)
+        chance = random.Random(1)
+        done: list[tuple[int, int]] = []
+        early: list[int] = []
 
-        def work(waiting):
+        def work(waiting: Iterator[Task]) -> int:
             time.sleep(0.0005)
             taken = list(waiting)[: chance.randint(1, 5)]
             for task in taken:
                 task.run()
             return len(taken)
 
-        def call(number):
+        def call(number: int) -> None:
             jobs = [(number, place) for place in range(number % 7)]
-            worker.do(*[Task(lambda job=job: done.append(job)) for job in jobs])
+            worker.do(*[Task(functools.partial(done.append, job)) for job in jobs])
             if [job for job in done if job[0] == number] != jobs:
                 early.append(number)
 
@@ -212,11 +224,17 @@ class Workers(unittest.TestCase):
             thread.join()
         self.assertEqual((early, len(done)), ([], sum(number % 7 for number in range(60))))
 
-    def test_without_waiting(self):
+    def test_without_waiting(self) -> None:
         """After what was handed in without a wait a call is made once, also if it came too late."""
-        worker, done, over = Worker("test", self.one), [], threading.Event()
+        worker, over = Worker("test", self.one), threading.Event()
+        done: list[str] = []
+
+        def end() -> None:
+            done.append("then")
+            over.set()
+
         tasks = [Task(lambda: done.append("done")) for _ in range(3)]
-        worker.submit(*tasks, then=lambda: (done.append("then"), over.set()))
+        worker.submit(*tasks, then=end)
         self.assertTrue(over.wait(20))
         self.assertEqual((done, [task.is_done for task in tasks]), (["done"] * 3 + ["then"], [True] * 3))
         worker.submit(then=lambda: done.append("none"))
@@ -227,19 +245,28 @@ class Workers(unittest.TestCase):
         self.assertEqual((done[4:], type(late.error)), (["none", "refused"], Stopped))
         self.assertRaises(Stopped, worker.call, lambda: done.append("late"))
 
-    def test_then_fails(self):
+    def test_then_fails(self) -> None:
         """If the call after a job fails, that is logged, and the next jobs are done."""
+        def divide() -> None:
+            raise ZeroDivisionError
+
         worker = self.worker(self.one)
         with self.assertLogs("dilforec.service", "ERROR"):
-            worker.submit(Task(lambda: None), then=lambda: 1 // 0)
+            worker.submit(Task(lambda: None), then=divide)
             worker.call(lambda: None)
         worker.call(lambda: None)
 
-    def test_withdrawn(self):
+    def test_withdrawn(self) -> None:
         """What nobody waits for any more isn't begun."""
-        began, go, done = threading.Event(), threading.Event(), []
+        began, go = threading.Event(), threading.Event()
+        done: list[int] = []
+
+        def wait() -> None:
+            began.set()
+            go.wait(20)
+
         worker = self.worker(self.one)
-        worker.submit(Task(lambda: (began.set(), go.wait(20))))
+        worker.submit(Task(wait))
         self.assertTrue(began.wait(20))
         task = Task(lambda: done.append(1))
         with mock.patch.object(task, "wait", side_effect=KeyboardInterrupt), self.assertRaises(KeyboardInterrupt):
@@ -248,7 +275,7 @@ class Workers(unittest.TestCase):
         worker.call(lambda: done.append(2))
         self.assertEqual((done, task.is_done), ([2], True))
 
-    def test_failing(self):
+    def test_failing(self) -> None:
         """A job that fails as nobody thought of has that error, and the next ones are done."""
         worker, task = self.worker(self.one), Task(lambda: 1 // 0)
         with self.assertLogs("dilforec.service", "ERROR"):
@@ -263,7 +290,7 @@ class Workers(unittest.TestCase):
 class Task(Job):
     """A job that is a call."""
 
-    def __init__(self, run):
+    def __init__(self, run: Callable[[], object]) -> None:
         super().__init__()
         self.run = run
 
@@ -271,21 +298,21 @@ class Task(Job):
 class Merge:
     """A merge without anything to do."""
 
-    def __enter__(self):
+    def __enter__(self) -> Merge:
         return self
 
-    def __exit__(self, *_):
+    def __exit__(self, *_: object) -> None:
         pass
 
-    def run(self):
+    def run(self) -> None:
         pass
 
 
 class Ends(Stored):
-    def threads(self):
+    def threads(self) -> list[str]:
         return [thread.name for thread in threading.enumerate() if thread.name.startswith("dilforec")]
 
-    def test_all_ends(self):
+    def test_all_ends(self) -> None:
         """A store that is closed has no thread any more, and is collected, though it began merges, and ended some."""
         stores = []
         for number in range(6):
@@ -305,7 +332,7 @@ class Ends(Stored):
         gc.collect()
         self.assertEqual((self.threads(), [store() for store in stores]), ([], [None] * 6))
 
-    def test_an_interpreter_that_ends(self):
+    def test_an_interpreter_that_ends(self) -> None:
         """A store that is closed when the interpreter has stopped its threads keeps nobody waiting."""
         code = """if True:
             import sys, service_tools
@@ -329,7 +356,7 @@ class Ends(Stored):
             process.kill()
         self.assertEqual(len(self.opened()), 1)
 
-    def test_a_merge_that_fails(self):
+    def test_a_merge_that_fails(self) -> None:
         """Whatever a merge raises is logged, and merges go on."""
         store = self.opened()
         for name in "begin_merge", "end_merge":

@@ -1,4 +1,6 @@
 """Journals: disks that fail, files that are cut and damaged, compactions that are killed."""
+from __future__ import annotations
+
 import json
 import os
 import pathlib
@@ -8,24 +10,31 @@ import sys
 import threading
 import time
 import unittest
+from collections.abc import Callable
+from typing import Any
 from unittest import mock
 
 import dilforec
 from dilforec.service import (
-    BadJournal, BadSchema, Busy, NotWritten, OutcomeUnknown, Stopped, Store, _compact, _files, _journal,
+    BadJournal, BadSchema, Busy, NotWritten, OutcomeUnknown, Sizes, Stopped, Store, _compact, _files, _journal,
 )
 from dilforec.service._compactor import Compacting
+from dilforec.values import Order
 from service_tools import FIELDS, Failing, Stored, child
+
+Call = Callable[[], object]
+Document = dict[str, Any]
 
 BUILT = pathlib.Path(__file__).resolve().parents[3] / "crates/fts/out/fts"
 PROGRAM = pathlib.Path(os.environ.get("DILFOREC_PROGRAM", BUILT))
 
 
 class Disks(Stored):
-    def test_failing(self):
+    def test_failing(self) -> None:
         """A write or a sync that fails, at each transaction: nothing is visible, and it goes on."""
         disk = Failing()
-        store, there = self.opened(disk=disk), {}
+        store = self.opened(disk=disk)
+        there: dict[int, Document] = {}
         for number in range(12):
             disk.fails = {["write", "sync"][number % 2]: 1}
             with self.assertRaises(NotWritten), store.transaction() as transaction:
@@ -37,7 +46,7 @@ class Disks(Stored):
         store.close()
         self.assertEqual(self.all(self.opened()), there)
 
-    def test_unknown(self):
+    def test_unknown(self) -> None:
         """If the file can't be cut back either, no write is taken until a restart; then it is there whole, or not."""
         for name, fails in ("write", {"write": 1, "cut": 1}), ("sync", {"sync": 2}):
             with self.subTest(name):
@@ -49,15 +58,16 @@ class Disks(Stored):
                     transaction.add({"title": "a"})
                     transaction.add({"title": "b"})
                 self.assertIn("outcome unknown", str(raised.exception))
-                for call in (lambda: store.add({}), lambda: store.delete(1), store.compact):
+                calls: tuple[Call, ...] = (lambda: store.add({}), lambda: store.delete(1), store.compact)
+                for call in calls:
                     self.assertRaises(Stopped, call)
                 self.assertEqual((self.all(store), store.writable), ({1: {"title": "first"}}, False))
                 store.close()
                 with Store(FIELDS, self.folder / name) as again:
                     self.assertIn(len(again), (1, 3))
-                    self.assertEqual((again.get(1)["title"], again.writable), ("first", True))
+                    self.assertEqual(((again.get(1) or {})["title"], again.writable), ("first", True))
 
-    def test_commit_refused(self):
+    def test_commit_refused(self) -> None:
         """A commit that is refused after the sync is tried again, and else the file is cut back."""
         store = self.opened()
         store.add({"title": "first"})
@@ -77,7 +87,7 @@ class Disks(Stored):
         store.close()
         self.assertEqual(len(self.opened()), 3)
 
-    def test_full(self):
+    def test_full(self) -> None:
         """A disk that is full, by a limit on the size of files: nothing visible that isn't there, and it goes on."""
         code = """if True:
             import resource, sys, service_tools
@@ -109,16 +119,18 @@ class Disks(Stored):
         self.assertEqual(len(self.opened()), int(told[0]))
 
 
-def _raise(error):
+def _raise(error: BaseException) -> None:
     raise error
 
 
 class Journals(Stored):
-    def filled(self):
+    def filled(self) -> tuple[bytes, list[int], list[dict[int, Document]]]:
         """A small journal, the places after each whole transaction, and the documents then."""
-        store, places, there = self.opened(), [], []
+        store = self.opened()
+        places: list[int] = []
+        there: list[dict[int, Document]] = []
 
-        def note():
+        def note() -> None:
             places.append(self.journal.stat().st_size)
             there.append(self.all(store))
 
@@ -135,7 +147,7 @@ class Journals(Stored):
         store.close()
         return self.journal.read_bytes(), places, there
 
-    def test_cut(self):
+    def test_cut(self) -> None:
         """A start on a journal cut at every byte, with and without what a torn write leaves: the whole transactions."""
         whole, places, there = self.filled()
         for size in range(len(whole) + 1):
@@ -147,7 +159,7 @@ class Journals(Stored):
                 self.assertEqual(store.commits, max(last, 0))
             self.assertEqual(self.journal.stat().st_size, places[max(last, 0)])
 
-    def test_zeros(self):
+    def test_zeros(self) -> None:
         """A last transaction with bytes 0 is torn, as where power failed; an earlier one is damaged."""
         whole, places, there = self.filled()
         self.journal.write_bytes(whole[: places[-2] + 3] + b"\0" * 6 + whole[places[-2] + 9 :])
@@ -156,7 +168,7 @@ class Journals(Stored):
         self.journal.write_bytes(whole[: places[-3] + 3] + b"\0" * 6 + whole[places[-3] + 9 :])
         self.assertRaises(BadJournal, Store, FIELDS, self.journal)
 
-    def test_damaged(self):
+    def test_damaged(self) -> None:
         """A line in the middle that is refused stops the start with its number and byte, and changes nothing."""
         whole, places, _ = self.filled()
         line = whole.count(b"\n", 0, places[2]) + 1
@@ -176,7 +188,7 @@ class Journals(Stored):
             self.assertRaises((BadJournal, BadSchema), Store, FIELDS, self.journal)
             self.assertEqual(self.journal.read_bytes(), other)
 
-    def test_named_by_mistake(self):
+    def test_named_by_mistake(self) -> None:
         """A file that isn't a journal is never emptied, unless all of it begins the line that is written."""
         with Store(FIELDS, self.journal):
             schema = self.journal.read_bytes()
@@ -199,7 +211,7 @@ class Journals(Stored):
                 self.assertEqual((len(store), store.torn), (0, size))
             self.assertEqual(self.journal.read_bytes(), schema)
 
-    def test_backwards(self):
+    def test_backwards(self) -> None:
         """The lines of a file from the last to the first, however blocks cut them."""
         lines = [b"x" * (number * 7 % 23) for number in range(200)]
         text = b"head\n" + b"".join(line + b"\n" for line in lines)
@@ -211,7 +223,7 @@ class Journals(Stored):
                         self.assertEqual(list(forth(file.fileno(), len(b"head\n"), len(text))), wanted)
                         self.assertEqual(list(forth(file.fileno(), 5, 5)), [])
 
-    def test_script(self):
+    def test_script(self) -> None:
         """The journal is a script: an index and `fts run` that execute its lines answer as the store does."""
         self.filled()
         with Store(FIELDS, self.journal) as store:
@@ -241,7 +253,7 @@ class Journals(Stored):
 class Schemas(Stored):
     """Compactions that change the schema."""
 
-    def filled(self):
+    def filled(self) -> Store:
         store = self.opened()
         for year in range(30):
             store.add({"title": f"n{year}", "shelf": "ab"[year % 2], "year": year % 4})
@@ -250,7 +262,7 @@ class Schemas(Stored):
         store.delete(5)
         return store
 
-    def test_changed(self):
+    def test_changed(self) -> None:
         """Fields are added and dropped, marks change, another kind has to be dropped first; what stays is the same."""
         store = self.filled()
         there, commit = self.all(store), store.commits
@@ -274,16 +286,17 @@ class Schemas(Stored):
         store.compact(drop=["temp"])
         self.assertEqual((store.get(7), len(store.fields)), ({"id": 7, "year": "late"}, 2))
 
-    def test_refused(self):
+    def test_refused(self) -> None:
         """A change that would lose something leaves all as it was."""
         store = self.filled()
         there, whole = self.all(store), self.journal.read_bytes()
         title, shelf, year = FIELDS
-        for more in (
+        wrong: tuple[dict[str, Any], ...] = (
             {"schema": [title, shelf]}, {"schema": [title, shelf, dilforec.i64("year")]}, {"drop": ["what"]},
             {"schema": [*FIELDS, dilforec.u64("id")]}, {"schema": [*FIELDS, dilforec.text("AND")]},
             {"drop": ["title", "shelf", "year", "x"]}, {"schema": [*FIELDS, shelf]},
-        ):
+        )
+        for more in wrong:
             with self.subTest(more):
                 self.assertRaises(BadSchema, store.compact, **more)
         self.assertRaises(TypeError, store.compact, drop="title")
@@ -291,7 +304,7 @@ class Schemas(Stored):
             self.assertRaises(BadSchema, keyed.compact, drop=["shelf"])
         self.assertEqual((self.all(store), self.journal.read_bytes()), (there, whole))
 
-    def test_faults(self):
+    def test_faults(self) -> None:
         """A call on the disk that fails, and a transaction that waits meanwhile."""
         disk = Failing()
         store = self.opened(disk=disk)
@@ -303,7 +316,13 @@ class Schemas(Stored):
                 self.assertEqual([path.name for path in self.folder.iterdir()], ["journal"])
                 store.add({"shelf": "still"})
         began, go, write = threading.Event(), threading.Event(), disk.write
-        disk.write = lambda *given: (began.set(), go.wait(20), write(*given))
+
+        def late(fd: int, data: bytes, at: int) -> None:
+            began.set()
+            go.wait(20)
+            write(fd, data, at)
+
+        self.put(disk, "write", late)
         threads = [threading.Thread(target=lambda: store.compact(drop=["shelf"]))]
         threads[0].start()
         self.assertTrue(began.wait(20))
@@ -313,17 +332,18 @@ class Schemas(Stored):
         go.set()
         for thread in threads:
             thread.join()
-        disk.write = write
+        self.put(disk, "write", write)
         self.assertEqual((len(store), store.get(2), store.search("waited").count), (6, {"id": 2}, 1))
 
 
 class Compactions(Stored):
-    def ties(self, store):
+    def ties(self, store: Store) -> list[list[tuple[int, Document]]]:
         """Top lists with ties, in both orders, and all documents."""
-        tops = [store.search("*", top=dilforec.Top("year", 100, order)).hits for order in ("rising", "falling")]
+        orders: tuple[Order, ...] = "rising", "falling"
+        tops = [store.search("*", top=dilforec.Top("year", 100, order)).hits for order in orders]
         return [[(hit.id, hit.document) for hit in hits] for hits in tops]
 
-    def test_answers(self):
+    def test_answers(self) -> None:
         """Ties, numbers and commits are the same after a compaction and a restart."""
         store = self.opened()
         for number in range(40):
@@ -344,9 +364,10 @@ class Compactions(Stored):
         store.close()
         self.assertEqual(len(self.opened()), 38)
 
-    def test_many(self):
+    def test_many(self) -> None:
         """More documents than a search gives at once."""
-        store, kept = self.opened(), {}
+        store = self.opened()
+        kept: dict[int, Document] = {}
         for start in range(0, 20_001, 1000):
             given = [{"title": "one", "year": year} for year in range(start, min(start + 1000, 20_001))]
             with store.transaction() as transaction:
@@ -360,7 +381,7 @@ class Compactions(Stored):
         store.close()
         self.assertEqual(self.all(self.opened()), kept)
 
-    def test_empty(self):
+    def test_empty(self) -> None:
         """Nothing to keep but the numbers; and again."""
         store = self.opened()
         store.compact()
@@ -372,11 +393,12 @@ class Compactions(Stored):
             store = self.opened()
         self.assertEqual((len(store), store.commits, store.add({})), (0, 2, 2))
 
-    def test_beside_writers(self):
+    def test_beside_writers(self) -> None:
         """Compactions while others write and search."""
-        store, kept = self.opened(), {}
+        store = self.opened()
+        kept: dict[int, Document] = {}
 
-        def write(writer):
+        def write(writer: int) -> None:
             for number in range(60):
                 id = store.add({"title": f"w{writer} n{number}", "year": number})
                 if number % 3 == 0:
@@ -400,17 +422,24 @@ class Compactions(Stored):
         store = self.opened()
         self.assertEqual((self.all(store), self.ties(store), store.commits), (there, ties, commit))
 
-    def test_close(self):
+    def test_close(self) -> None:
         """A close ends a compaction; the journal is whole."""
         store = self.opened()
         with store.transaction() as transaction:
             for number in range(100):
                 transaction.add({"title": "x " * 10_000})
-        told, disk = [], store._journal.disk
+        disk = store._journal.disk
+        told: list[Sizes | Stopped] = []
         began, write = threading.Event(), disk.write
-        disk.write = lambda *given: (began.set(), time.sleep(0.1), write(*given))
 
-        def compact():
+        def late(fd: int, data: bytes, at: int) -> None:
+            began.set()
+            time.sleep(0.1)
+            write(fd, data, at)
+
+        self.put(disk, "write", late)
+
+        def compact() -> None:
             try:
                 told.append(store.compact())
             except Stopped as error:
@@ -425,13 +454,19 @@ class Compactions(Stored):
         self.assertEqual([path.name for path in self.folder.iterdir()], ["journal"])
         self.assertEqual(len(self.opened()), 100)
 
-    def test_busy(self):
+    def test_busy(self) -> None:
         """A second compaction is refused while one goes on, and only then."""
         store = self.opened()
         store.add({})
         began, go = threading.Event(), threading.Event()
         write = store._journal.disk.write
-        with mock.patch.object(store._journal.disk, "write", lambda *given: (began.set(), go.wait(20), write(*given))):
+
+        def late(fd: int, data: bytes, at: int) -> None:
+            began.set()
+            go.wait(20)
+            write(fd, data, at)
+
+        with mock.patch.object(store._journal.disk, "write", late):
             thread = threading.Thread(target=store.compact)
             thread.start()
             self.assertTrue(began.wait(20))
@@ -440,7 +475,7 @@ class Compactions(Stored):
             thread.join()
         store.compact()
 
-    def test_failing(self):
+    def test_failing(self) -> None:
         """A call on the disk that fails during a compaction: the journal is as it was, and it goes on."""
         disk = Failing()
         store = self.opened(disk=disk)
@@ -463,7 +498,7 @@ class Compactions(Stored):
         store.close()
         self.assertEqual(self.all(self.opened()), there)
 
-    def test_owner(self):
+    def test_owner(self) -> None:
         """The new file has the owner, the group and the permissions of the old one, or isn't made."""
         store = self.opened()
         store.add({"title": "first"})
@@ -484,12 +519,13 @@ class Compactions(Stored):
         self.assertEqual([path.name for path in self.folder.iterdir()], ["journal"])
         self.assertEqual((self.journal.stat().st_ino, store.add({})), (after.st_ino, 3))
 
-    def test_beside(self):
+    def test_beside(self) -> None:
         """A compaction writes into no file, and through no link, that somebody else has put there."""
         store, beside, other = self.opened(), self.folder / "journal.compacting", self.folder / "other"
         store.add({"title": "first"})
         other.write_text("other")
-        for make in (lambda: beside.symlink_to(other)), (lambda: beside.write_text("theirs")):
+        makes: tuple[Call, ...] = (lambda: beside.symlink_to(other)), (lambda: beside.write_text("theirs"))
+        for make in makes:
             make()
             with mock.patch.object(_journal, "_remove"):
                 self.assertRaises(NotWritten, store.compact)
@@ -498,7 +534,7 @@ class Compactions(Stored):
             self.assertEqual(other.read_text(), "other")
         self.assertEqual(sorted(path.name for path in self.folder.iterdir()), ["journal", "other"])
 
-    def test_bits(self):
+    def test_bits(self) -> None:
         """A compaction remembers one bit for each document, from the first that is there."""
         bits = _compact._Bits(range(1_000_005, 1_080_005, 2))
         self.assertEqual(len(bits._bytes), 10_000)
@@ -506,7 +542,7 @@ class Compactions(Stored):
         bits.remove(1_000_005)
         self.assertEqual((1_000_005 in bits, 1_000_007 in bits, bits.count), (False, True, 39_999))
 
-    def test_taken_back(self):
+    def test_taken_back(self) -> None:
         """A transaction whose commit is refused after the sync isn't copied by a compaction meanwhile."""
         store = self.opened()
         store.add({"title": "first"})
@@ -515,7 +551,7 @@ class Compactions(Stored):
         with snapshot:
             compaction.write(snapshot.ids())
 
-        def commit():
+        def commit() -> None:
             compaction.follow()
             raise MemoryError
 
@@ -527,7 +563,7 @@ class Compactions(Stored):
         store.close()
         self.assertEqual((self.all(self.opened()), there), (there, {1: {"title": "first"}, 2: {"title": "third"}}))
 
-    def test_killed(self):
+    def test_killed(self) -> None:
         """kill -9 before each call on the disk of a compaction, and in the middle of each write: nothing is lost."""
         code = """if True:
             import sys, service_tools

@@ -2,6 +2,8 @@
 
     python3 test_service_kills.py [ROUNDS]
 """
+from __future__ import annotations
+
 import random
 import signal
 import sys
@@ -50,11 +52,14 @@ WRITERS = """if True:
 
 
 class Kills(Stored):
-    def setUp(self):
+    def setUp(self) -> None:
         super().setUp()
-        self.given, self.deleted, self.asked, self.commit, self.torn = set(), set(), set(), 0, 0
+        self.given: set[int] = set()
+        self.deleted: set[int] = set()
+        self.asked: set[int] = set()
+        self.commit = self.torn = 0
 
-    def test_rounds(self):
+    def test_rounds(self) -> None:
         for round in range(ROUNDS):
             chance = random.Random(round)
             self.run_writers(round, chance)
@@ -66,9 +71,10 @@ class Kills(Stored):
         told = f"{ROUNDS} rounds: {len(self.given)} documents, {len(self.deleted)} deleted, {self.torn} torn tails"
         print(told, file=sys.stderr)
 
-    def run_writers(self, round, chance):
+    def run_writers(self, round: int, chance: random.Random) -> None:
         """Writers until they are killed, and what they told."""
         process = child(WRITERS, self.journal, round, "compact" if round % 5 == 4 else "")
+        assert process.stdout
         self.assertEqual(process.stdout.readline(), b"begun\n")
         killer = threading.Timer(chance.uniform(0.01, 0.25), process.send_signal, [signal.SIGKILL])
         killer.start()
@@ -85,7 +91,7 @@ class Kills(Stored):
             else:
                 (self.deleted if kind == "-" else self.asked).update(pair)
 
-    def look(self, store):
+    def look(self, store: Store) -> None:
         """What was acknowledged is there, but what was deleted, or was to be in a transaction that wasn't told of."""
         there = set(self.all(store))
         gone = self.given - self.deleted - there

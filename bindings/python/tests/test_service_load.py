@@ -1,12 +1,17 @@
 """The command: files of documents that are loaded, cut off, and gone on with."""
+from __future__ import annotations
+
 import csv
 import json
 import os
+import pathlib
 import pty
 import signal
 import subprocess
 import sys
 import unittest
+from collections.abc import Sequence
+from typing import Any
 
 import dilforec
 from dilforec.service import Store
@@ -35,29 +40,31 @@ sys.exit(_command.main(sys.argv[3:]))
 
 
 class Loads(Stored):
-    def setUp(self):
+    def setUp(self) -> None:
         super().setUp()
         self.schema = self.folder / "schema.json"
         self.schema.write_text(json.dumps(SCHEMA))
         self.options = ("--schema", self.schema, "--journal", self.journal)
 
-    def run_command(self, *words, program=("-m", "dilforec"), status=0, **more):
-        done = subprocess.run([sys.executable, *program, *map(str, words)], capture_output=True, text=True, timeout=60,
-                              **more)
+    def run_command(
+        self, *words: object, program: Sequence[str] = ("-m", "dilforec"), status: int = 0, **more: Any,
+    ) -> str:
+        done: subprocess.CompletedProcess[str] = subprocess.run(
+            [sys.executable, *program, *map(str, words)], capture_output=True, text=True, timeout=60, **more)
         self.assertEqual(done.returncode, status, done.stderr)
         return done.stdout + done.stderr
 
-    def stored(self):
+    def stored(self) -> list[dict[str, Any]]:
         with Store([dilforec.Field(**field) for field in SCHEMA], self.journal) as store:
             return list(self.all(store).values())
 
-    def lines(self, name, count, start=0):
+    def lines(self, name: str, count: int, start: int = 0) -> pathlib.Path:
         path = self.folder / name
         numbers = range(start, start + count)
         path.write_text("".join(f'{{"title":"book {number}","year":{number}}}\n' for number in numbers))
         return path
 
-    def test_lines(self):
+    def test_lines(self) -> None:
         """JSON lines, of several files; blank lines are passed over, and the journal knows its fields the next time."""
         first, second = self.lines("a.jsonl", 25), self.lines("b.jsonl", 5, 25)
         second.write_text("\ufeff\n" + second.read_text() + "\n\n")
@@ -69,7 +76,7 @@ class Loads(Stored):
         self.assertEqual(sorted(path.name for path in self.folder.iterdir()),
                          ["a.jsonl", "b.jsonl", "c.jsonl", "journal", "schema.json"])
 
-    def test_csv(self):
+    def test_csv(self) -> None:
         """CSV, whose first line has the fields: quoted cells with line ends, empty cells, numbers."""
         path = self.folder / "books.csv"
         with path.open("w", newline="") as file:
@@ -89,7 +96,7 @@ class Loads(Stored):
             self.assertIn(words, self.run_command("load", path, *self.options, status=2))
             (self.folder / "journal.loading").unlink(missing_ok=True)
 
-    def test_refused(self):
+    def test_refused(self) -> None:
         """A line that is refused is named, what comes before its transaction is there, and then the load goes on."""
         path = self.lines("a.jsonl", 35)
         good = path.read_text()
@@ -106,7 +113,7 @@ class Loads(Stored):
         self.assertIn("going on at line 11", self.run_command("load", path, *self.options))
         self.assertEqual(sorted(document.get("year", -1) for document in self.stored()), list(range(-1, 35)))
 
-    def test_cut_off(self):
+    def test_cut_off(self) -> None:
         """Ended before a transaction is written and after, in each file: the next load has each line once."""
         files = [self.lines("a.jsonl", 25), self.lines("b.jsonl", 25, 25)]
         for when in "before", "after":
@@ -119,7 +126,7 @@ class Loads(Stored):
                     self.run_command("load", *files, *self.options, program=("-c", CUT, "0", "never"))
                     self.assertEqual([document["year"] for document in self.stored()], list(range(50)))
 
-    def test_others(self):
+    def test_others(self) -> None:
         """Others that change the journal after a crash aren't taken for the load's own transaction."""
         files, cut = [self.lines("a.jsonl", 30)], ("-c", CUT, "2", "before")
         self.run_command("load", *files, *self.options, program=cut, status=-signal.SIGKILL)
@@ -128,7 +135,7 @@ class Loads(Stored):
         self.run_command("load", *files, *self.options, program=("-c", CUT, "0", "never"))
         self.assertEqual(sorted(document.get("year", -1) for document in self.stored()), list(range(-1, 30)))
 
-    def test_terminal(self):
+    def test_terminal(self) -> None:
         """On a terminal there is a bar; elsewhere there is none. An interrupt says so, and the next load goes on."""
         path, cut = self.lines("a.jsonl", 2000), ("-c", CUT, "0", "never")
         self.assertNotIn("%", self.run_command("load", path, *self.options, program=cut))

@@ -4,19 +4,24 @@
 
 needs hypothesis (Debian: python3-hypothesis). Without the variable there are 60 runs, the same each time.
 """
+from __future__ import annotations
+
 import unittest
+from typing import Any
 
 try:
-    from service_machine import Machine
+    import service_machine
 except ImportError:
-    Machine = None
+    MACHINE: Any = None
+else:
+    MACHINE = service_machine.Machine
 
 
-@unittest.skipIf(Machine is None, "hypothesis isn't there")
+@unittest.skipIf(MACHINE is None, "hypothesis isn't there")
 class Models(unittest.TestCase):
-    def test_machine(self):
+    def test_machine(self) -> None:
         """Whatever is done to a store, it has what the model has, and answers so."""
-        test = Machine.TestCase()
+        test = MACHINE.TestCase()
         test.runTest()
 
 

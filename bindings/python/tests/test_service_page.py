@@ -1,4 +1,6 @@
 """The page in a browser, Chromium, which is told what to do through two pipes."""
+from __future__ import annotations
+
 import base64
 import json
 import os
@@ -11,20 +13,22 @@ import tempfile
 import time
 import unittest
 import urllib.parse
+from typing import Any
 
 from service_tools import Server, need_uvicorn
 
-CHROMIUM = next(filter(None, map(shutil.which, ("chromium", "chromium-browser", "google-chrome"))), None)
+CHROMIUM: str | None = next(filter(None, map(shutil.which, ("chromium", "chromium-browser", "google-chrome"))), None)
 
 
 class Browser:
     """A browser with one page. Commands are those of Chromium's DevTools protocol, each ended by a byte 0."""
 
-    def __init__(self, width=1000, height=720):
+    def __init__(self, width: int = 1000, height: int = 720) -> None:
         self.folder = tempfile.mkdtemp()
         given, self.asked = os.pipe()
         self.told, telling = os.pipe()
         # It reads descriptor 3 and writes descriptor 4.
+        assert CHROMIUM
         shell = f'exec 3<&{given} 4>&{telling}; exec "$0" "$@"'
         self.process = subprocess.Popen(
             ["sh", "-c", shell, CHROMIUM, "--headless", "--no-sandbox", "--disable-gpu", "--remote-debugging-pipe",
@@ -33,13 +37,15 @@ class Browser:
         )
         os.close(given)
         os.close(telling)
-        self.read, self.number, self.session, self.events = b"", 0, None, []
+        self.read, self.number = b"", 0
+        self.session: str | None = None
+        self.events: list[dict[str, Any]] = []
         target = next(each for each in self.do("Target.getTargets")["targetInfos"] if each["type"] == "page")
         self.session = self.do("Target.attachToTarget", targetId=target["targetId"], flatten=True)["sessionId"]
         for domain in "Page", "Runtime", "Log":
             self.do(f"{domain}.enable")
 
-    def do(self, method, **parameters):
+    def do(self, method: str, **parameters: object) -> dict[str, Any]:
         """The result of a command; what comes before it is kept in `events`."""
         self.number += 1
         asked = {"id": self.number, "method": method, "params": parameters}
@@ -57,17 +63,18 @@ class Browser:
             if message.get("id") == self.number:
                 if "error" in message:
                     raise AssertionError(message["error"])
-                return message["result"]
+                result: dict[str, Any] = message["result"]
+                return result
             self.events.append(message)
 
-    def value(self, expression):
+    def value(self, expression: str) -> Any:
         """What an expression of the page is, when its promise is kept."""
         told = self.do("Runtime.evaluate", expression=expression, awaitPromise=True, returnByValue=True)
         if "exceptionDetails" in told:
             raise AssertionError(told["exceptionDetails"])
         return told["result"].get("value")
 
-    def until(self, expression, wanted):
+    def until(self, expression: str, wanted: object) -> None:
         """Waits until an expression is what is wanted, and fails if it isn't after ten seconds."""
         for _ in range(200):
             found = self.value(expression)
@@ -76,19 +83,19 @@ class Browser:
             time.sleep(0.05)
         raise AssertionError(f"{expression} is {found!r}, not {wanted!r}")
 
-    def key(self, name, text=""):
+    def key(self, name: str, text: str = "") -> None:
         for kind in ("keyDown", "keyUp"):
             with_text = {"text": text} if text and kind == "keyDown" else {}
             self.do("Input.dispatchKeyEvent", type=kind, key=name, **with_text)
 
-    def shot(self, path):
+    def shot(self, path: str | pathlib.Path) -> None:
         """Writes a picture of the whole page, also of what is below the window."""
         size = self.do("Page.getLayoutMetrics")["cssContentSize"]
         clip = {"x": 0, "y": 0, "width": size["width"], "height": size["height"], "scale": 1}
         told = self.do("Page.captureScreenshot", captureBeyondViewport=True, clip=clip)
         pathlib.Path(path).write_bytes(base64.b64decode(told["data"]))
 
-    def close(self):
+    def close(self) -> None:
         os.close(self.asked)
         os.close(self.told)
         try:
@@ -117,17 +124,17 @@ PICK = "document.querySelector('.pick[data-of=\\'%s\\']')"
 
 @unittest.skipUnless(CHROMIUM, "there is no Chromium")
 class Page(unittest.TestCase):
-    def setUp(self):
+    def setUp(self) -> None:
         need_uvicorn()
         self.server = Server("--example")
         self.addCleanup(self.server.__exit__)
         self.browser = Browser()
         self.addCleanup(self.browser.close)
 
-    def go(self, path=""):
+    def go(self, path: str = "") -> None:
         self.browser.do("Page.navigate", url=f"http://127.0.0.1:{self.server.port}/{path}")
 
-    def test_page(self):
+    def test_page(self) -> None:
         """Counts, a picked facet, a bad query, more hits, words that are marked, the keyboard, a title with markup."""
         browser = self.browser
         self.go()
@@ -166,7 +173,7 @@ class Page(unittest.TestCase):
         faults = [each for each in browser.events if each["method"] in ("Runtime.exceptionThrown", "Log.entryAdded")]
         self.assertEqual([each for each in faults if "400" not in str(each)], [])
 
-    def test_policy(self):
+    def test_policy(self) -> None:
         """Script and style of others don't run, and the page fetches from nowhere else."""
         browser = self.browser
         self.go()
@@ -177,7 +184,7 @@ class Page(unittest.TestCase):
         fetched = browser.value("fetch('http://example.org/').then(() => 'fetched', () => 'refused')")
         self.assertEqual(fetched, "refused")
 
-    def test_state(self):
+    def test_state(self) -> None:
         """A query in the address is that of the page, and the page fits a telephone."""
         browser = self.browser
         browser.do("Emulation.setDeviceMetricsOverride", width=360, height=640, deviceScaleFactor=2, mobile=True)
@@ -189,10 +196,10 @@ class Page(unittest.TestCase):
             browser.do("Emulation.setEmulatedMedia", features=[{"name": "prefers-color-scheme", "value": scheme}])
             self.assertEqual(browser.value("getComputedStyle(document.body).backgroundColor"), ground)
 
-    def picked(self, field, value):
+    def picked(self, field: str, value: str) -> str:
         return PICK % json.dumps([field, value], separators=(",", ":"))
 
-    def test_picks(self):
+    def test_picks(self) -> None:
         """A facet that was picked can be taken off, also if no hit has it; Back and Forward, and a shared address."""
         browser = self.browser
         self.go()
@@ -228,7 +235,7 @@ class Page(unittest.TestCase):
         browser.until(f"{english}", None)
         self.assertNotIn("pick", browser.value("location.search"))
 
-    def test_enter(self):
+    def test_enter(self) -> None:
         """Enter searches at once, an order is in the address, and each search is one request."""
         browser = self.browser
         self.go()
@@ -248,7 +255,7 @@ class Page(unittest.TestCase):
         browser.value("history.back()")
         browser.until("document.getElementById('order').value", "id,falling")
 
-    def test_marks(self):
+    def test_marks(self) -> None:
         """Words are marked as the index finds them: no operators, no names of fields, nothing that is excluded."""
         documents = [
             {"title": "War or peace", "author": "Title Word",
@@ -271,7 +278,7 @@ class Page(unittest.TestCase):
                 found = browser.value("[...document.querySelectorAll('mark')].map(each => each.textContent)")
                 self.assertEqual(found, wanted)
 
-    def test_names(self):
+    def test_names(self) -> None:
         """Each input has a label, the page a heading, and texts their own direction."""
         self.go()
         self.browser.until(TOLD, "81 hits")
@@ -284,7 +291,7 @@ class Page(unittest.TestCase):
         self.browser.until(TOLD, "1 hit")
         self.assertEqual(self.browser.value("getComputedStyle(document.querySelector('h2')).direction"), "rtl")
 
-    def test_token(self):
+    def test_token(self) -> None:
         """The page asks for a token where reads need one."""
         with tempfile.TemporaryDirectory() as folder:
             token = pathlib.Path(folder, "token")
@@ -298,7 +305,7 @@ class Page(unittest.TestCase):
                 self.assertEqual(self.browser.value("document.getElementById('secret').hidden"), True)
 
 
-def shots(folder):
+def shots(folder: str) -> None:
     """Writes the screenshots of docs/SERVICE.md."""
     with Server("--example") as server:
         browser = Browser(1000, 620)

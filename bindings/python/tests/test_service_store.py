@@ -1,4 +1,6 @@
 """The store without HTTP: what it answers, and what is left after faults of its disk and its memory."""
+from __future__ import annotations
+
 import itertools
 import json
 import pathlib
@@ -11,24 +13,28 @@ import threading
 import time
 import tracemalloc
 import unittest
+from collections.abc import Callable, Iterable
+from typing import Any
 from unittest import mock
 
 import dilforec
 from dilforec import memory
 from dilforec.library import MEMORY, Channel
 from dilforec.service import (
-    BadSchema, KeyTaken, Locked, NoSuchDocument, NotWritten, Stopped, Store, TransactionRefused, VersionChanged,
-    _merger, version_of,
+    BadSchema, Done, Hit, KeyTaken, Locked, NoSuchDocument, NotWritten, Snapshot, Stopped, Store, TransactionRefused,
+    VersionChanged, _merger, version_of,
 )
 from dilforec.service._lines import read_json
 from service_tools import FIELDS, Failing, Stored
 
 
+Call = Callable[[], object]
+
 GUIDE = pathlib.Path(__file__).resolve().parents[3] / "docs/SERVICE.md"
 
 
 class Calls(Stored):
-    def test_documents(self):
+    def test_documents(self) -> None:
         """Adds, replacements, deletes, and what they answer."""
         store = self.opened()
         self.assertEqual(store.add({"title": "Programming Pearls", "year": 1986}), 1)
@@ -40,7 +46,7 @@ class Calls(Stored):
             transaction.command({"add": {"shelf": "new"}})
         self.assertEqual((transaction.ids, transaction.commit), ((2, 3, 4), 3))
         self.assertEqual(store.get(1), {"id": 1, "title": "Pearls", "year": 1999})
-        self.assertEqual([store.get(2)["title"], store.get(3), len(store)], ["Managing Gigabytes", None, 3])
+        self.assertEqual([(store.get(2) or {})["title"], store.get(3), len(store)], ["Managing Gigabytes", None, 3])
         self.assertEqual(store.delete(2), ((), 4))
         self.assertEqual([hit["id"] for hit in store.documents()], [1, 4])
         self.assertEqual([store.documents(1, 1)[0]["id"], store.documents(4)], [4, []])
@@ -48,7 +54,7 @@ class Calls(Stored):
             transaction.delete_all()
         self.assertEqual((len(store), store.add({}), store.commits), (0, 5, 6))
 
-    def test_search(self):
+    def test_search(self) -> None:
         """Several groups of one commit, top lists, chosen fields; without a top list the newest."""
         store = self.opened()
         for place in range(12):
@@ -62,18 +68,16 @@ class Calls(Stored):
         with self.assertRaises(dilforec.Syntax):
             store.search("rust OR")
 
-    def test_search_json(self):
+    def test_search_json(self) -> None:
         """The text that the service sends says what `search` does, whatever quotes and brackets values have."""
         store = self.opened()
         shelves = ["", '"', '],"top":[', '","groups":[[', "\\", '\\"}\n', '{"count":1,"top":[]}', "é\u2028"]
         for year, shelf in enumerate(shelves):
             store.add({"title": f'rust "top":[ {shelf}', "shelf": shelf, "year": year})
         with store.snapshot() as snapshot:
-            for groups, top, fields in itertools.product(
-                ([], ["shelf"], ["year"], ["shelf", "year", "shelf"]),
-                (None, dilforec.Top("year", 3, "falling")),
-                (None, [], ["id"], ["shelf", "title"]),
-            ):
+            by: list[list[str]] = [[], ["shelf"], ["year"], ["shelf", "year", "shelf"]]
+            chosen: list[list[str] | None] = [None, [], ["id"], ["shelf", "title"]]
+            for groups, top, fields in itertools.product(by, (None, dilforec.Top("year", 3, "falling")), chosen):
                 for query in "rust", "year:>5", "nothing":
                     with self.subTest(query, groups=groups, top=top, fields=fields):
                         told = json.loads(snapshot.search_json(query, groups=groups, top=top, fields=fields))
@@ -81,13 +85,14 @@ class Calls(Stored):
                         counted = {name: [list(each) for each in group.items()] for name, group in found.groups.items()}
                         hits = [hit._asdict() for hit in found.hits]
                         self.assertEqual(told, {"count": found.count, "groups": counted, "hits": hits, "commit": 8})
+            search_json: Callable[..., bytes] = snapshot.search_json
             for wrong in {"groups": "shelf"}, {"fields": "shelf"}:
                 with self.assertRaises(TypeError):
-                    snapshot.search_json("rust", **wrong)
+                    search_json("rust", **wrong)
             with self.assertRaises(dilforec.Syntax):
                 snapshot.search_json("rust OR")
 
-    def test_memory(self):
+    def test_memory(self) -> None:
         """A large answer, of groups or of documents, takes at most five times its bytes of memory while it is made."""
         store = self.opened()
         with store.transaction() as transaction:
@@ -95,7 +100,9 @@ class Calls(Stored):
                 transaction.add({"year": year})
             for _ in range(200):
                 transaction.add({"title": "word " * 4000})
-        asks = {"groups": ["year"], "fields": []}, {"top": dilforec.Top("id", 200, "falling")}
+        asks: tuple[dict[str, Any], ...] = (
+            {"groups": ["year"], "fields": []}, {"top": dilforec.Top("id", 200, "falling")},
+        )
         with store.snapshot() as snapshot:
             for asked in asks:
                 # Its room stays.
@@ -106,15 +113,16 @@ class Calls(Stored):
                 tracemalloc.stop()
                 self.assertLess(most, 5 * len(told))
 
-    def test_refusals(self):
+    def test_refusals(self) -> None:
         """What is refused leaves nothing, neither in the index nor in the file."""
         store = self.opened()
         store.add({"title": "first"})
         size = self.journal.stat().st_size
-        for wrong, call in [
+        nothing: Any = []
+        calls: list[tuple[type[Exception], Call]] = [
             (dilforec.UnknownField, lambda: store.add({"titel": "x"})),
             (dilforec.WrongKind, lambda: store.replace(1, {"year": "late"})),
-            (dilforec.NotAnObject, lambda: store.add([])),
+            (dilforec.NotAnObject, lambda: store.add(nothing)),
             (dilforec.BadJson, lambda: store.add({"title": "\ud800"})),
             (dilforec.BadJson, lambda: store.add({"year": float("nan")})),
             (dilforec.LineTooLong, lambda: store.add({"title": ["x" * 1_000_000] * 5})),
@@ -122,7 +130,8 @@ class Calls(Stored):
             (ValueError, lambda: store.replace(1, {"id": 2})),
             (NoSuchDocument, lambda: store.replace(2, {})),
             (NoSuchDocument, lambda: store.delete(2)),
-        ]:
+        ]
+        for wrong, call in calls:
             with self.subTest(wrong.__name__), self.assertRaises(wrong):
                 call()
         with self.assertRaises(TransactionRefused) as raised, store.transaction() as transaction:
@@ -141,7 +150,7 @@ class Calls(Stored):
         self.assertEqual((self.all(store), self.journal.stat().st_size), ({1: {"title": "first"}}, size))
         self.assertEqual((store.add({}), store.replace(1, {"id": 1})), (2, ((1,), 3)))
 
-    def test_json(self):
+    def test_json(self) -> None:
         """JSON that the service is sent means what it does in a script."""
         store = self.opened()
         for text in '{"add":{"year":-0}}', '{"add":{"year":1.0}}':
@@ -152,7 +161,7 @@ class Calls(Stored):
             self.assertRaises(ValueError, read_json, text)
         self.assertEqual(read_json('{"a":[0,-1,"-0",18446744073709551616]}'), {"a": [0, -1, "-0", 1 << 64]})
 
-    def test_long(self):
+    def test_long(self) -> None:
         """A transaction of some megabytes: all of it, or the number of the one that is refused."""
         store = self.opened()
         for late in (None, 2, 30):
@@ -162,9 +171,10 @@ class Calls(Stored):
                         transaction.add({"title": "x " * 50_000, "year": "late" if number == late else number})
                 self.assertEqual((late, len(transaction.ids), len(store)), (None, 40, 40))
             except TransactionRefused as error:
+                assert late is not None
                 self.assertEqual((error.number, len(store)), (late + 1, 40))
 
-    def test_schemas(self):
+    def test_schemas(self) -> None:
         """A schema that can't be a store's is refused, and no file is made."""
         for fields in (
             [dilforec.u64("id")], [dilforec.u64(f"n{number}") for number in range(32)], [dilforec.text("AND")],
@@ -177,12 +187,12 @@ class Calls(Stored):
         with self.assertRaises(BadSchema):
             Store(FIELDS, self.journal)
 
-    def test_locked(self):
+    def test_locked(self) -> None:
         """A journal is open once; another store, and a compaction, are refused while it is."""
         store = self.opened()
         with self.assertRaises(Locked):
             Store(FIELDS, self.journal)
-        command = [sys.executable, "-m", "dilforec", "compact", "--journal", self.journal]
+        command: list[str | pathlib.Path] = [sys.executable, "-m", "dilforec", "compact", "--journal", self.journal]
         done = subprocess.run(command, capture_output=True, text=True)
         self.assertEqual((done.returncode, "open in another process" in done.stderr), (2, True), done.stderr)
         store.compact()
@@ -194,14 +204,15 @@ class Calls(Stored):
         self.assertEqual((done.returncode, "1 documents" in done.stdout), (0, True), done.stderr)
         self.opened()
 
-    def test_closed(self):
+    def test_closed(self) -> None:
         store = self.opened()
         store.close()
         store.close()
-        for call in (lambda: store.add({}), lambda: store.search("*"), store.compact, store.snapshot):
+        calls: tuple[Call, ...] = (lambda: store.add({}), lambda: store.search("*"), store.compact, store.snapshot)
+        for call in calls:
             self.assertRaises(Stopped, call)
 
-    def test_documented(self):
+    def test_documented(self) -> None:
         """The example of docs/SERVICE.md runs as it is written."""
         blocks = re.findall(r"(?:^(?:    .*)?\n)+", GUIDE.read_text("utf-8"), re.MULTILINE)
         (example,) = [block for block in blocks if "from dilforec" in block]
@@ -209,25 +220,25 @@ class Calls(Stored):
         done = subprocess.run(command, cwd=self.folder, capture_output=True, text=True)
         self.assertEqual((done.returncode, done.stdout.startswith("(1,) 1 (Hit(id=1, value=1986,")), (0, True), done)
 
-    def test_snapshot(self):
+    def test_snapshot(self) -> None:
         """A snapshot finds its commit, whatever is committed meanwhile."""
         store = self.opened()
         store.add({"title": "x"})
         with store.snapshot() as snapshot:
             store.delete(1)
-            self.assertEqual((snapshot.commit, len(snapshot), snapshot.get(1)["title"]), (1, 1, "x"))
+            self.assertEqual((snapshot.commit, len(snapshot), (snapshot.get(1) or {})["title"]), (1, 1, "x"))
         self.assertEqual(len(store), 0)
 
 
 class Keys(Stored):
     """Stores whose documents are known by a key."""
 
-    def keyed(self, **more):
+    def keyed(self, **more: Any) -> Store:
         store = Store(FIELDS, self.journal, key="shelf", **more)
         self.addCleanup(store.close)
         return store
 
-    def test_documents(self):
+    def test_documents(self) -> None:
         """What is added with a key that is there replaces, and has its number."""
         store = self.keyed()
         self.assertEqual([store.add({"shelf": key, "year": year}) for year, key in enumerate("abaa")], [1, 2, 1, 1])
@@ -236,7 +247,7 @@ class Keys(Stored):
         self.assertEqual(store.put_by_key("c", {"shelf": "c"}), ((3,), 6))
         self.assertEqual((store.get_by_key("c"), store.get_by_key("d")), ({"id": 3, "shelf": "c"}, None))
         self.assertEqual(store.replace(3, {"shelf": "d"}), ((3,), 7))
-        self.assertEqual((store.get_by_key("c"), store.get_by_key("d")["id"]), (None, 3))
+        self.assertEqual((store.get_by_key("c"), (store.get_by_key("d") or {})["id"]), (None, 3))
         self.assertEqual((store.delete_by_key("a"), store.get_by_key("a")), (((), 8), None))
         self.assertEqual((store.add({"shelf": "a"}), store.key_of("0")), (4, "0"))
         with store.transaction() as transaction:
@@ -261,11 +272,11 @@ class Keys(Stored):
         store.close()
         self.assertEqual(self.all(self.keyed()), there)
 
-    def test_refusals(self):
+    def test_refusals(self) -> None:
         store = self.keyed()
         store.add({"shelf": "a"})
         store.add({"shelf": "b"})
-        for wrong, call in [
+        calls: list[tuple[type[Exception], Call]] = [
             (ValueError, lambda: store.add({"year": 1})), (ValueError, lambda: store.replace(1, {})),
             (ValueError, lambda: store.put_by_key("a", {"shelf": "b"})),
             (NoSuchDocument, lambda: store.delete_by_key("c")),
@@ -274,7 +285,8 @@ class Keys(Stored):
             (dilforec.UnknownField, lambda: store.add({"shelf": "a", "what": 1})),
             (KeyTaken, lambda: store.replace(1, {"shelf": "b"})),
             (NoSuchDocument, lambda: store.put_by_key("c", {"shelf": "c"}, version="*")),
-        ]:
+        ]
+        for wrong, call in calls:
             with self.subTest(wrong.__name__), self.assertRaises(wrong):
                 call()
         self.assertEqual(self.all(store), {1: {"shelf": "a"}, 2: {"shelf": "b"}})
@@ -284,7 +296,7 @@ class Keys(Stored):
             for call in (lambda: plain.get_by_key("a"), lambda: plain.put_by_key("a", {}), lambda: plain.key_of("a")):
                 self.assertRaises(ValueError, call)
 
-    def test_numbers(self):
+    def test_numbers(self) -> None:
         """Keys that are numbers, and the texts that mean them."""
         with Store([*FIELDS, dilforec.i64("n")], self.journal, key="n") as store:
             self.assertEqual([store.add({"n": n}) for n in (-5, 0, -5)], [1, 2, 1])
@@ -293,17 +305,18 @@ class Keys(Stored):
                 self.assertRaises(ValueError, store.key_of, text)
             self.assertRaises(dilforec.WrongKind, store.delete_by_key, True)
 
-    def test_versions(self):
+    def test_versions(self) -> None:
         """A change that names a version is done if the document has it, also after a restart and a compaction."""
         store = self.keyed()
         store.add({"shelf": "a", "title": ["x", "y"], "year": 7})
         read = store.get(1)
+        assert read
         version = version_of(read)
         self.assertEqual(version, version_of(dict(reversed(read.items()))))
         store.compact()
         store.close()
         store = self.keyed()
-        self.assertEqual(version_of(store.get_by_key("a")), version)
+        self.assertEqual(version_of(store.get_by_key("a") or {}), version)
         self.assertEqual(store.replace(1, {"shelf": "a", "year": 8}, version=version).ids, (1,))
         for call in (
             lambda: store.replace(1, {"shelf": "a"}, version=version), lambda: store.delete(1, version=version),
@@ -316,14 +329,15 @@ class Keys(Stored):
         store.replace(1, {"shelf": "a", "title": ["x", "y"], "year": 7})
         self.assertEqual(store.delete_by_key("a", version=version), ((), 4))
 
-    def test_one_of_many(self):
+    def test_one_of_many(self) -> None:
         """Of threads that change a document of one version at the same time, one does."""
         store = self.keyed()
         for round in range(10):
             store.put_by_key("a", {"shelf": "a", "year": 1000 + round})
-            version, done, lock = version_of(store.get(1)), [], threading.Lock()
+            version, lock = version_of(store.get(1) or {}), threading.Lock()
+            done: list[int] = []
 
-            def change(number):
+            def change(number: int) -> None:
                 try:
                     store.replace(1, {"shelf": "a", "year": number}, version=version)  # noqa: B023
                     with lock:  # noqa: B023
@@ -332,14 +346,15 @@ class Keys(Stored):
                     pass
 
             run_all(change, 8)
-            self.assertEqual(([store.get(1)["year"]], len(store)), (done, 1))
+            self.assertEqual(([(store.get(1) or {})["year"]], len(store)), (done, 1))
 
 
 class Pages(Stored):
     """Top lists that are gone on with after their last hit."""
 
-    def pages(self, searching, query, top, **more):
-        after, hits = None, []
+    def pages(self, searching: Snapshot, query: str, top: dilforec.Top, **more: Any) -> tuple[list[Hit], int]:
+        after = None
+        hits: list[Hit] = []
         while True:
             found = searching.search(query, top=top, after=after, **more)
             text = json.loads(searching.search_json(query, top=top, after=after, **more))
@@ -349,7 +364,7 @@ class Pages(Stored):
                 return hits, found.count
             after = (found.hits[-1].value, found.hits[-1].id)
 
-    def test_each_hit(self):
+    def test_each_hit(self) -> None:
         """Each hit comes once, by value and then by number, however many have one value and were written anew."""
         store, chance = self.opened(), random.Random(5)
         with store.transaction() as transaction:
@@ -360,9 +375,9 @@ class Pages(Stored):
             id = chance.randint(1, 300)
             store.replace(id, {"title": "rust", "year": chance.choice([1, 2, 2, 2])})
         with store.snapshot() as snapshot:
-            found_by = {
-                "*": lambda has: True, "rust": lambda has: has["title"] == "rust",
-                "rust year:2": lambda has: has["title"] == "rust" or has["year"] == 2,
+            found_by: dict[str, Callable[[dict[str, Any]], bool]] = {
+                "*": lambda has: True, "rust": lambda has: bool(has["title"] == "rust"),
+                "rust year:2": lambda has: bool(has["title"] == "rust" or has["year"] == 2),
             }
             there = [document for document in snapshot.documents(limit=1000) if "year" in document]
             for query, k, order in itertools.product(found_by, [1, 7, 60, 299], ["rising", "falling"]):
@@ -376,7 +391,7 @@ class Pages(Stored):
             self.assertEqual(snapshot.search("*", after=(11, 11)).hits[0].id, 10)
             self.assertEqual(snapshot.search(" ", top=dilforec.Top("year", 5), after=(1, 1)).hits, ())
 
-    def test_limits(self):
+    def test_limits(self) -> None:
         """What can't be gone on with says so, and its first page is there all the same."""
         store = self.opened()
         for _ in range(5):
@@ -391,7 +406,7 @@ class Pages(Stored):
         for after in (1,), ("1", 2), (1, -1), (1, 2, 3), (True, 1):
             self.assertRaises(ValueError, store.search, "*", top=top, after=after)
 
-    def test_long(self):
+    def test_long(self) -> None:
         """Ten thousand of one value, and more."""
         store = self.opened()
         with store.transaction() as transaction:
@@ -405,7 +420,7 @@ class Pages(Stored):
 
 
 class Merges(Stored):
-    def test_beside(self):
+    def test_beside(self) -> None:
         """A thread makes large segments while transactions and searches go on, and closing doesn't wait for it."""
         with mock.patch.object(_merger, "MOST_IN_A_COMMIT", 0):
             store = self.opened()
@@ -423,7 +438,7 @@ class Merges(Stored):
         store.close()
         self.assertEqual((len(self.opened()), store.writable), (119, False))
 
-    def test_memory_is_given_back(self):
+    def test_memory_is_given_back(self) -> None:
         """What was before a merge goes back to the system after it, and what a start leaves."""
         with mock.patch.object(_merger, "MOST_IN_A_COMMIT", 0), mock.patch.object(memory, "trim") as trim:
             store = self.opened()
@@ -436,7 +451,7 @@ class Merges(Stored):
             self.assertGreater(trim.call_count, 1)
             store.close()
 
-    def test_without_memory_or_threads(self):
+    def test_without_memory_or_threads(self) -> None:
         """A merge that can't be begun, run or ended is begun again after a later commit."""
         with mock.patch.object(_merger, "MOST_IN_A_COMMIT", 0):
             store = self.opened()
@@ -456,11 +471,11 @@ class Merges(Stored):
             time.sleep(0.01)
         self.assertLessEqual(self.segments(store), 10)
 
-    def test_closed_meanwhile(self):
+    def test_closed_meanwhile(self) -> None:
         """A store closes while a merge runs."""
         begun, closed = threading.Event(), threading.Event()
 
-        def run(merge, run=dilforec.Merge.run):
+        def run(merge: dilforec.Merge, run: Callable[[dilforec.Merge], None] = dilforec.Merge.run) -> None:
             begun.set()
             closed.wait(20)
             run(merge)
@@ -474,20 +489,25 @@ class Merges(Stored):
             closed.set()
         self.assertEqual(len(self.opened()), 20)
 
-    def segments(self, store):
+    def segments(self, store: Store) -> int:
         with store.snapshot() as snapshot:
             return snapshot.stats().segments
 
 
 class Threads(Stored):
-    def test_groups(self):
+    def test_groups(self) -> None:
         """Transactions that wait at the same time share a sync; a refused one among them hinders none."""
         disk = Failing()
         store, told, lock = self.opened(disk=disk), [], threading.Lock()
         slow = disk.sync
-        disk.sync = lambda fd: (time.sleep(0.005), slow(fd))
 
-        def write(writer):
+        def slowly(fd: int) -> None:
+            time.sleep(0.005)
+            slow(fd)
+
+        self.put(disk, "sync", slowly)
+
+        def write(writer: int) -> None:
             for number in range(20):
                 try:
                     with store.transaction() as transaction:
@@ -502,26 +522,32 @@ class Threads(Stored):
         self.assertEqual((len(told), len(store)), (256, 512))
         self.assertLess(disk.calls.count("write"), 200)
         for ids, commit, title in told:
-            self.assertEqual((store.get(ids[0])["title"], ids[1] in range(1, 513)), (title, True))
+            self.assertEqual(((store.get(ids[0]) or {})["title"], ids[1] in range(1, 513)), (title, True))
         self.assertEqual(len({id for ids, _, _ in told for id in ids}), 512)
 
-    def test_in_a_group(self):
+    def test_in_a_group(self) -> None:
         """What needs a document sees what came before it in its group."""
         disk = Failing()
         store = self.opened(disk=disk)
         store.add({"title": "a", "shelf": "x"})
         began, go = threading.Event(), threading.Event()
         first = disk.sync
-        disk.sync = lambda fd: (began.set(), go.wait(10), first(fd))
-        came = []
 
-        def call(name, do):
+        def wait(fd: int) -> None:
+            began.set()
+            go.wait(10)
+            first(fd)
+
+        self.put(disk, "sync", wait)
+        came: list[tuple[str, tuple[object, ...] | None]] = []
+
+        def call(name: str, do: Callable[[], Iterable[object]]) -> None:
             try:
                 came.append((name, tuple(do())))
             except NoSuchDocument:
                 came.append((name, None))
 
-        def by_value():
+        def by_value() -> Done:
             with store.transaction() as transaction:
                 transaction.delete("shelf", "x")
             return transaction.done
@@ -541,13 +567,13 @@ class Threads(Stored):
         told = dict(came)
         self.assertEqual((told["again"], self.all(store)), (None, {2: {"title": "b"}}))
 
-    def test_many_refused(self):
+    def test_many_refused(self) -> None:
         """Refused transactions among those that wait together: each line is executed once, by one sync."""
         disk = Failing()
         store, executed = self.opened(disk=disk), []
         transact = Channel.transact
 
-        def counted(channel, block, lines, **given):
+        def counted(channel: Channel, block: bytes, lines: int, **given: bool) -> tuple[int, int, bytes]:
             executed.append(lines)
             return transact(channel, block, lines, **given)
 
@@ -560,21 +586,22 @@ class Threads(Stored):
         self.assertEqual(executed, [2] * 800)
         self.assertEqual((disk.calls.count("write"), store.commits), (2, 1))
         self.assertEqual([type(each.error) for each in wait], [type(None), TransactionRefused] * 400)
-        self.assertEqual({(each.error.number, each.error.refusal.name) for each in wait[1::2]}, {(2, "WrongKind")})
+        refused = [each.error for each in wait[1::2] if isinstance(each.error, TransactionRefused)]
+        self.assertEqual({(error.number, error.refusal.name) for error in refused}, {(2, "WrongKind")})
         self.assertEqual([each.ids for each in wait[::2]], [(id, id + 1) for id in range(1, 801, 2)])
         self.assertEqual((len(store), store.search("year:<800").count), (800, 800))
         there = self.all(store)
         store.close()
         self.assertEqual(self.all(self.opened()), there)
 
-    def test_no_memory_in_a_group(self):
+    def test_no_memory_in_a_group(self) -> None:
         """A transaction for which there is no memory has an error, and the others of its group are done."""
         store = self.opened()
         transact = Channel.transact
         for refusals in 1, 4:
             left = [refusals]
 
-            def short(channel, block, lines, **given):
+            def short(channel: Channel, block: bytes, lines: int, **given: bool) -> tuple[int, int, bytes]:
                 if not left[0]:  # noqa: B023
                     return transact(channel, block, lines, **given)
                 left[0] -= 1  # noqa: B023
@@ -590,7 +617,7 @@ class Threads(Stored):
             self.assertEqual(kinds, [NotWritten] * refusals + [type(None)] * (4 - refusals))
             self.assertEqual((len(store), store.writable), (6, True))
 
-    def test_no_memory_to_look(self):
+    def test_no_memory_to_look(self) -> None:
         """If there is no memory to look for a document, that change isn't done, and the others are."""
         store = self.opened()
         store.add({})
@@ -603,7 +630,7 @@ class Threads(Stored):
         self.assertEqual([type(each.error) for each in wait], [type(None), NotWritten, type(None)])
         self.assertEqual((self.all(store), store.writable), ({1: {}, 2: {}, 3: {}}, True))
 
-    def test_one_after_the_other(self):
+    def test_one_after_the_other(self) -> None:
         """Transactions that wait together do what they would do one after the other."""
         store = self.opened()
         store.add({"title": "rust", "shelf": "x"})
@@ -623,11 +650,11 @@ class Threads(Stored):
         for wrong in store.new_transaction(), wait[0]:
             self.assertRaises(ValueError, store.do, wrong)
 
-    def test_readers(self):
+    def test_readers(self) -> None:
         """A reader in a loop never sees half a transaction, and commits never fall."""
         store, wrong, ended = self.opened(), [], threading.Event()
 
-        def read(_):
+        def read(_: object) -> None:
             last = 0
             while not ended.is_set():
                 found = store.search("*", groups=["shelf"], top=dilforec.Top("year", 1))
@@ -640,7 +667,7 @@ class Threads(Stored):
         for reader in readers:
             reader.start()
 
-        def write(writer):
+        def write(writer: int) -> None:
             for number in range(30):
                 with store.transaction() as transaction:
                     transaction.add({"shelf": "a", "year": number})
@@ -657,11 +684,11 @@ class Threads(Stored):
         self.assertEqual((wrong, len(store)), ([], 120))
 
 
-def run_all(call, count):
+def run_all(call: Callable[[int], object], count: int) -> None:
     """Runs a call in threads, and raises what one of them raised."""
     raised = []
 
-    def one(number):
+    def one(number: int) -> None:
         try:
             call(number)
         except BaseException as error:

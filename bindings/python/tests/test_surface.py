@@ -1,4 +1,6 @@
 """What the package answers, and what it says of mistakes."""
+from __future__ import annotations
+
 import ast
 import copy
 import pathlib
@@ -6,9 +8,13 @@ import pickle
 import re
 import threading
 import unittest
+from collections.abc import Callable, Iterator, Sequence
+from typing import Any
 
 import dilforec
 from dilforec import refusals
+
+Call = Callable[[], object]
 
 ROOT = pathlib.Path(__file__).resolve().parents[3]
 FIELDS = (
@@ -17,7 +23,7 @@ FIELDS = (
 LONG = "я" * 450_000
 
 
-def opened(*documents):
+def opened(*documents: dict[str, Any]) -> dilforec.Index:
     index = dilforec.Index(*FIELDS)
     for document in documents:
         index.add(document)
@@ -26,10 +32,10 @@ def opened(*documents):
 
 
 class Sentences(unittest.TestCase):
-    def test_refusals(self):
+    def test_refusals(self) -> None:
         """A refusal says what is wrong, with the field or the value, and no number of a line that nobody has."""
         with opened() as index:
-            for sentence, call in [
+            calls: list[tuple[str, Call]] = [
                 ("the schema has no field 'titel'", lambda: index.add({"title": "a", "titel": "b"})),
                 ("the schema has no field 'titel'", lambda: index.search("titel:a")),
                 ("the schema has no field 'titel'", lambda: index.search("a", groups="titel")),
@@ -47,37 +53,42 @@ class Sentences(unittest.TestCase):
                 ("the query can't be read from 'OR' on", lambda: index.search("rust OR")),
                 ("the query ends too early", lambda: index.search("(rust")),
                 ("parentheses of a query nest more than 32 deep", lambda: index.search("(" * 33)),
-            ]:
+            ]
+            for sentence, call in calls:
                 with self.subTest(sentence), self.assertRaises(dilforec.Refused) as raised:
                     call()
                 self.assertIn(sentence, str(raised.exception))
                 self.assertNotRegex(str(raised.exception), "line [0-9]")
             self.assertEqual(index.add({}), 2)
 
-    def test_mistakes(self):
+    def test_mistakes(self) -> None:
         """What isn't of its type is a TypeError or a ValueError with a sentence, before the index is asked."""
         with opened() as index:
-            for error, sentence, call in [
-                (TypeError, "a query is a str, not NoneType", lambda: index.search(None)),
-                (TypeError, "a query is a str, not int", lambda: index.hits(1, "year")),
-                (TypeError, "a field is made by dilforec.text", lambda: dilforec.Index("a")),
-                (TypeError, "a searcher is opened by index.searcher()", lambda: dilforec.Searcher(index)),
+            # As code calls them that isn't checked for its types.
+            package: Any = dilforec
+            untyped: Any = index
+            mistakes: list[tuple[type[Exception], str, Call]] = [
+                (TypeError, "a query is a str, not NoneType", lambda: untyped.search(None)),
+                (TypeError, "a query is a str, not int", lambda: untyped.hits(1, "year")),
+                (TypeError, "a field is made by dilforec.text", lambda: package.Index("a")),
+                (TypeError, "a searcher is opened by index.searcher()", lambda: package.Searcher(index)),
                 (ValueError, "the order of a top list is 'rising' or 'falling', not 'desc'",
-                 lambda: dilforec.Top("year", 1, "desc")),
-                (TypeError, "the length of a top list is an int, not str", lambda: dilforec.Top("year", "1")),
-                (ValueError, "a field's kind is", lambda: dilforec.Field("a", "blob")),
-                (TypeError, "a document is a mapping", lambda: index.add(["a"])),
-                (TypeError, "a line is a str or bytes, not int", lambda: index.execute(1)),
-                (TypeError, "fields are a list of names", lambda: index.search("a", fields="title")),
-                (TypeError, "groups are by the name of a field", lambda: index.search("a", groups=1)),
-                (TypeError, "a top list is a dilforec.Top", lambda: index.search("a", top=("year", 1))),
-            ]:
+                 lambda: package.Top("year", 1, "desc")),
+                (TypeError, "the length of a top list is an int, not str", lambda: package.Top("year", "1")),
+                (ValueError, "a field's kind is", lambda: package.Field("a", "blob")),
+                (TypeError, "a document is a mapping", lambda: untyped.add(["a"])),
+                (TypeError, "a line is a str or bytes, not int", lambda: untyped.execute(1)),
+                (TypeError, "fields are a list of names", lambda: untyped.search("a", fields="title")),
+                (TypeError, "groups are by the name of a field", lambda: untyped.search("a", groups=1)),
+                (TypeError, "a top list is a dilforec.Top", lambda: untyped.search("a", top=("year", 1))),
+            ]
+            for error, sentence, call in mistakes:
                 with self.subTest(sentence), self.assertRaises(error) as raised:
                     call()
                 self.assertIn(sentence, str(raised.exception))
             self.assertEqual(index.add({}), 2)
 
-    def test_pickled(self):
+    def test_pickled(self) -> None:
         """A refusal of each name can be pickled and copied, and stays what it was."""
         for name, kind in refusals.BY_NAME.items():
             error = refusals.refused(name, 7, "the sentence" if name == "Syntax" else "")
@@ -94,14 +105,17 @@ class Sentences(unittest.TestCase):
 
 
 class Syntax(unittest.TestCase):
-    def test_at(self):
+    def test_at(self) -> None:
         """A query that isn't in the grammar tells how far it can be read, in characters, to an index and a searcher."""
         with opened() as index, index.searcher() as searcher:
             for query, rest in [("rust OR", "OR"), ("(rust", ""), ("rust )", ")"), ("яя AND", "AND"), ('я "я', ""),
                                 ("\U0001f600:[1 TO", " TO"), ("--a", "-a"), ("a NOT(b)", "(b)")]:
                 for each in index, searcher:
-                    for call in (lambda: each.search(query), lambda: each.search(query, groups=["shelf", "year"]),  # noqa: B023
-                                 lambda: each.search(query, fields=["title"])):  # noqa: B023
+                    calls: tuple[Call, ...] = (
+                        lambda: each.search(query), lambda: each.search(query, groups=["shelf", "year"]),  # noqa: B023
+                        lambda: each.search(query, fields=["title"]),  # noqa: B023
+                    )
+                    for call in calls:
                         with self.subTest(query), self.assertRaises(dilforec.Syntax) as raised:
                             call()
                         at = raised.exception.at
@@ -109,13 +123,15 @@ class Syntax(unittest.TestCase):
             for query in "", "rust", "-rust", "titel:a", "year:late", "(" * 33, "a" * 5000:
                 self.assertIsNone(dilforec.library.syntax_at(query), query)
 
-    def test_unknown(self):
+    def test_unknown(self) -> None:
         """What is refused in a line of a script has no query that the package knows."""
-        self.assertIsNone(refusals.refused("Syntax", 1).at)
+        unknown = refusals.refused("Syntax", 1)
+        assert isinstance(unknown, dilforec.Syntax)
+        self.assertIsNone(unknown.at)
 
 
 class Stats(unittest.TestCase):
-    def test_merges(self):
+    def test_merges(self) -> None:
         """A merge is run in another thread while the index goes on, and then ended."""
         with dilforec.Index() as index:
             self.assertRaises(dilforec.NoSchema, index.limit_merges, 0)
@@ -127,7 +143,9 @@ class Stats(unittest.TestCase):
             for year in range(8):
                 with index.transaction():
                     index.add({"title": "rust", "year": year})
-            with index.begin_merge() as merge:
+            begun = index.begin_merge()
+            assert begun
+            with begun as merge:
                 self.assertFalse(index.end_merge())
                 thread = threading.Thread(target=merge.run)
                 thread.start()
@@ -141,7 +159,7 @@ class Stats(unittest.TestCase):
             index.limit_merges(None)
             index.limit_merges(2**40)
 
-    def test_stats(self):
+    def test_stats(self) -> None:
         """Segments and documents of the last commit; a searcher tells those of its own."""
         with dilforec.Index() as index:
             self.assertEqual(index.stats(), (0, 0, 0))
@@ -163,7 +181,7 @@ class Stats(unittest.TestCase):
 
 
 class Utf8(unittest.TestCase):
-    def test_long_document(self):
+    def test_long_document(self) -> None:
         """A document within the limits is never too long for a line."""
         fields = [dilforec.text(name, default=True) for name in "abcd"]
         with dilforec.Index(*fields) as index:
@@ -172,22 +190,26 @@ class Utf8(unittest.TestCase):
             index.commit()
             self.assertEqual(index.search(LONG[:128]).count, 0)
 
-    def test_surrogates(self):
+    def test_surrogates(self) -> None:
         with opened() as index:
-            for call in (lambda: index.add({"title": "\ud800"}), lambda: index.search("\ud800")):
+            calls: tuple[Call, ...] = (lambda: index.add({"title": "\ud800"}), lambda: index.search("\ud800"))
+            for call in calls:
                 self.assertRaises(dilforec.BadJson, call)
             self.assertEqual(index.add({"title": "\U0001f600 й\n\x00"}), 2)
 
-    def test_lines(self):
+    def test_lines(self) -> None:
         """A line is text or bytes of any kind."""
         line = '{"add":{"title":"й"}}'
         with opened() as index:
-            for number, given in enumerate([line, line.encode(), bytearray(line.encode()), memoryview(line.encode())]):
+            lines: list[str | bytes | bytearray | memoryview] = [
+                line, line.encode(), bytearray(line.encode()), memoryview(line.encode()),
+            ]
+            for number, given in enumerate(lines):
                 self.assertEqual(index.execute(given), b'{"stamp":%d}\n' % (number + 2))
 
 
 class Calls(unittest.TestCase):
-    def test_groups(self):
+    def test_groups(self) -> None:
         """Groups of several fields are of one commit; one name answers a dict by value."""
         with opened({"shelf": "a", "year": 1}, {"shelf": "a", "year": 2}, {"shelf": "b"}) as index:
             for each in index, index.searcher():
@@ -195,42 +217,49 @@ class Calls(unittest.TestCase):
                 answer = each.search("*", groups=["shelf", "year"], top=dilforec.Top("year", 1), fields=["shelf"])
                 self.assertEqual(answer.groups, {"shelf": {"a": 2, "b": 1}, "year": {1: 1, 2: 1}})
                 self.assertEqual((answer.count, list(answer)), (3, [dilforec.Hit(1, 1, {"shelf": "a"})]))
-                self.assertEqual(each.search("*", groups=[]).groups, {})
+                nothing: list[str] = []
+                self.assertEqual(each.search("*", groups=nothing).groups, {})
 
-    def test_most_frequent(self):
+    def test_most_frequent(self) -> None:
         """Groups with a limit are the most frequent values, those of equal counts by their order."""
         books = [{"shelf": shelf, "year": year} for shelf, year in [("b", 1), ("a", 2), ("c", 2), ("a", 3), ("b", 4)]]
         few, top = dilforec.Groups("shelf", limit=2), dilforec.Top("year", 1)
         with opened(*books) as index:
             for each in index, index.searcher():
-                for limit, wanted in [(0, []), (1, [("a", 2)]), (2, [("a", 2), ("b", 2)]), (9, [("a", 2), ("b", 2), ("c", 1)])]:
+                limits: list[tuple[int, list[tuple[str, int]]]] = [
+                    (0, []), (1, [("a", 2)]), (2, [("a", 2), ("b", 2)]), (9, [("a", 2), ("b", 2), ("c", 1)]),
+                ]
+                for limit, wanted in limits:
                     found = each.search("*", groups=dilforec.Groups("shelf", limit), top=top)
                     self.assertEqual((list(found.groups.items()), found.hits[0].document), (wanted, books[0]))
-                for fields, document in [(None, books[0]), (["year"], {"year": 1})]:
-                    found = each.search("*", groups=[few, "year", dilforec.Groups("year", 1)], top=top, fields=fields)
-                    self.assertEqual((found.groups["shelf"], found.groups["year"]), ({"a": 2, "b": 2}, {2: 2}))
-                    self.assertEqual((found.count, found.hits[0].document), (5, document))
+                chosen: list[tuple[list[str] | None, dict[str, Any]]] = [(None, books[0]), (["year"], {"year": 1})]
+                for fields, document in chosen:
+                    asked: list[str | dilforec.Groups] = [few, "year", dilforec.Groups("year", 1)]
+                    several = each.search("*", groups=asked, top=top, fields=fields)
+                    self.assertEqual((several.groups["shelf"], several.groups["year"]), ({"a": 2, "b": 2}, {2: 2}))
+                    self.assertEqual((several.count, several.hits[0].document), (5, document))
                 self.assertEqual(each.search("*", groups=few, fields=["year"]).groups, {"a": 2, "b": 2})
                 self.assertRaises(dilforec.NotANumberField, each.search, "*", groups=dilforec.Groups("title", 1))
         self.assertRaises(TypeError, dilforec.Groups, 7, 1)
         self.assertRaises(TypeError, dilforec.Groups, "shelf", "few")
         self.assertRaises(ValueError, dilforec.Groups, "shelf", -1)
 
-    def test_fields(self):
+    def test_fields(self) -> None:
         """Documents have the chosen fields alone."""
         book = {"title": ["Left", "Hand"], "shelf": "a", "year": 1}
         with opened(book, {"title": "Left", "year": 2}) as index:
             for each in index, index.searcher():
                 top = dilforec.Top("year", 9)
-                for fields, wanted in [
+                chosen: list[tuple[Sequence[str] | None, list[dict[str, Any]]]] = [
                     (None, [book, {"title": "Left", "year": 2}]), ([], [{}, {}]), (["shelf"], [{"shelf": "a"}, {}]),
                     (("year", "title"), [{"title": ["Left", "Hand"], "year": 1}, {"title": "Left", "year": 2}]),
-                ]:
+                ]
+                for fields, wanted in chosen:
                     self.assertEqual([hit.document for hit in each.search("left", top=top, fields=fields)], wanted)
                     hits = each.hits("left", "year", page=2, fields=fields)
                     self.assertEqual([hit.document for hit in hits], wanted)
 
-    def test_transaction(self):
+    def test_transaction(self) -> None:
         """It commits at the end, and rolls back at an exception; test_transactions.py has the rest."""
         with opened() as index:
             with index.transaction() as transaction:
@@ -244,7 +273,7 @@ class Calls(unittest.TestCase):
             with self.assertRaises(dilforec.Closed), index.transaction():
                 index.close()
 
-    def test_replace(self):
+    def test_replace(self) -> None:
         """An update by key is done, or the old document stays."""
         with opened({"title": "old", "shelf": "a", "year": 1}) as index:
             self.assertEqual(index.replace("shelf", "a", {"title": "new", "shelf": "a"}), 4)
@@ -261,13 +290,13 @@ class Calls(unittest.TestCase):
             index.commit()
             self.assertEqual((len(index), index.search("year:7 AND seven").count), (2, 1))
 
-    def test_add_many(self):
+    def test_add_many(self) -> None:
         """It answers the stamps; a refused document doesn't stop the others."""
         with opened() as index:
             self.assertEqual(index.add_many({"year": year} for year in range(2500)), list(range(2, 2502)))
             self.assertEqual(index.add_many([]), [])
             good, long = {"title": "good"}, {"title": LONG * 5}
-            bad = [{"titel": 1}, {"year": "late"}, ["a"], {"title": object()}, long]
+            bad: list[Any] = [{"titel": 1}, {"year": "late"}, ["a"], {"title": object()}, long]
             with self.assertRaises(dilforec.SomeRefused) as raised:
                 index.add_many([good, *bad, good])
             error = raised.exception
@@ -278,13 +307,13 @@ class Calls(unittest.TestCase):
             self.assertEqual(str(error), "5 of 7 documents were refused, document 1 first: "
                                          "UnknownField: the schema has no field 'titel'")
 
-            def broken():
+            def broken() -> Iterator[dict[str, Any]]:
                 yield good
                 raise ZeroDivisionError
             self.assertRaises(ZeroDivisionError, index.add_many, broken())
             self.assertEqual((index.commit(), len(index)), (2505, 2503))
 
-    def test_small_things(self):
+    def test_small_things(self) -> None:
         with opened({"title": 'the "left" \\ hand'}) as index:
             self.assertEqual(index.search(dilforec.quoted('"left" \\ hand')).count, 1)
             self.assertEqual(index.search(dilforec.quoted("left OR (")).count, 0)
@@ -298,7 +327,7 @@ class Calls(unittest.TestCase):
             index.execute('{"schema":[{"name":"n","kind":"u64"}]}')
             self.assertEqual(index.schema, (dilforec.u64("n"),))
 
-    def test_deep_pages(self):
+    def test_deep_pages(self) -> None:
         """What a page can't ask is refused at once, and what the first page can, the second can."""
         with opened(*({"title": "rust", "year": year} for year in range(5))) as index:
             deep = "(" * 32 + "rust" + ")" * 32
@@ -308,13 +337,13 @@ class Calls(unittest.TestCase):
             self.assertRaises(dilforec.TooLong, index.hits, "rust " * 815, "year")
             self.assertEqual(len(list(index.hits("rust " * 810, "year", page=2))), 5)
 
-    def test_large_reply_is_not_kept(self):
+    def test_large_reply_is_not_kept(self) -> None:
         with opened(*({"title": LONG, "year": year} for year in range(2))) as index:
             answer = index.search("*", top=dilforec.Top("year", 2))
             self.assertEqual([len(hit.document["title"]) for hit in answer], [450_000] * 2)
             self.assertLessEqual(index._channel._room_size, 1 << 20)
 
-    def test_private(self):
+    def test_private(self) -> None:
         """No module takes what another one keeps for itself: a name with an underscore is used where it is defined."""
         of_tuples = {"_replace", "_asdict", "_fields", "_make"}
         for path in sorted((ROOT / "bindings/python/dilforec").rglob("*.py")):
@@ -330,14 +359,16 @@ class Calls(unittest.TestCase):
             taken |= {name for name in imported if re.match("_[a-z]", name)} - modules
             self.assertEqual((path.name, taken), (path.name, set()))
 
-    def test_versions(self):
+    def test_versions(self) -> None:
         """One version for the program, the header and the packages."""
         for path, pattern in [
             ("bindings/c/dilforec.h", r'DILFOREC_VERSION "(.+)"'),
             ("bindings/rust/Cargo.toml", r'(?m)^version = "(.+)"'),
             ("crates/fts_cli/src/parser.rt", r'(?m)^(?:pub )?const VERSION: &str = "(.+)";'),
         ]:
-            self.assertEqual(re.search(pattern, (ROOT / path).read_text())[1], dilforec.__version__)
+            found = re.search(pattern, (ROOT / path).read_text())
+            assert found, path
+            self.assertEqual(found[1], dilforec.__version__)
 
 
 if __name__ == "__main__":

@@ -1,18 +1,24 @@
 """Blocks of `Index.transaction`: what is done in one is all committed at its end, or nothing of it stays."""
+from __future__ import annotations
+
 import os
 import pickle
 import signal
 import threading
 import time
 import unittest
+from collections.abc import Callable, Iterator
+from typing import Any
 
 import dilforec
+
+Call = Callable[[], object]
 
 FIELDS = (dilforec.text("title", default=True), dilforec.keyword("shelf"), dilforec.u64("year"))
 RUST, LATE = {"title": "rust"}, {"title": "rust", "year": "late"}
 
 
-def opened():
+def opened() -> dilforec.Index:
     """An index with one document, of stamp 1, and a commit, of stamp 2."""
     index = dilforec.Index(*FIELDS)
     index.add({"title": "first", "shelf": "a"})
@@ -20,12 +26,12 @@ def opened():
     return index
 
 
-def counts(index):
+def counts(index: dilforec.Index) -> tuple[int, int]:
     return index.search("rust").count, index.search("first").count
 
 
 class Ends(unittest.TestCase):
-    def test_at_once(self):
+    def test_at_once(self) -> None:
         """Calls of the index are done at once, with their stamps, and are visible at the end."""
         with opened() as index:
             with index.transaction():
@@ -33,11 +39,12 @@ class Ends(unittest.TestCase):
                 self.assertEqual(counts(index), (0, 1))
             self.assertEqual((counts(index), index.commit()), ((3, 0), 8))
 
-    def test_collected(self):
+    def test_collected(self) -> None:
         """Calls of the transaction are done at the end, in their order, and each has a stamp then."""
         with opened() as index:
             with index.transaction() as transaction:
-                self.assertIsNone(transaction.add(RUST))
+                add: Callable[..., object] = transaction.add
+                self.assertIsNone(add(RUST))
                 transaction.delete("title", "rust")
                 transaction.add({"title": "rust", "shelf": "b"})
                 transaction.delete("shelf", "a")
@@ -51,14 +58,14 @@ class Ends(unittest.TestCase):
                 transaction.add({"title": "last"})
             self.assertEqual((list(transaction.stamps), len(index)), ([8, 9, 10], 1))
 
-    def test_what_is_collected_comes_last(self):
+    def test_what_is_collected_comes_last(self) -> None:
         with opened() as index:
             with index.transaction() as transaction:
                 transaction.delete("title", "rust")
                 self.assertEqual(index.add(RUST), 3)
             self.assertEqual((list(transaction.stamps), counts(index)), ([4], (0, 1)))
 
-    def test_documents_are_taken_as_they_are(self):
+    def test_documents_are_taken_as_they_are(self) -> None:
         with opened() as index:
             document = dict(RUST)
             with index.transaction() as transaction:
@@ -66,14 +73,14 @@ class Ends(unittest.TestCase):
                 document["title"] = "hand"
             self.assertEqual((counts(index), index.search("hand").count), ((1, 1), 0))
 
-    def test_empty(self):
+    def test_empty(self) -> None:
         """An empty block commits."""
         with opened() as index:
             with index.transaction() as transaction:
                 self.assertEqual((bool(transaction), len(transaction)), (True, 0))
             self.assertEqual((list(transaction.stamps), transaction.commit, index.commit()), ([], 3, 4))
 
-    def test_many(self):
+    def test_many(self) -> None:
         """As many calls as a commit takes, and one more, which is refused as the 1,000,001st."""
         with opened() as index:
             with self.assertRaises(dilforec.LaneFull) as raised, index.transaction() as transaction:
@@ -82,7 +89,7 @@ class Ends(unittest.TestCase):
             self.assertIn("command 1000001: ", str(raised.exception))
             self.assertEqual((len(index), index.commit()), (1, 3))
 
-    def test_large(self):
+    def test_large(self) -> None:
         """Documents of a megabyte are taken, and lines that are too long refused at once."""
         with opened() as index:
             with index.transaction() as transaction:
@@ -100,7 +107,7 @@ class Ends(unittest.TestCase):
 
 
 class Exceptions(unittest.TestCase):
-    def test_in_the_block(self):
+    def test_in_the_block(self) -> None:
         """An exception in the block leaves nothing of it, and the stamps are drawn again."""
         with opened() as index:
             for error in ZeroDivisionError, KeyboardInterrupt, GeneratorExit:
@@ -111,15 +118,16 @@ class Exceptions(unittest.TestCase):
                 self.assertRaises(ValueError, getattr, transaction, "stamps")
             self.assertEqual((index.commit(), counts(index)), (3, (0, 1)))
 
-    def test_refused(self):
+    def test_refused(self) -> None:
         """A refused call in the middle is told by its number, and nothing stays of what is around it."""
         with opened() as index:
-            for refusal, sentence, call in [
+            refused: list[tuple[type[dilforec.Refused], str, Callable[[dilforec.Transaction], None]]] = [
                 (dilforec.WrongKind, "command 3: 'year' is a u64 field, and can't be 'late'", lambda it: it.add(LATE)),
                 (dilforec.UnknownField, "command 3: the schema has no field 'titel'", lambda it: it.add({"titel": "a"})),
                 (dilforec.UnknownField, "command 3: the schema has no field 'none'", lambda it: it.delete("none", 1)),
                 (dilforec.BadJson, "command 3: ", lambda it: it.add({"title": "\ud800"})),
-            ]:
+            ]
+            for refusal, sentence, call in refused:
                 with self.subTest(sentence), self.assertRaises(refusal) as raised, index.transaction() as transaction:
                     self.assertEqual(index.add(RUST), 3)
                     transaction.delete_all()
@@ -131,19 +139,21 @@ class Exceptions(unittest.TestCase):
                 self.assertEqual(counts(index), (0, 1))
             self.assertEqual((index.commit(), counts(index)), (3, (0, 1)))
 
-    def test_refused_at_once(self):
+    def test_refused_at_once(self) -> None:
         """What is refused at once may be caught in the block, which goes on."""
         with opened() as index:
             with index.transaction() as transaction:
-                for error, call in [
-                    (dilforec.WrongKind, lambda: index.add(LATE)), (TypeError, lambda: transaction.add(["rust"])),  # noqa: B023
+                words: Any = ["rust"]
+                calls: list[tuple[type[Exception], Call]] = [
+                    (dilforec.WrongKind, lambda: index.add(LATE)), (TypeError, lambda: transaction.add(words)),  # noqa: B023
                     (TypeError, lambda: transaction.add({"title": object()})),  # noqa: B023
-                ]:
+                ]
+                for error, call in calls:
                     self.assertRaises(error, call)
                 transaction.add(RUST)
             self.assertEqual((len(transaction), counts(index), index.commit()), (1, (1, 1), 5))
 
-    def test_what_was_uncommitted_before(self):
+    def test_what_was_uncommitted_before(self) -> None:
         """It is committed as the block begins, and no rollback takes it."""
         with opened() as index:
             self.assertEqual(index.add(RUST), 3)
@@ -151,35 +161,37 @@ class Exceptions(unittest.TestCase):
                 self.assertEqual((counts(index), index.add(RUST)), ((1, 1), 5))
                 raise ZeroDivisionError
             self.assertEqual((index.commit(), counts(index)), (5, (1, 1)))
-            for number, change in enumerate([
+            changes: list[Call] = [
                 lambda: index.delete("year", 7), index.delete_all, lambda: index.add_many([RUST]),
                 lambda: index.execute_all([{"add": RUST}]), lambda: index.execute('{"add":{"title":"rust"}}'),
-            ]):
+            ]
+            for number, change in enumerate(changes):
                 with self.subTest(number):
                     change()
                     with index.transaction() as transaction:
                         transaction.add(RUST)
                     self.assertEqual(list(transaction.stamps), [8 + 4 * number])
 
-    def test_nothing_was_uncommitted_before(self):
+    def test_nothing_was_uncommitted_before(self) -> None:
         """Without something to commit the block draws no stamp as it begins."""
         with opened() as index:
             index.add(RUST)
             index.rollback()
-            for number, call in enumerate([
+            calls: list[Call] = [
                 lambda: self.assertRaises(dilforec.WrongKind, index.add, LATE), lambda: index.execute_all([]),
                 lambda: self.assertRaises(dilforec.WrongKind, index.execute_all, [{"add": RUST}, {"add": LATE}]),
                 lambda: self.assertRaises(dilforec.SomeRefused, index.add_many, [LATE, {"titel": 1}]),
                 lambda: self.assertRaises(dilforec.LineTooLong, index.execute, b" " * 4_194_305),
                 lambda: index.execute('{"search":{"query":"rust"}}'), lambda: index.add_many([]),
-            ]):
+            ]
+            for number, call in enumerate(calls):
                 with self.subTest(number):
                     call()
                     with index.transaction() as transaction:
                         transaction.add(RUST)
                     self.assertEqual(list(transaction.stamps), [3 + 2 * number])
 
-    def test_commit_and_rollback_in_the_block(self):
+    def test_commit_and_rollback_in_the_block(self) -> None:
         with opened() as index:
             with self.assertRaises(ZeroDivisionError), index.transaction() as transaction:
                 index.add(RUST)
@@ -193,7 +205,7 @@ class Exceptions(unittest.TestCase):
                 transaction.add(RUST)
             self.assertEqual(counts(index), (2, 1))
 
-    def test_closed(self):
+    def test_closed(self) -> None:
         index = opened()
         with self.assertRaises(dilforec.Closed), index.transaction() as transaction:
             transaction.add(RUST)
@@ -201,7 +213,7 @@ class Exceptions(unittest.TestCase):
         with self.assertRaises(dilforec.Closed), index.transaction():
             self.fail("a block of a closed index began")
 
-    def test_without_schema(self):
+    def test_without_schema(self) -> None:
         with dilforec.Index() as index:
             with self.assertRaises(dilforec.NoSchema), index.transaction():
                 pass
@@ -211,7 +223,7 @@ class Exceptions(unittest.TestCase):
 
 
 class Turns(unittest.TestCase):
-    def test_nested(self):
+    def test_nested(self) -> None:
         """A block within one of the same index is refused, and the outer one goes on, if that is caught."""
         with opened() as index, opened() as other:
             with index.transaction() as transaction:
@@ -228,7 +240,7 @@ class Turns(unittest.TestCase):
                 transaction.add(RUST)
             self.assertEqual(counts(index), (2, 1))
 
-    def test_over(self):
+    def test_over(self) -> None:
         """A transaction takes nothing after its block, however that ended."""
         with opened() as index:
             with index.transaction() as done:
@@ -240,9 +252,9 @@ class Turns(unittest.TestCase):
                     self.assertRaises(ValueError, call)
             self.assertEqual(counts(index), (0, 1))
 
-    def test_threads(self):
+    def test_threads(self) -> None:
         """Blocks of several threads come one after the other, so each has all of its own, or nothing."""
-        def change(number):
+        def change(number: int) -> None:
             for turn in range(20):
                 try:
                     with index.transaction() as transaction:
@@ -255,7 +267,7 @@ class Turns(unittest.TestCase):
                     pass
                 wrong.extend([] if index.search("*").count % 10 == 1 else [index.search("*").count])
 
-        wrong = []
+        wrong: list[int] = []
         with opened() as index:
             threads = [threading.Thread(target=change, args=(number,)) for number in range(4)]
             for thread in threads:
@@ -264,9 +276,9 @@ class Turns(unittest.TestCase):
                 thread.join()
             self.assertEqual((wrong, counts(index)), ([], (4 * 10 * 10, 1)))
 
-    def test_calls_of_other_threads(self):
+    def test_calls_of_other_threads(self) -> None:
         """What another thread does at once meanwhile is committed or rolled back with the block."""
-        def add():
+        def add() -> None:
             thread = threading.Thread(target=index.add, args=(RUST,))
             thread.start()
             thread.join()
@@ -281,9 +293,9 @@ class Turns(unittest.TestCase):
                 add()
             self.assertEqual((list(transaction.stamps), counts(index)), ([5], (2, 1)))
 
-    def test_a_transaction_in_threads(self):
+    def test_a_transaction_in_threads(self) -> None:
         """Several threads may add to one, and none after its end."""
-        def add():
+        def add() -> None:
             for _ in range(500):
                 transaction.add(RUST)
 
@@ -296,9 +308,9 @@ class Turns(unittest.TestCase):
                     thread.join()
             self.assertEqual((len(transaction), counts(index)), (2000, (2000, 1)))
 
-    def test_given_up(self):
+    def test_given_up(self) -> None:
         """A block that is never left, as of a generator that is dropped, is rolled back, and the next one begins."""
-        def block(index):
+        def block(index: dilforec.Index) -> Iterator[None]:
             with index.transaction():
                 index.add(RUST)
                 yield
@@ -312,9 +324,9 @@ class Turns(unittest.TestCase):
             self.assertEqual((list(transaction.stamps), counts(index)), ([3], (1, 1)))
 
     @unittest.skipUnless(hasattr(os, "fork"), "needs fork")
-    def test_forks(self):
+    def test_forks(self) -> None:
         """A child hasn't the block of another thread of its parent, and has that of the thread that forked."""
-        def hold():
+        def hold() -> None:
             with index.transaction():
                 index.add(RUST)
                 held.set()
@@ -345,11 +357,11 @@ class Turns(unittest.TestCase):
 
 
 class Interrupts(unittest.TestCase):
-    def test_each_moment(self):
+    def test_each_moment(self) -> None:
         """An interrupt at any time leaves all or nothing, and the transaction tells which."""
         is_armed = False
 
-        def interrupt(*_):
+        def interrupt(*_: object) -> None:
             # A signal that another thread of the process took may be told after its timer was put out.
             nonlocal is_armed
             if is_armed:

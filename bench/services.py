@@ -1,7 +1,7 @@
 #!/usr/bin/env python3
 """Times the service beside the same service over SQLite's FTS5, and beside Groonga's own server.
 
-    python3 bench/service.py [DOCUMENTS] [SECONDS] [--start DOCUMENTS]
+    python3 bench/services.py [DOCUMENTS] [SECONDS] [--start DOCUMENTS]
 
 Build and link the package's library first, by `make`. The documents are those of bench/corpus.py, 100,000 without an
 argument; each measurement takes 5 seconds, and all servers run the whole time and are measured by turns. A search asks
@@ -98,7 +98,8 @@ def filled(folder: pathlib.Path, count: int) -> None:
     fts = peers.FtsStore(str(folder / "database"))
     with Store(FIELDS, folder / "journal") as store:
         for start in range(0, count, 10_000):
-            for each in store, fts:
+            both: tuple[Store | peers.FtsStore, ...] = store, fts
+            for each in both:
                 transaction = each.new_transaction()
                 for document in documents[start : start + 10_000]:
                     transaction.add(document)
@@ -225,7 +226,8 @@ def client(kind: str, server: Server, seed: int, seconds: float, start: Any, tol
 def measured(load: Load, server: Server, seconds: float) -> dict[str, Times]:
     """The times of searches and of posts under a load."""
     kinds = ["search"] * load.searching + ["post"] * load.posting
-    start, told = multiprocessing.Barrier(len(kinds)), multiprocessing.SimpleQueue()
+    start = multiprocessing.Barrier(len(kinds))
+    told: multiprocessing.SimpleQueue[tuple[str, list[float]]] = multiprocessing.SimpleQueue()
     with ExitStack() as stack:
         for _ in range(load.idle):
             stack.enter_context(socket.create_connection(("127.0.0.1", server.port)))
