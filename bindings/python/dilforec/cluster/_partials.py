@@ -53,7 +53,9 @@ class Joining:
         self.fault: Optional[bytes] = None
         self._k, self._is_falling = k, is_falling
         self._documents = 0
-        # Each group as its text, and how many partitions have this text: they are read together at the end.
+        # The groups of the first partition, as in its reply. If there are others, each group as its text, and how many
+        # partitions have this text: they are read together at the end.
+        self._first: Optional[bytes] = None
         self._groups: Optional[collections.Counter[bytes]] = None
         self._around = _KEYWORDS
         self._hits: Optional[list[Hit]] = None
@@ -74,12 +76,19 @@ class Joining:
             self._add_hits(_texts(reply, top + len(_TOP), b',"source":' + source), rank)
 
     def _add_groups(self, groups: bytes) -> None:
+        if self._first is None:
+            self._first = groups
+            return
         if self._groups is None:
             self._groups = collections.Counter()
+            self._count_groups(self._groups, self._first)
+        self._count_groups(self._groups, groups)
+
+    def _count_groups(self, counts: collections.Counter[bytes], groups: bytes) -> None:
         if groups != b"[]":
             self._around = _KEYWORDS if groups.startswith(_KEYWORDS[0]) else _NUMBERS
             before, between, after = self._around
-            self._groups.update(groups[len(before):-len(after)].split(between))
+            counts.update(groups[len(before):-len(after)].split(between))
 
     def _add_hits(self, texts: Sequence[bytes], rank: int) -> None:
         """Adds those of a partition's hits, which come in order, that may be among the first k of all."""
@@ -98,9 +107,16 @@ class Joining:
 
     def answer(self) -> Partial:
         """The answer over all that was added."""
-        groups = None if self._groups is None else _groups(self._read_groups(self._groups))
+        groups = None if self._first is None else self._all_groups(self._first)
         hits = None if self._hits is None else sorted(self._hits)[:self._k]
         return Partial(self._documents, groups, hits, self._other, self.fault)
+
+    def _all_groups(self, first: bytes) -> tuple[Sequence[Any], Sequence[int]]:
+        if self._groups is not None:
+            return _groups(self._read_groups(self._groups))
+        # One partition has them in order.
+        pairs = json.loads(first)
+        return [value for value, _ in pairs], [count for _, count in pairs]
 
     def _read_groups(self, texts: collections.Counter[bytes]) -> dict[Any, int]:
         """The groups of all partitions, each value with its count."""
@@ -143,8 +159,10 @@ def _joined_groups(
     lists: Sequence[tuple[Sequence[Union[int, str]], Sequence[int]]],
 ) -> tuple[Sequence[Any], Sequence[int]]:
     """The groups of all, value by value, as `joins.groups` has them."""
-    if len(lists) == 1:
-        return lists[0]
+    first, *others = lists
+    if all(values == first[0] for values, _ in others):
+        # With few values, each partition has all of them.
+        return first[0], list(map(sum, zip(*(of_values for _, of_values in lists))))
     counts: dict[Any, int] = collections.defaultdict(int)
     for values, of_values in lists:
         for value, count in zip(values, of_values):
