@@ -123,7 +123,7 @@ def schema() -> tuple[Any, ...]:
 
 
 def freeze() -> None:
-    """Hides what is there from Python's collector of garbage, which would look at it in the middle of some search: for 40 ms, whatever is searched."""
+    """Hides what is there from Python's collector of garbage, which would look at it in the middle of builds and searches: each time for 40 ms."""
     gc.collect()
     gc.freeze()
 
@@ -146,6 +146,7 @@ def one(paths: list[str], workers: int) -> None:
         def lines(self) -> Iterator[bytes]:
             return itertools.chain.from_iterable(JsonLines(path).lines() for path in paths)
 
+    freeze()
     empty, began = resident(), time.perf_counter()
     index = Partition(schema(), Files(paths[0])).built().index
     built = time.perf_counter() - began
@@ -159,6 +160,7 @@ def threads(paths: list[str], workers: int) -> None:
     from dilforec.cluster._partitions import Partition
     from dilforec.cluster._sources import JsonLines
 
+    freeze()
     empty, began = resident(), time.perf_counter()
     with ThreadPoolExecutor(len(paths)) as pool:
         made = list(pool.map(lambda path: Partition(schema(), JsonLines(path)).built().index, paths))
@@ -180,6 +182,8 @@ def dask(paths: list[str], workers: int) -> None:
 
     with LocalCluster(n_workers=workers, threads_per_worker=1, dashboard_address=None, memory_limit=0) as local, Client(local) as client:
         client.wait_for_workers(workers, timeout=60)
+        freeze()
+        client.run(freeze)
         empty = sum(client.run(resident).values())
         began = time.perf_counter()
         with Cluster(client, schema(), paths, progress=False) as cluster:
