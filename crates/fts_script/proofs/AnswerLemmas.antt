@@ -11,7 +11,6 @@ use Rattle.serde_json.specs.View.{items_of}
 use Rattle.serde_json.specs.Written.{compact_text, members_text, has_float, items_have_float, members_have_float}
 use Rattle.fts_model.specs.declared.schema.Field.{Field}
 use Rattle.fts_model.specs.declared.value.GroupValue.{GroupValue}
-use Rattle.fts_model.specs.declared.value.Number.{Number}
 use Rattle.fts_model.specs.declared.value.Number.TheVariants as numbers
 use Rattle.fts_model.specs.declared.value.FieldValue.{FieldValue}
 use Rattle.fts_model.specs.declared.value.FieldValue.TheVariants as values
@@ -63,9 +62,6 @@ all_plain ms (field ∷ fields) (v ∷ vs) h = all_plain (with_value ms field v)
 pub document_plain : (document : DocumentValue) → has_float (json_of document) ≡ false
 document_plain document = all_plain no_members document.schema document.values refl
 
-pub number_plain : (n : Number) → has_float (number_data n) ≡ false
-number_plain n = value_plain (values.Number n)
-
 -- the members of an answer, each list by itself
 groups_texts : (items : Option Items) (ms : Members) → members_text true (list_member (codes "groups") items ms) ≡ list_text groups_label items ++ members_text true ms
 unfolding escape_byte
@@ -113,11 +109,11 @@ hit_parts : (hit : Hit) → compact_text (hit_data hit) ≡ codes "{\"doc\":" ++
 unfolding escape_byte
 hit_parts hit = refl
 
--- a hit's text is made part by part
-pub hit_made : (hit : Hit) (document digits value a b c d e f text : List ℕ) → document ≡ compact_text (json_of hit.document) → digits ≡ decimal hit.stamp →
-    value ≡ compact_text (number_data hit.value) → a ≡ codes "{\"doc\":" → b ≡ a ++ document → c ≡ b ++ codes ",\"stamp\":" → d ≡ c ++ digits →
-    e ≡ d ++ codes ",\"value\":" → f ≡ e ++ value → text ≡ f ++ 125 ∷ [] → text ≡ compact_text (hit_data hit)
-hit_made hit document digits value a b c d e f text p q r s t u v w x y =
+-- a hit's text is made part by part, after what is there
+pub hit_made : (hit : Hit) (before document digits a b c d e f text : List ℕ) → document ≡ compact_text (json_of hit.document) → digits ≡ decimal hit.stamp →
+    a ≡ before ++ codes "{\"doc\":" → b ≡ a ++ document → c ≡ b ++ codes ",\"stamp\":" → d ≡ c ++ digits → e ≡ d ++ codes ",\"value\":" →
+    f ≡ e ++ compact_text (number_data hit.value) → text ≡ f ++ 125 ∷ [] → text ≡ before ++ compact_text (hit_data hit)
+hit_made hit before document digits a b c d e f text p q r s t u v w x =
     let D = compact_text (json_of hit.document) in
     let N = decimal hit.stamp in
     let V = compact_text (number_data hit.value) in
@@ -125,9 +121,10 @@ hit_made hit document digits value a b c d e f text p q r s t u v w x y =
     let stamp = codes ",\"stamp\":" in
     let label = codes ",\"value\":" in
     let end : List ℕ = 125 ∷ [] in
-    let last = append_assoc (start ++ D ++ stamp ++ N ++ label) V end in
-    let before = append_assoc (start ++ D ++ stamp ++ N) label (V ++ end) in
-    let front = regrouped start D stamp N (label ++ (V ++ end)) in
+    let last = append_assoc (before ++ start ++ D ++ stamp ++ N ++ label) V end in
+    let valued = append_assoc (before ++ start ++ D ++ stamp ++ N) label (V ++ end) in
+    let front = regrouped (before ++ start) D stamp N (label ++ (V ++ end)) in
+    let whole = append_assoc before start (D ++ (stamp ++ (N ++ (label ++ (V ++ end))))) in
     let all = hit_parts hit in
     cc
 

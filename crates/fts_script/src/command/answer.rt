@@ -55,13 +55,13 @@ fn groups_text(alloc: Global, groups: &[(GroupValue, u64)]) -> Result<String, Al
     Ok(unsafe { String::from_utf8_unchecked(out.into_inner()) })
 }
 
-/// Returns a number as JSON.
-fn number_value(number: Number) -> Value
-    ensures { view result ≡ number_data number }
+/// Appends the value of a hit as JSON.
+fn push_value(value: Number, text: &mut String) -> Result<(), AllocError>
+    ensures { OnOk result (string_bytes text.new ≡ string_bytes text.old ++ compact_text (number_data value)) }
 {
-    match number {
-        Number::U64(n) => Value::from(n),
-        Number::I64(n) => Value::from(n),
+    match value {
+        Number::U64(n) => text.push_str(Buffer::new().format(n)),
+        Number::I64(n) => text.push_str(Buffer::new().format(n)),
     }
 }
 
@@ -79,32 +79,36 @@ fn document_value(alloc: Global, hit: &Hit, names: Option<&[Text]>) -> Result<Va
     }
 }
 
-/// Returns a hit as the text of a JSON object. If there are names, its document shows only their fields.
-fn hit_text(alloc: Global, hit: &Hit, names: Option<&[Text]>) -> Result<String, AllocError>
-    ensures { IfOk result (λ text. string_bytes text
-        ≡ compact_text (hit_data (cut_hit (option_copied names.entry) hit.now))) }
+/// Appends a hit as the text of a JSON object. If there are names, its document shows only their fields.
+fn push_hit(
+    alloc: Global,
+    hit: &Hit,
+    names: Option<&[Text]>,
+    text: &mut String,
+) -> Result<(), AllocError>
+    ensures { OnOk result (string_bytes text.new ≡ string_bytes text.old
+        ++ compact_text (hit_data (cut_hit (option_copied names.entry) hit.now))) }
 {
-    // There is no float in these two.
+    // There is no float in it.
     let document = document_value(alloc, hit, names)?.to_string(alloc)?;
-    let value = number_value(hit.value).to_string(alloc)?;
-    let mut text = String::from_str(alloc, "{\"doc\":")?;
+    text.push_str("{\"doc\":")?;
     text.push_str(document.as_str())?;
     text.push_str(",\"stamp\":")?;
     text.push_str(Buffer::new().format(hit.stamp))?;
     text.push_str(",\"value\":")?;
-    text.push_str(value.as_str())?;
+    push_value(hit.value, text)?;
     text.push_str("}")?;
-    Ok(text)
+    Ok(())
 }
 
-/// Appends the text of an item to that of a list, after a comma if it is a later one.
-fn push_item(item: &str, is_later: bool, list: &mut String) -> Result<(), AllocError>
-    ensures { OnOk result (string_bytes list.new ≡ string_bytes list.old ++ (comma_if is_later ++ item.now)) }
+/// Appends the comma before an item of a list, if the item isn't the first.
+fn push_comma(is_later: bool, list: &mut String) -> Result<(), AllocError>
+    ensures { OnOk result (string_bytes list.new ≡ string_bytes list.old ++ comma_if is_later) }
 {
     if is_later {
         list.push_str(",")?;
     }
-    list.push_str(item)
+    Ok(())
 }
 
 /// Appends hits as the text of a JSON array, in their order. What is made of a hit is given back before the next.
@@ -119,8 +123,8 @@ fn push_hits(
 {
     text.push_str("[")?;
     for (index, hit) in hits.iter().enumerate() {
-        let hit = hit_text(alloc, hit, names)?;
-        push_item(hit.as_str(), index > 0, text)?;
+        push_comma(index > 0, text)?;
+        push_hit(alloc, hit, names, text)?;
     }
     text.push_str("]")?;
     Ok(())

@@ -2,9 +2,9 @@ use Rattle.std.proofs.Common.{◌≡◌, ◌+◌, ◌<◌, ◌≤◌, ◌++◌, 
 use Rattle.std.proofs.lemmas.Bool.Decides.{nat_tests}
 use Rattle.std.proofs.lemmas.List.{append_assoc, drop_more, drop_all}
 use Rattle.std.specs.Option.{option_copied}
-use Rattle.serde_json.specs.Written.{comma_if, items_text}
+use Rattle.serde_json.specs.Written.{comma_if, compact_text, items_text}
 use Rattle.fts_model.specs.declared.answer.Hit.{Hit}
-use Rattle.fts_script.specs.command.AnswerData.{hits_data}
+use Rattle.fts_script.specs.command.AnswerData.{hit_data, hits_data}
 use Rattle.fts_script.specs.command.Cuts.{cut_hit, cut_hits}
 use Rattle.fts_script.proofs.command.answer.push_hits.Goals as goal
 
@@ -23,17 +23,17 @@ loop-index-preserved c =
     let i = c.loop-index.index in
     let item = c.index-hits-index.result in
     let now = string_bytes c.loop-index.text in
-    let made = c.as_str.result.now in
+    let made = compact_text (hit_data (cut_hit names item)) in
     let left = drop (i + 1) hits in
     let more = items_text true (hits_data (cut_hits names left)) in
     let comma = comma_if (nat_lt 0 i) in
     let within : i < length hits = omega arith in
     let later : nat_lt 0 (i + 1) ≡ true = grind (arith, nat_tests) in
-    ap (λ b. string_bytes c.push_item.new.list ++ items_text b (hits_data (cut_hits names left))) later
-    ∙ ap (λ (xs : List ℕ). xs ++ more) c.in_ok-push_item.ensures
-    ∙ append_assoc now (comma ++ made) more
-    ∙ ap (λ (xs : List ℕ). now ++ xs) (append_assoc comma made more)
-    ∙ ap (λ (xs : List ℕ). now ++ (comma ++ (xs ++ more))) (c.as_str.ensures.value ∙ c.in_ok-hit.ensures)
+    ap (λ b. string_bytes c.push_hit.new.text ++ items_text b (hits_data (cut_hits names left))) later
+    ∙ ap (λ (xs : List ℕ). xs ++ more) c.in_ok-push_hit.ensures
+    ∙ ap (λ (xs : List ℕ). xs ++ made ++ more) c.in_ok-push_comma.ensures
+    ∙ append_assoc (now ++ comma) made more
+    ∙ append_assoc now comma (made ++ more)
     ∙ ap (λ (xs : List Hit). now ++ items_text (nat_lt 0 i) (hits_data xs)) (sym (cut_more names item left))
     ∙ ap (λ (x : Hit). now ++ items_text (nat_lt 0 i) (hits_data (cut_hits names (x ∷ left)))) c.index-hits-index.is
     ∙ ap (λ (xs : List Hit). now ++ items_text (nat_lt 0 i) (hits_data (cut_hits names xs))) (sym (drop_more hits i item within))
