@@ -57,7 +57,8 @@ AFTER_ITS_PARTS = {
 ITEM = re.compile(r"^(?:pub|pub\(crate\)|pub\(super\)) (?:const )?(fn|struct|enum|trait|type) (\w+)", re.MULTILINE)
 MODULE = re.compile(r"^(?:pub |pub\(crate\) )?mod \w+;", re.MULTILINE)
 OWNED = re.compile(r"^(?:pub |pub\(crate\) |pub\(super\) )?(?:struct|enum|trait|type) (\w+)", re.MULTILINE)
-COMMENT = re.compile(r"^\s*(?:///?|//!|--)\s*(The same\b|Of\b|,)", re.MULTILINE)
+COMMENT = re.compile(r"\s*(?:///?|//!|--)\s*(.*)")
+PART = re.compile(r"(?:the same|of)\b", re.IGNORECASE)
 
 
 def snake(name: str) -> str:
@@ -104,10 +105,21 @@ def owners(counts: Counts) -> None:
         counts.check(name, len(paths) == 1, f"{name} has several owners: {', '.join(paths)}")
 
 
+def part_of_sentence(text: str) -> str:
+    """The first line of a comment that has no subject of its own, or that goes on after a comma; empty if there is none."""
+    is_within = False
+    for line in text.splitlines():
+        found = COMMENT.match(line)
+        if found and (found[1].startswith(",") or not is_within and PART.match(found[1])):
+            return found[1]
+        is_within = found is not None
+    return ""
+
+
 def comments(counts: Counts) -> None:
     for path, text in {**sources("*/src/**/*.rt"), **sources("*/specs/**/*.antt"), **sources("*/proofs/**/*.antt")}.items():
-        begun = COMMENT.search(text)
-        counts.check(str(path.relative_to(CRATES)), begun is None, begun and f"a comment begins {begun[1]!r}")
+        part = part_of_sentence(text)
+        counts.check(str(path.relative_to(CRATES)), not part, part and f"a comment begins {part!r}")
 
 
 def main() -> int:

@@ -40,7 +40,7 @@ terms-continue c d h tied =
       (lead, rest.1),
     )
 
--- the same, with blocks that were opened before
+-- conjoined cursors continue each other, also with blocks that were opened before
 pub opened-continue : (c d : Conjoined) (opened : ℕ) (before after : List ℕ) → AllFollow c d → AreTied c →
     Continues (with_opened opened (of_terms c before)) (with_opened opened (of_terms d after))
 opened-continue c d opened before after follows tied =

@@ -32,7 +32,7 @@ pub(crate) struct Member<'a> {
 #[derive(Drop)]
 pub(crate) struct PhraseCursor<'a> {
     terms: Conjunction<ListSource<'a>>,
-    /// In a box, since what its reader keeps would make each node of a tree larger.
+    /// The first member has a box, since what its reader keeps would make each node of a tree larger.
     first: Box<Member<'a>>,
     others: Vec<Member<'a>>,
 }

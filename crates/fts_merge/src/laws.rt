@@ -46,8 +46,8 @@ pub fn live_bits_count_the_content()
         length (content documents live) ≡ count_by (λ bit. bit) live }
 {}
 
-/// A merged segment has as many documents as its sources have live ones together.
-pub fn a_merge_counts_live_documents()
+/// The contents of segments together have as many documents as the segments have live ones.
+pub fn live_bits_count_the_contents()
     ensures { (sources : List SourceValue) → All HasBits sources →
         length (contents sources) ≡ live_count sources }
 {}

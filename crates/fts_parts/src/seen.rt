@@ -23,7 +23,7 @@ pub struct Seen {
     pub count: u64,
     /// The counts of their numbers in the field of the groups.
     pub tally: Tally,
-    /// By their numbers in the field of the top list.
+    /// The first of them by their numbers in the field of the top list.
     pub top_k: TopK,
 }
 

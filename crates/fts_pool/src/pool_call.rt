@@ -23,7 +23,7 @@ struct RankedJob {
 #[derive(Drop)]
 pub(crate) struct PoolCall<J: Job + Drop> {
     pub(crate) slots: Vec<JobSlot<J>>,
-    /// In which order the jobs are begun.
+    /// The order in which the jobs are begun.
     order: Vec<RankedJob>,
     /// How many jobs haven't been run.
     left: AtomicU64,

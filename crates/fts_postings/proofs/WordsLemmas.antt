@@ -108,7 +108,7 @@ found-joined base start first count d old new words is below joined rest ends up
           ]
     ]
 
--- of the documents that are found, those that pass are kept
+-- those documents that are found and pass are kept
 pub found-and : (base from last : ℕ) (words new : List ℕ) (test : ℕ → Bool) → base ≤ from → base % 64 ≡ 0 → length words ≡ 64 →
     AreChanged (λ doc told. told && test doc) (base / 64) words new → found_in base from last new ≡ filter test (found_in base from last words)
 found-and base from last words new test order aligned long cut =

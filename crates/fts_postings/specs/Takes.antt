@@ -10,7 +10,7 @@ pub record Takes (left next written : List ℕ) (count : ℕ) : Type 0 where
   pub taken : take count written ≡ take count left
   pub left_is : next ≡ drop count left
 
--- the same, but they come after those that filled the front
+-- some of the next documents were written after those that filled the front
 pub record IsStretch (left next out written : List ℕ) (filled count : ℕ) : Type 0 where
   pub some : 0 < length left → 0 < count
   pub within : count ≤ length left

@@ -13,7 +13,7 @@ use Rattle.std.proofs.lemmas.List.{append-nil, flat_map_more, map_push}
 use Rattle.std.proofs.lemmas.List.Elements.{Contains-append_left, Contains-append_right}
 use Rattle.fts_segment.specs.Dictionaries.{unless_none}
 use Rattle.fts_segment.specs.Postings.{Posting, documents, position_lists}
-use Rattle.fts_segment.specs.Parts.{PartValue, found, joined, moved, IsBelow, Ascend, IsSound, IsJoined, begins, passed, given, lesser, least_of}
+use Rattle.fts_segment.specs.Parts.{TermStreamValue, found, joined, moved, IsBelow, Ascend, IsSound, IsJoined, begins, passed, given, lesser, least_of}
 use Rattle.fts_segment.proofs.FindLemmas.{same_from_equal, turned}
 use Rattle.fts_segment.proofs.KeywordsLemmas.{here, either, none}
 use Rattle.fts_segment.proofs.PartLemmas.{IsFrom, AreFrom, IsMet, IsBelowAll, joined-given, joined-passed, joined-other, sound-all, below-all-after}
@@ -50,7 +50,7 @@ all-push P [] x h p = (p, tt)
 all-push P (y ∷ xs) x h p = (h.0, all-push P xs x h.1 p)
 
 -- the progress of a merge: the names have all postings of the streams, and every other term is left
-pub record IsJoining (all rest : List PartValue) (names lists positions : List (List ℕ)) : Type 0 where
+pub record IsJoining (all rest : List TermStreamValue) (names lists positions : List (List ℕ)) : Type 0 where
   pub sound : AllByRecursion IsSound rest
   pub ascend : Ascend names
   pub below : AllByRecursion (λ name. IsBelowAll name rest) names
@@ -59,19 +59,19 @@ pub record IsJoining (all rest : List PartValue) (names lists positions : List (
   pub some : AllByRecursion (λ q. joined all q ≢ []) names
   pub left : (q : List ℕ) → Contains names q ⊎ (joined rest q ≡ joined all q)
 
-pub IsJoining-start : (ps : List PartValue) (names lists positions : List (List ℕ)) → AllByRecursion IsSound ps → names ≡ [] →
+pub IsJoining-start : (ps : List TermStreamValue) (names lists positions : List (List ℕ)) → AllByRecursion IsSound ps → names ≡ [] →
     lists ≡ [] → positions ≡ [] → IsJoining ps ps names lists positions
 IsJoining-start ps names lists positions sound no_names no_lists no_positions =
     let P : List (List ℕ) → List (List ℕ) → List (List ℕ) → Type 0 = λ ns ls qs. IsJoining ps ps ns ls qs in
     let none_yet : P [] [] [] = record { sound = sound; ascend = tt; below = tt; listed = refl; positioned = refl; some = tt; left = λ q. inr refl } in
     subst (λ ns. P ns lists positions) (sym no_names) (subst (λ ls. P [] ls positions) (sym no_lists) (subst (P [] []) (sym no_positions) none_yet))
 
-are-before : (term : List ℕ) (rest : List PartValue) (names : List (List ℕ)) → IsMet term rest → AllByRecursion (λ name. IsBelowAll name rest) names →
+are-before : (term : List ℕ) (rest : List TermStreamValue) (names : List (List ℕ)) → IsMet term rest → AllByRecursion (λ name. IsBelowAll name rest) names →
     AreBefore term names
 are-before term rest [] met h = tt
 are-before term rest (n ∷ names) met h = (met-below n term rest met h.0, are-before term rest names met h.1)
 
-all-below-after : (term : List ℕ) (rest : List PartValue) (names : List (List ℕ)) → AllByRecursion (λ name. IsBelowAll name rest) names →
+all-below-after : (term : List ℕ) (rest : List TermStreamValue) (names : List (List ℕ)) → AllByRecursion (λ name. IsBelowAll name rest) names →
     AllByRecursion (λ name. IsBelowAll name (map (passed term) rest)) names
 all-below-after term rest [] h = tt
 all-below-after term rest (n ∷ names) h = (below-all-after n term rest h.0, all-below-after term rest names h.1)
@@ -84,7 +84,7 @@ not-among term (n ∷ names) h c = ⊎_elim
     (λ behind. not-among term names h.1 behind) (either n term names c)
 
 -- the postings that the streams give for the next term are all that they had
-pub all-given : (term : List ℕ) (postings : List Posting) (all rest : List PartValue) (names lists positions : List (List ℕ)) →
+pub all-given : (term : List ℕ) (postings : List Posting) (all rest : List TermStreamValue) (names lists positions : List (List ℕ)) →
     IsJoining all rest names lists positions →
     AreFrom term rest → IsMet term rest → postings ≡ flat_map (given term) rest → joined all term ≡ postings
 all-given term postings all rest names lists positions j from met is = ⊎_elim
@@ -92,7 +92,7 @@ all-given term postings all rest names lists positions j from met is = ⊎_elim
     (λ (same : joined rest term ≡ joined all term). sym same ∙ joined-given term rest j.sound from ∙ sym is) (j.left term)
 
 -- the postings of the next term rise
-pub postings-rise : (term : List ℕ) (postings : List Posting) (all rest : List PartValue) (names lists positions : List (List ℕ)) →
+pub postings-rise : (term : List ℕ) (postings : List Posting) (all rest : List TermStreamValue) (names lists positions : List (List ℕ)) →
     IsJoining all rest names lists positions →
     AreFrom term rest → IsMet term rest → postings ≡ flat_map (given term) rest → ((q : List ℕ) → IsStrictlyIncreasing (documents (joined all q))) →
     IsStrictlyIncreasing (documents postings)
@@ -101,7 +101,7 @@ postings-rise term postings all rest names lists positions j from met is rise =
     subst P (all-given term postings all rest names lists positions j from met is) (rise term)
 
 -- the merge goes past a term that has no posting
-pass-none : (term : List ℕ) (all rest : List PartValue) (names lists positions : List (List ℕ)) →
+pass-none : (term : List ℕ) (all rest : List TermStreamValue) (names lists positions : List (List ℕ)) →
     IsJoining all rest names lists positions →
     AreFrom term rest → joined all term ≡ [] → IsJoining all (map (passed term) rest) names lists positions
 pass-none term all rest names lists positions j from no_posting = record {
@@ -121,7 +121,7 @@ pass-none term all rest names lists positions j from no_posting = record {
 }
 
 -- the merge goes past a term that has postings
-pass-some : (term : List ℕ) (all rest : List PartValue) (names lists positions : List (List ℕ)) →
+pass-some : (term : List ℕ) (all rest : List TermStreamValue) (names lists positions : List (List ℕ)) →
     IsJoining all rest names lists positions →
     AreFrom term rest → IsMet term rest → joined all term ≢ [] →
     IsJoining all (map (passed term) rest) (names ++ term ∷ []) (lists ++ documents (joined all term) ∷ []) (positions ++ position_lists (joined all term))
@@ -144,7 +144,7 @@ pass-some term all rest names lists positions j from met some_posting = record {
 }
 
 -- the merge goes past a term
-pub IsJoining-next : (term : List ℕ) (postings : List Posting) (all rest : List PartValue) (names lists positions : List (List ℕ)) →
+pub IsJoining-next : (term : List ℕ) (postings : List Posting) (all rest : List TermStreamValue) (names lists positions : List (List ℕ)) →
     IsJoining all rest names lists positions →
     AreFrom term rest → IsMet term rest → joined all term ≡ postings →
     IsJoining all (map (passed term) rest) (names ++ unless_none postings term) (lists ++ unless_none postings (documents postings))
@@ -159,7 +159,7 @@ IsJoining-next term (p ∷ postings) all rest names lists positions j from met i
     subst P is (pass-some term all rest names lists positions j from met (λ no. let clash : p ∷ postings ≡ [] = sym is ∙ no in cc))
 
 -- a stream without a name has no posting
-nothing : (p : PartValue) (term : List ℕ) → p.names ≡ [] → moved p.numbers (found p.names p.postings term) ≡ []
+nothing : (p : TermStreamValue) (term : List ℕ) → p.names ≡ [] → moved p.numbers (found p.names p.postings term) ≡ []
 nothing p term e = ap (λ ns. moved p.numbers (found ns p.postings term)) e
 
 none-first : (o : Option (List ℕ)) (names : List (List ℕ)) → lesser o (slice_get names 0) ≡ None → (o ≡ None) × (names ≡ [])
@@ -173,7 +173,7 @@ none-first (Some a) (n ∷ names) h =
     ] h
 
 -- if there is no least name, no stream has a name left
-pub least-none : (o : Option (List ℕ)) (ps : List PartValue) → least_of o ps ≡ None → (o ≡ None) × ((term : List ℕ) → joined ps term ≡ [])
+pub least-none : (o : Option (List ℕ)) (ps : List TermStreamValue) → least_of o ps ≡ None → (o ≡ None) × ((term : List ℕ) → joined ps term ≡ [])
 least-none o [] h = (h, λ term. refl)
 least-none o (p ∷ ps) h =
     let rest = least-none (lesser o (slice_get p.names 0)) ps h in
@@ -210,7 +210,7 @@ first-met (Some a) (n ∷ names) term h =
     ] h
 
 -- no stream has a name before the least of the next names
-pub least-from : (o : Option (List ℕ)) (ps : List PartValue) (term : List ℕ) → least_of o ps ≡ Some term → NotBefore term o × AreFrom term ps
+pub least-from : (o : Option (List ℕ)) (ps : List TermStreamValue) (term : List ℕ) → least_of o ps ≡ Some term → NotBefore term o × AreFrom term ps
 least-from o [] term h =
     let P : Option (List ℕ) → Type 0 = λ x. NotBefore term x in
     let itself : slice_cmp nat_cmp term term ≢ Less = λ no. let clash : Less ≡ Equal = sym no ∙ tied_itself nat_list_cmp_total term in cc in
@@ -221,7 +221,7 @@ least-from o (p ∷ ps) term h =
     (first.0, (first.1, rest.1))
 
 -- some stream begins with the least of the next names
-pub least-met : (o : Option (List ℕ)) (ps : List PartValue) (term : List ℕ) → least_of o ps ≡ Some term → (o ≡ Some term) ⊎ IsMet term ps
+pub least-met : (o : Option (List ℕ)) (ps : List TermStreamValue) (term : List ℕ) → least_of o ps ≡ Some term → (o ≡ Some term) ⊎ IsMet term ps
 least-met o [] term h = inl h
 least-met o (p ∷ ps) term h =
     elim (least-met (lesser o (slice_get p.names 0)) ps term h) as (λ w. (o ≡ Some term) ⊎ IsMet term (p ∷ ps)) [
@@ -232,14 +232,14 @@ least-met o (p ∷ ps) term h =
       | inr met ↦ inr (met.0, suc met.1, met.2, met.3)
     ]
 
-pub met-of-least : (ps : List PartValue) (term : List ℕ) → least_of None ps ≡ Some term → IsMet term ps
+pub met-of-least : (ps : List TermStreamValue) (term : List ℕ) → least_of None ps ≡ Some term → IsMet term ps
 met-of-least ps term h = elim (least-met None ps term h) as (λ w. IsMet term ps) [
   | inl other ↦ absurd (let e : None ≡ Some term = other in cc)
   | inr met ↦ met
 ]
 
 -- a merge that is finished has all postings
-pub IsJoined-end : (all rest : List PartValue) (names lists positions : List (List ℕ)) → IsJoining all rest names lists positions →
+pub IsJoined-end : (all rest : List TermStreamValue) (names lists positions : List (List ℕ)) → IsJoining all rest names lists positions →
     least_of None rest ≡ None → IsJoined all names lists positions
 IsJoined-end all rest names lists positions j h = record {
   ascend = j.ascend;

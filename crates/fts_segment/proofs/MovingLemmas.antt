@@ -11,7 +11,7 @@ use Rattle.fts_pack.proofs.BitsLemmas.{all_counted}
 use Rattle.std.proofs.lemmas.Option.{slice_get_within, get_or_from_slice_get}
 use Rattle.fts_pack.specs.Documents.{block_at}
 use Rattle.fts_pack.proofs.DocumentsLemmas.{take_block}
-use Rattle.fts_segment.specs.Parts.{AreInARow, PartValue, number_in, renumbered, placed, moved}
+use Rattle.fts_segment.specs.Parts.{AreInARow, TermStreamValue, number_in, renumbered, placed, moved}
 use Rattle.fts_segment.specs.Postings.{Posting, posting_at, postings_of, documents, position_lists}
 
 -- the rest of a list from an index, with the first split off
@@ -195,13 +195,13 @@ set-front f items xs i x y is at new =
       here,
     )
 
-given-suc : (f : PartValue → List Posting) (xs : List PartValue) (i : ℕ) (x : PartValue) → slice_get xs i ≡ Some x →
+given-suc : (f : TermStreamValue → List Posting) (xs : List TermStreamValue) (i : ℕ) (x : TermStreamValue) → slice_get xs i ≡ Some x →
     flat_map f (take (suc i) xs) ≡ flat_map f (take i xs) ++ f x
 given-suc f [] i x at = absurd (let no : None ≡ Some x = at in cc)
 given-suc f (y ∷ xs) zero x at = let same : y ≡ x = cc in append-nil (f y) ∙ ap f same
 given-suc f (y ∷ xs) (suc i) x at = ap (λ ps. f y ++ ps) (given-suc f xs i x at) ∙ sym (append_assoc (f y) (flat_map f (take i xs)) (f x))
 
 -- the postings that one more stream gives
-pub given-front : (f : PartValue → List Posting) (xs : List PartValue) (i : ℕ) (x : PartValue) → slice_get xs i ≡ Some x →
+pub given-front : (f : TermStreamValue → List Posting) (xs : List TermStreamValue) (i : ℕ) (x : TermStreamValue) → slice_get xs i ≡ Some x →
     flat_map f (take (i + 1) xs) ≡ flat_map f (take i xs) ++ f x
 given-front f xs i x at = let one : i + 1 ≡ suc i = omega arith in ap (λ n. flat_map f (take n xs)) one ∙ given-suc f xs i x at

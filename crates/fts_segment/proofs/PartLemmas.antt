@@ -15,7 +15,7 @@ use Rattle.fts_pack.proofs.SumLemmas.{sum-cons}
 use Rattle.fts_segment.specs.declared.dictionary.Dictionary.{Dictionary}
 use Rattle.fts_segment.specs.Postings.{Posting, documents_before, postings_by, postings_of}
 use Rattle.fts_segment.proofs.FindLemmas.{same_from_equal, turned}
-use Rattle.fts_segment.specs.Parts.{PartValue, IsWhole, part_from, found, joined, moved, IsBelow, Ascend, IsSound, begins, passed, given}
+use Rattle.fts_segment.specs.Parts.{TermStreamValue, IsWhole, part_from, found, joined, moved, IsBelow, Ascend, IsSound, begins, passed, given}
 
 -- a name differs from one before it
 less_differs : (a b : List ℕ) → slice_cmp nat_cmp a b ≡ Less → bytes_eq b a ≡ false
@@ -57,9 +57,9 @@ pub below-passed : (term : List ℕ) (names : List (List ℕ)) (postings : List 
     IsBelow term (passed term (record { names = names; postings = postings; numbers = numbers })).names
 below-passed term [] postings numbers up from = tt
 below-passed term (n ∷ names) postings numbers up from =
-    let next : PartValue = record { names = names; postings = drop 1 postings; numbers = numbers } in
-    let same_part : PartValue = record { names = n ∷ names; postings = postings; numbers = numbers } in
-    let P : Bool → Type 0 = λ b. IsBelow term (cond {A = PartValue} b next same_part).names in
+    let next : TermStreamValue = record { names = names; postings = drop 1 postings; numbers = numbers } in
+    let same_part : TermStreamValue = record { names = n ∷ names; postings = postings; numbers = numbers } in
+    let P : Bool → Type 0 = λ b. IsBelow term (cond {A = TermStreamValue} b next same_part).names in
     elim (bytes_eq n term) as (λ b. bytes_eq n term ≡ b → P b) [
       | true ↦ λ same. let one : n ≡ term = (bytes_eq-Decides n term).0 same in let Q : List ℕ → Type 0 = λ x. IsBelow x names in subst Q one up.0
       | false ↦ λ differ. let less = next_name term n from differ in (less, IsBelow-trans term n names less up.0)
@@ -78,20 +78,20 @@ given-found term (n ∷ names) (l ∷ postings) numbers up paired from =
     ] refl
 
 -- nothing is left of a term after it is taken
-pub found-passed : (term : List ℕ) (p : PartValue) → IsSound p → IsFrom term p.names → found (passed term p).names (passed term p).postings term ≡ []
+pub found-passed : (term : List ℕ) (p : TermStreamValue) → IsSound p → IsFrom term p.names → found (passed term p).names (passed term p).postings term ≡ []
 found-passed term p sound from =
     found-below term (passed term p).names (passed term p).postings (below-passed term p.names p.postings p.numbers sound.ascend from)
 
 -- the postings of other terms are unchanged
 pub found-other : (term other : List ℕ) (names : List (List ℕ)) (postings : List (List Posting)) (numbers : List (Option ℕ)) → length names ≡ length postings →
     bytes_eq term other ≡ false →
-    let p : PartValue = record { names = names; postings = postings; numbers = numbers } in
+    let p : TermStreamValue = record { names = names; postings = postings; numbers = numbers } in
     moved (passed term p).numbers (found (passed term p).names (passed term p).postings other) ≡ moved numbers (found names postings other)
 found-other term other [] postings numbers paired differ = refl
 found-other term other (n ∷ names) [] numbers paired differ = absurd (omega (arith, paired))
 found-other term other (n ∷ names) (l ∷ postings) numbers paired differ =
-    let all : PartValue = record { names = n ∷ names; postings = l ∷ postings; numbers = numbers } in
-    let rest : PartValue = record { names = names; postings = postings; numbers = numbers } in
+    let all : TermStreamValue = record { names = n ∷ names; postings = l ∷ postings; numbers = numbers } in
+    let rest : TermStreamValue = record { names = names; postings = postings; numbers = numbers } in
     elim (bytes_eq n term) as (λ b. bytes_eq n term ≡ b → moved (cond b rest all).numbers (found (cond b rest all).names (cond b rest all).postings other)
     ≡ moved numbers (cond (bytes_eq n other) l (found names postings other))) [
       | true ↦ λ same.
@@ -120,45 +120,45 @@ pub below-after : (name term : List ℕ) (names : List (List ℕ)) (postings : L
     IsBelow name (passed term (record { names = names; postings = postings; numbers = numbers })).names
 below-after name term [] postings numbers h = tt
 below-after name term (n ∷ names) postings numbers h =
-    elim (bytes_eq n term) as (λ b. IsBelow name (cond {A = PartValue} b (record { names = names; postings = drop 1 postings; numbers = numbers })
+    elim (bytes_eq n term) as (λ b. IsBelow name (cond {A = TermStreamValue} b (record { names = names; postings = drop 1 postings; numbers = numbers })
     (record { names = n ∷ names; postings = postings; numbers = numbers })).names) [
       | true ↦ h.1
       | false ↦ h
     ]
 
 -- all parts are from a term on
-abbrev pub AreFrom : List ℕ → List PartValue → Type 0
+abbrev pub AreFrom : List ℕ → List TermStreamValue → Type 0
 AreFrom term ps = AllByRecursion (λ p. IsFrom term p.names) ps
 
-pub joined-given : (term : List ℕ) (ps : List PartValue) → AllByRecursion IsSound ps → AreFrom term ps → joined ps term ≡ flat_map (given term) ps
+pub joined-given : (term : List ℕ) (ps : List TermStreamValue) → AllByRecursion IsSound ps → AreFrom term ps → joined ps term ≡ flat_map (given term) ps
 joined-given term [] sound from = refl
 joined-given term (p ∷ ps) sound from =
     ap₂ (λ a b. a ++ b) (given-found term p.names p.postings p.numbers sound.0.ascend sound.0.paired from.0) (joined-given term ps sound.1 from.1)
 
-pub joined-passed : (term : List ℕ) (ps : List PartValue) → AllByRecursion IsSound ps → AreFrom term ps → joined (map (passed term) ps) term ≡ []
+pub joined-passed : (term : List ℕ) (ps : List TermStreamValue) → AllByRecursion IsSound ps → AreFrom term ps → joined (map (passed term) ps) term ≡ []
 joined-passed term [] sound from = refl
 joined-passed term (p ∷ ps) sound from =
     ap₂ (λ a b. moved (passed term p).numbers a ++ b) (found-passed term p sound.0 from.0) (joined-passed term ps sound.1 from.1)
 
-pub joined-other : (term other : List ℕ) (ps : List PartValue) → AllByRecursion IsSound ps → bytes_eq term other ≡ false →
+pub joined-other : (term other : List ℕ) (ps : List TermStreamValue) → AllByRecursion IsSound ps → bytes_eq term other ≡ false →
     joined (map (passed term) ps) other ≡ joined ps other
 joined-other term other [] sound differ = refl
 joined-other term other (p ∷ ps) sound differ =
     ap₂ (λ a b. a ++ b) (found-other term other p.names p.postings p.numbers sound.0.paired differ) (joined-other term other ps sound.1 differ)
 
-pub sound-all : (term : List ℕ) (ps : List PartValue) → AllByRecursion IsSound ps → AllByRecursion IsSound (map (passed term) ps)
+pub sound-all : (term : List ℕ) (ps : List TermStreamValue) → AllByRecursion IsSound ps → AllByRecursion IsSound (map (passed term) ps)
 sound-all term [] h = tt
 sound-all term (p ∷ ps) h = (sound-passed term p.names p.postings p.numbers h.0, sound-all term ps h.1)
 
 -- a name is before all names of parts
-abbrev pub IsBelowAll : List ℕ → List PartValue → Type 0
+abbrev pub IsBelowAll : List ℕ → List TermStreamValue → Type 0
 IsBelowAll name ps = AllByRecursion (λ p. IsBelow name p.names) ps
 
-pub below-all-after : (name term : List ℕ) (ps : List PartValue) → IsBelowAll name ps → IsBelowAll name (map (passed term) ps)
+pub below-all-after : (name term : List ℕ) (ps : List TermStreamValue) → IsBelowAll name ps → IsBelowAll name (map (passed term) ps)
 below-all-after name term [] h = tt
 below-all-after name term (p ∷ ps) h = (below-after name term p.names p.postings p.numbers h.0, below-all-after name term ps h.1)
 
-pub below-all-passed : (term : List ℕ) (ps : List PartValue) → AllByRecursion IsSound ps → AreFrom term ps → IsBelowAll term (map (passed term) ps)
+pub below-all-passed : (term : List ℕ) (ps : List TermStreamValue) → AllByRecursion IsSound ps → AreFrom term ps → IsBelowAll term (map (passed term) ps)
 below-all-passed term [] sound from = tt
 below-all-passed term (p ∷ ps) sound from = (below-passed term p.names p.postings p.numbers sound.0.ascend from.0, below-all-passed term ps sound.1 from.1)
 
@@ -167,22 +167,22 @@ pub begins-below : (name term : List ℕ) (names : List (List ℕ)) → begins t
 begins-below name term [] h below = absurd (let no : false ≡ true = h in cc)
 begins-below name term (n ∷ names) h below = ap (slice_cmp nat_cmp name) (sym ((bytes_eq-Decides n term).0 h)) ∙ below.0
 
-abbrev pub IsMet : List ℕ → List PartValue → Type 0
-IsMet term ps = (p : PartValue) × (i : ℕ) × (slice_get ps i ≡ Some p) × (begins term p.names ≡ true)
+abbrev pub IsMet : List ℕ → List TermStreamValue → Type 0
+IsMet term ps = (p : TermStreamValue) × (i : ℕ) × (slice_get ps i ≡ Some p) × (begins term p.names ≡ true)
 
-below_at : (name : List ℕ) (ps : List PartValue) (i : ℕ) (p : PartValue) → IsBelowAll name ps → slice_get ps i ≡ Some p → IsBelow name p.names
+below_at : (name : List ℕ) (ps : List TermStreamValue) (i : ℕ) (p : TermStreamValue) → IsBelowAll name ps → slice_get ps i ≡ Some p → IsBelow name p.names
 below_at name [] i p h e = absurd (let no : None ≡ Some p = e in cc)
-below_at name (q ∷ ps) zero p h e = let same : q ≡ p = cc in let P : PartValue → Type 0 = λ r. IsBelow name r.names in subst P same h.0
+below_at name (q ∷ ps) zero p h e = let same : q ≡ p = cc in let P : TermStreamValue → Type 0 = λ r. IsBelow name r.names in subst P same h.0
 below_at name (q ∷ ps) (suc i) p h e = below_at name ps i p h.1 e
 
-pub met-below : (name term : List ℕ) (ps : List PartValue) → IsMet term ps → IsBelowAll name ps → slice_cmp nat_cmp name term ≡ Less
+pub met-below : (name term : List ℕ) (ps : List TermStreamValue) → IsMet term ps → IsBelowAll name ps → slice_cmp nat_cmp name term ≡ Less
 met-below name term ps met h = begins-below name term met.0.names met.3 (below_at name ps met.1 met.0 h met.2)
 
 -- the number of names that are left
-abbrev pub left : List PartValue → ℕ
+abbrev pub left : List TermStreamValue → ℕ
 left ps = sum_by (λ p. length p.names) ps
 
-fewer-part : (term : List ℕ) (p : PartValue) (names : List (List ℕ)) → p.names ≡ names → length (passed term p).names ≤ length names
+fewer-part : (term : List ℕ) (p : TermStreamValue) (names : List (List ℕ)) → p.names ≡ names → length (passed term p).names ≤ length names
 fewer-part term p [] e = let P : List (List ℕ) → Type 0 =
     λ ns. length (cond (begins term ns) (record { names = drop 1 p.names; postings = drop 1 p.postings; numbers = p.numbers }) p).names ≤ 0 in
     subst P (sym e) (omega (arith, ap length e))
@@ -194,7 +194,7 @@ fewer-part term p (n ∷ names) e =
       | false ↦ omega (arith, ap length e)
     ]
 
-fewer-begun : (term : List ℕ) (p : PartValue) (names : List (List ℕ)) → p.names ≡ names → begins term p.names ≡ true →
+fewer-begun : (term : List ℕ) (p : TermStreamValue) (names : List (List ℕ)) → p.names ≡ names → begins term p.names ≡ true →
     length (passed term p).names < length p.names
 fewer-begun term p [] e h = absurd (let no : false ≡ true = ap (begins term) (sym e) ∙ h in cc)
 fewer-begun term p (n ∷ names) e h =
@@ -203,43 +203,43 @@ fewer-begun term p (n ∷ names) e h =
     let Q : List (List ℕ) → Type 0 = λ ns. length (drop 1 ns) < length ns in
     subst P (sym h) (subst Q (sym e) (let k : length names < suc (length names) = omega arith in k))
 
-fewer-all : (term : List ℕ) (ps : List PartValue) → left (map (passed term) ps) ≤ left ps
+fewer-all : (term : List ℕ) (ps : List TermStreamValue) → left (map (passed term) ps) ≤ left ps
 fewer-all term [] = omega arith
 fewer-all term (p ∷ ps) =
     omega (
       arith,
       fewer-part term p p.names refl,
       fewer-all term ps,
-      sum_by-cons (λ (p : PartValue). length p.names) p ps,
+      sum_by-cons (λ (p : TermStreamValue). length p.names) p ps,
       sum_by-cons
-          (λ (p : PartValue). length p.names) (passed term p) (map (passed term) ps),
+          (λ (p : TermStreamValue). length p.names) (passed term p) (map (passed term) ps),
     )
 
-fewer-at : (term : List ℕ) (ps : List PartValue) (i : ℕ) (p : PartValue) → slice_get ps i ≡ Some p → begins term p.names ≡ true →
+fewer-at : (term : List ℕ) (ps : List TermStreamValue) (i : ℕ) (p : TermStreamValue) → slice_get ps i ≡ Some p → begins term p.names ≡ true →
     left (map (passed term) ps) < left ps
 fewer-at term [] i p e h = absurd (let no : None ≡ Some p = e in cc)
 fewer-at term (q ∷ ps) zero p e h =
     let same : q ≡ p = cc in
-    let begun : begins term q.names ≡ true = ap (λ (r : PartValue). begins term r.names) same ∙ h in
+    let begun : begins term q.names ≡ true = ap (λ (r : TermStreamValue). begins term r.names) same ∙ h in
     omega (
       arith,
       fewer-begun term q q.names refl begun,
       fewer-all term ps,
-      sum_by-cons (λ (p : PartValue). length p.names) q ps,
+      sum_by-cons (λ (p : TermStreamValue). length p.names) q ps,
       sum_by-cons
-          (λ (p : PartValue). length p.names) (passed term q) (map (passed term) ps),
+          (λ (p : TermStreamValue). length p.names) (passed term q) (map (passed term) ps),
     )
 fewer-at term (q ∷ ps) (suc i) p e h =
     omega (
       arith,
       fewer-part term q q.names refl,
       fewer-at term ps i p e h,
-      sum_by-cons (λ (p : PartValue). length p.names) q ps,
+      sum_by-cons (λ (p : TermStreamValue). length p.names) q ps,
       sum_by-cons
-          (λ (p : PartValue). length p.names) (passed term q) (map (passed term) ps),
+          (λ (p : TermStreamValue). length p.names) (passed term q) (map (passed term) ps),
     )
 
-pub fewer : (term : List ℕ) (ps : List PartValue) → IsMet term ps → left (map (passed term) ps) < left ps
+pub fewer : (term : List ℕ) (ps : List TermStreamValue) → IsMet term ps → left (map (passed term) ps) < left ps
 fewer term ps met = fewer-at term ps met.1 met.0 met.2 met.3
 
 length-postings_by : (lists positions : List (List ℕ)) → length (postings_by lists positions) ≡ length lists
@@ -278,6 +278,6 @@ passed-here term at d numbers is h =
     let within = begins-within term d.names at h in
     let postings = postings_by d.lists d.positions in
     let many : at < length postings = omega (arith, within, is.listed, length-postings_by d.lists d.positions) in
-    let part : List (List ℕ) → List (List Posting) → PartValue = λ ns ps. record { names = ns; postings = ps; numbers = numbers } in
+    let part : List (List ℕ) → List (List Posting) → TermStreamValue = λ ns ps. record { names = ns; postings = ps; numbers = numbers } in
     ap (λ b. cond b (part (drop 1 (drop at d.names)) (drop 1 (drop at postings))) (part_from at d numbers)) h
     ∙ ap₂ part (ap (drop 1) (drop_more d.names at [] within)) (ap (drop 1) (drop_more postings at [] many))

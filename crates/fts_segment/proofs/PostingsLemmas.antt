@@ -18,7 +18,7 @@ use Rattle.fts_segment.specs.Positions.{position_lists_with}
 use Rattle.fts_segment.specs.Postings.{Posting, posting_at, postings_by, postings_of, documents, position_lists}
 use Rattle.fts_segment.specs.Segments.{positions_among}
 use Rattle.fts_segment.specs.Sorted.{Ascends}
-use Rattle.fts_segment.specs.Parts.{postings_with, found, joined, Ascend, IsBelow, IsSound, IsJoined, PartValue}
+use Rattle.fts_segment.specs.Parts.{postings_with, found, joined, Ascend, IsBelow, IsSound, IsJoined, TermStreamValue}
 use Rattle.fts_segment.proofs.HoldingLemmas.{docs_with-occurrences, numbers_where-cons}
 use Rattle.fts_segment.proofs.KeywordsLemmas.{Climbs, climbs_by_place, either, none}
 use Rattle.fts_segment.proofs.MovingLemmas.{postings_of-take}
@@ -193,7 +193,7 @@ map-same : {X Y : Type 0} (f g : X → Y) → ((x : X) → f x ≡ g x) → (xs 
 map-same f g same [] = refl
 map-same f g same (x ∷ xs) = ap₂ (λ y ys. y ∷ ys) (same x) (map-same f g same xs)
 
-all-occur : (os : List OccurrenceValue) (parts : List PartValue) (names : List (List ℕ)) → ((q : List ℕ) → joined parts q ≡ postings_with q os) →
+all-occur : (os : List OccurrenceValue) (parts : List TermStreamValue) (names : List (List ℕ)) → ((q : List ℕ) → joined parts q ≡ postings_with q os) →
     AllByRecursion (λ q. joined parts q ≢ []) names →
     All (λ q. occurs os q ≡ true) names
 all-occur os parts [] same some = All-nil (λ q. occurs os q ≡ true)
@@ -201,7 +201,7 @@ all-occur os parts (q ∷ names) same some =
     All-cons (λ q. occurs os q ≡ true) q names (occurs-some q os (λ empty. some.0 (same q ∙ empty))) (all-occur os parts names same some.1)
 
 -- a merged dictionary is that of occurrences, if the streams have their postings
-pub dictionary-joined : (kind : Kind) (vs : List (Option FieldValue)) (parts : List PartValue) (names lists positions : List (List ℕ)) →
+pub dictionary-joined : (kind : Kind) (vs : List (Option FieldValue)) (parts : List TermStreamValue) (names lists positions : List (List ℕ)) →
     ((q : List ℕ) → joined parts q ≡ postings_with q (occurrences kind 0 vs)) → IsJoined parts names lists positions →
     IsDictionaryOf (occurrences kind 0 vs) names lists positions
 dictionary-joined kind vs parts names lists positions same j =

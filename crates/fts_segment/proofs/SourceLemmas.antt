@@ -22,7 +22,7 @@ use Rattle.fts_segment.specs.Positions.{position_lists_with}
 use Rattle.fts_segment.specs.Postings.{Posting, posting_at, documents}
 use Rattle.fts_segment.specs.Segments.{AllFit, positions_among}
 use Rattle.fts_segment.specs.Sources.{SourceValue, HasBits, live_count, contents}
-use Rattle.fts_segment.specs.Parts.{PartValue, renumbered, placed, moved, found, joined, part_from, postings_with, IsSound, IsWhole, IsPart, AreParts, IsJoined}
+use Rattle.fts_segment.specs.Parts.{TermStreamValue, renumbered, placed, moved, found, joined, part_from, postings_with, IsSound, IsWhole, IsPart, AreParts, IsJoined}
 use Rattle.fts_segment.proofs.HoldingLemmas.{docs_with-rise}
 use Rattle.fts_segment.proofs.MovingLemmas.{dropped_at, length-renumbered}
 use Rattle.fts_segment.proofs.PostingsLemmas.{ArePaired, postings-cons, paired-occurrences, docs-within, documents-postings_of, found-dictionary, sound-dictionary}
@@ -175,7 +175,7 @@ live_count-push [] s = omega (arith, live_count-cons s [])
 live_count-push (t ∷ ss) s = omega (arith, live_count-cons t (ss ++ s ∷ []), live_count-push ss s, live_count-cons t ss)
 
 -- one more stream
-pub AreParts-push : (kind : Kind) (field next : ℕ) (ss : List SourceValue) (ps : List PartValue) (s : SourceValue) (p : PartValue) →
+pub AreParts-push : (kind : Kind) (field next : ℕ) (ss : List SourceValue) (ps : List TermStreamValue) (s : SourceValue) (p : TermStreamValue) →
     AreParts kind field next ss ps → IsPart kind field (next + live_count ss) s p →
     AreParts kind field next (ss ++ s ∷ []) (ps ++ p ∷ [])
 AreParts-push kind field next [] [] s p are is =
@@ -191,7 +191,7 @@ AreParts-push kind field next (t ∷ ss) (q ∷ ps) s p are is =
     )
 
 -- the postings of streams are those in the live documents of the sources
-parts-joined : (q : List ℕ) (kind : Kind) (field next : ℕ) (ss : List SourceValue) (ps : List PartValue) → All HasBits ss → AreParts kind field next ss ps →
+parts-joined : (q : List ℕ) (kind : Kind) (field next : ℕ) (ss : List SourceValue) (ps : List TermStreamValue) → All HasBits ss → AreParts kind field next ss ps →
     joined ps q ≡ postings_with q (occurrences kind next (values_in field (contents ss)))
 parts-joined q kind field next [] [] bits are = refl
 parts-joined q kind field next [] (p ∷ ps) bits are = absurd are
@@ -212,13 +212,13 @@ parts-joined q kind field next (s ∷ ss) (p ∷ ps) bits are =
     ∙ sym (postings-append q kind next live others)
     ∙ ap (λ ws. postings_with q (occurrences kind next ws)) (sym all)
 
-pub sound-parts : (kind : Kind) (field next : ℕ) (ss : List SourceValue) (ps : List PartValue) → AreParts kind field next ss ps → AllByRecursion IsSound ps
+pub sound-parts : (kind : Kind) (field next : ℕ) (ss : List SourceValue) (ps : List TermStreamValue) → AreParts kind field next ss ps → AllByRecursion IsSound ps
 sound-parts kind field next [] [] are = tt
 sound-parts kind field next [] (p ∷ ps) are = absurd are
 sound-parts kind field next (s ∷ ss) [] are = absurd are
 sound-parts kind field next (s ∷ ss) (p ∷ ps) are = (are.0.sound, sound-parts kind field (next + live_in s) ss ps are.1)
 
-pub parts-rise : (kind : Kind) (field : ℕ) (ss : List SourceValue) (ps : List PartValue) → All HasBits ss → AreParts kind field 0 ss ps → (q : List ℕ) →
+pub parts-rise : (kind : Kind) (field : ℕ) (ss : List SourceValue) (ps : List TermStreamValue) → All HasBits ss → AreParts kind field 0 ss ps → (q : List ℕ) →
     IsStrictlyIncreasing (documents (joined ps q))
 parts-rise kind field ss ps bits are q =
     let vs = values_in field (contents ss) in
@@ -228,7 +228,7 @@ parts-rise kind field ss ps bits are q =
     (paired-occurrences q kind 0 vs))) (docs_with-rise q kind 0 vs)
 
 -- the merged dictionary of streams is that of the live documents
-pub terms-joined : (kind : Kind) (field : ℕ) (ss : List SourceValue) (ps : List PartValue) (dictionary : Dictionary) → holds_numbers kind ≡ false →
+pub terms-joined : (kind : Kind) (field : ℕ) (ss : List SourceValue) (ps : List TermStreamValue) (dictionary : Dictionary) → holds_numbers kind ≡ false →
     All HasBits ss → AreParts kind field 0 ss ps →
     All (λ s. All (HasFewTokens kind) (values_in field s.segment.documents)) ss →
     IsJoined ps dictionary.names dictionary.lists dictionary.positions →
@@ -319,7 +319,7 @@ abbrev pub whole_source : List (Stamped DocumentValue) → SourceValue
 whole_source xs = record { segment = record { schema = []; documents = xs }; live = replicate (length xs) true }
 
 -- the streams of two dictionaries, one after the other
-abbrev pub halves : Dictionary → ℕ → Dictionary → ℕ → List PartValue
+abbrev pub halves : Dictionary → ℕ → Dictionary → ℕ → List TermStreamValue
 halves front n back m = part_from 0 front (renumbered 0 (replicate n true)) ∷ part_from 0 back (renumbered n (replicate m true)) ∷ []
 
 whole-part : (kind : Kind) (field next : ℕ) (xs : List (Stamped DocumentValue)) (docs : ℕ) (dictionary : Dictionary) →

@@ -45,13 +45,13 @@ moved numbers [] = []
 moved numbers (p ∷ ps) = placed (slice_get numbers p.doc) p ++ moved numbers ps
 
 -- a term stream: ascending terms, the postings of each, and new numbers for their documents
-pub record PartValue : Type 0 where
+pub record TermStreamValue : Type 0 where
   pub names : List (List ℕ)
   pub postings : List (List Posting)
   pub numbers : List (Option ℕ)
 
 -- the stream of a dictionary from a term
-abbrev pub part_from : ℕ → Dictionary → List (Option ℕ) → PartValue
+abbrev pub part_from : ℕ → Dictionary → List (Option ℕ) → TermStreamValue
 part_from at dictionary numbers = record {
   names = drop at dictionary.names;
   postings = drop at (postings_by dictionary.lists dictionary.positions);
@@ -79,7 +79,7 @@ found (name ∷ names) [] term = []
 found (name ∷ names) (here ∷ postings) term = if bytes_eq name term then here else found names postings term
 
 -- the postings of streams for a term, under new document numbers, one stream after the other
-abbrev pub joined : List PartValue → List ℕ → List Posting
+abbrev pub joined : List TermStreamValue → List ℕ → List Posting
 joined [] term = []
 joined (part ∷ parts) term = moved part.numbers (found part.names part.postings term) ++ joined parts term
 
@@ -93,12 +93,12 @@ Ascend [] = Unit {0}
 Ascend (name ∷ names) = IsBelow name names × Ascend names
 
 -- the names ascend, and each has its postings
-pub record IsSound (part : PartValue) : Type 0 where
+pub record IsSound (part : TermStreamValue) : Type 0 where
   pub ascend : Ascend part.names
   pub paired : length part.names ≡ length part.postings
 
 -- the merged dictionary of streams: the terms that have a posting, in order, each with the postings of every stream
-pub record IsJoined (parts : List PartValue) (names lists positions : List (List ℕ)) : Type 0 where
+pub record IsJoined (parts : List TermStreamValue) (names lists positions : List (List ℕ)) : Type 0 where
   pub ascend : Ascend names
   pub listed : lists ≡ map (λ q. documents (joined parts q)) names
   pub positioned : positions ≡ flat_map (λ q. position_lists (joined parts q)) names
@@ -111,12 +111,12 @@ begins term [] = false
 begins term (name ∷ names) = bytes_eq name term
 
 -- a stream after a term was taken from it, if the term is its next one
-abbrev pub passed : List ℕ → PartValue → PartValue
+abbrev pub passed : List ℕ → TermStreamValue → TermStreamValue
 passed term part = if begins term part.names
     then record { names = drop 1 part.names; postings = drop 1 part.postings; numbers = part.numbers } else part
 
 -- the postings that a stream gives for a term, if the term is its next one
-abbrev pub given : List ℕ → PartValue → List Posting
+abbrev pub given : List ℕ → TermStreamValue → List Posting
 given term part = if begins term part.names then moved part.numbers (slice_index_or part.postings 0 []) else []
 
 -- the first in order of two optional names
@@ -126,7 +126,7 @@ lesser (Some a) None = Some a
 lesser (Some a) (Some b) = if is_gt (slice_cmp nat_cmp a b) then Some b else Some a
 
 -- the first in order of the streams' next names
-abbrev pub least_of : Option (List ℕ) → List PartValue → Option (List ℕ)
+abbrev pub least_of : Option (List ℕ) → List TermStreamValue → Option (List ℕ)
 least_of least [] = least
 least_of least (part ∷ parts) = least_of (lesser least (slice_get part.names 0)) parts
 
@@ -135,14 +135,14 @@ abbrev pub postings_with : List ℕ → List OccurrenceValue → List Posting
 postings_with term os = postings_of (docs_with term os) (position_lists_with term os)
 
 -- the term stream of a source in a field: its dictionary, and new numbers for its documents from `next`
-pub record IsPart (kind : Kind) (field next : ℕ) (source : SourceValue) (part : PartValue) : Type 0 where
+pub record IsPart (kind : Kind) (field next : ℕ) (source : SourceValue) (part : TermStreamValue) : Type 0 where
   pub sound : IsSound part
   pub postings_are : (q : List ℕ) → found part.names part.postings q
       ≡ postings_with q (occurrences kind 0 (values_in field source.segment.documents))
   pub numbers_are : part.numbers ≡ renumbered next source.live
 
 -- the term streams of sources
-abbrev pub AreParts : Kind → ℕ → ℕ → List SourceValue → List PartValue → Type 0
+abbrev pub AreParts : Kind → ℕ → ℕ → List SourceValue → List TermStreamValue → Type 0
 AreParts kind field next [] [] = Unit {0}
 AreParts kind field next [] (p ∷ ps) = ⊥
 AreParts kind field next (s ∷ ss) [] = ⊥

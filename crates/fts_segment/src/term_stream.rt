@@ -28,9 +28,9 @@ pub(crate) struct TermStream<'a> {
 }
 
 impl<'a> Model for TermStream<'a> {
-    ghost use Rattle.fts_segment.specs.Parts.{PartValue, IsPartOf, part_from};
+    ghost use Rattle.fts_segment.specs.Parts.{TermStreamValue, IsPartOf, part_from};
 
-    ghost Value = { PartValue };
+    ghost Value = { TermStreamValue };
 
     ghost view = { λ p. part_from p.at p.dictionary.now p.numbers };
 

@@ -11,7 +11,7 @@ use Rattle.fts_postings.specs.declared.window.Window.{Window}
 abbrev pub Tells : (ℕ → Bool) → ℕ → ℕ → Type 0
 Tells test from word = (j : ℕ) → j < 64 → (bit_at word j == 1) ≡ test (from + j)
 
--- of this many words, the first of them that of an index, each tells those documents too that pass
+-- each of this many words, the first of them that of an index, tells those documents too that pass
 abbrev pub AreAdded : (ℕ → Bool) → ℕ → ℕ → List ℕ → List ℕ → Type 0
 AreAdded test index words old new = (k j : ℕ) → k < words → j < 64 →
     (bit_at (slice_index new k) j == 1) ≡ ((bit_at (slice_index old k) j == 1) || test (64 * (index + k) + j))

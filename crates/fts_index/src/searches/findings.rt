@@ -1,9 +1,9 @@
 // What a query is thought to find in a segment, and what that takes: an estimate, of which no contract speaks.
 
-/// To take a document along that is tested for another query, in picoseconds. Up to 128 go together.
+/// How many picoseconds it takes to take a document along that is tested for another query. Up to 128 go together.
 const STEP: u64 = 2_000;
 
-/// To mark a document in the window of a union.
+/// How many picoseconds it takes to mark a document in the window of a union.
 const MARK: u64 = 5_000;
 
 /// What a query finds. A number past the greatest `u64` stays at it.

@@ -13,49 +13,49 @@ use fts_segment::Segment;
 use fts_snapshots::{Entry, EntryList};
 use std::ops::Bound;
 
-/// To make a cursor and join a part.
+/// What it takes to make a cursor and to join a part.
 const SEGMENT: u64 = 1_000_000;
 
-/// To look a term up, and to open its list.
+/// What it takes to look a term up and to open its list.
 const TERM: u64 = 1_000_000;
 
-/// To unpack a document of a list.
+/// What it takes to unpack a document of a list.
 const UNPACK: u64 = 800;
 
-/// To combine the bit of a document.
+/// What it takes to combine the bit of a document.
 const COMBINE: u64 = 50;
 
-/// To test a document by the bits of a list, or for a range that few documents are in.
+/// What it takes to test a document by the bits of a list, or for a range that few documents are in.
 const TEST_BIT: u64 = 3_000;
 
-/// To test a document by a list without bits.
+/// What it takes to test a document by a list without bits.
 const TEST_LIST: u64 = 40_000;
 
-/// To compare a document's number, if those of all documents are compared.
+/// What it takes to compare a document's number, if those of all documents are compared.
 const COMPARE: u64 = 750;
 
-/// To take a document within a range.
+/// What it takes to take a document within a range.
 const WITHIN: u64 = 5_000;
 
-/// To look a document's number up, and to compare it.
+/// What it takes to look a document's number up and to compare it.
 const TEST_RANGE: u64 = 25_000;
 
-/// To look for a phrase's terms in a document of its rarest.
+/// What it takes to look for a phrase's terms in a document of its rarest.
 const TERMS: u64 = 15_000;
 
-/// To compare the positions of a phrase's terms in a document that has all.
+/// What it takes to compare the positions of a phrase's terms in a document that has all.
 const POSITIONS: u64 = 80_000;
 
-/// To count a hit in its group.
+/// What it takes to count a hit in its group.
 const GROUP: u64 = 2_000;
 
-/// To look at a hit's number for a top list.
+/// What it takes to look at a hit's number for a top list.
 const LOOK: u64 = 1_000;
 
-/// To find that a document's number is none of the best by those of its block.
+/// What it takes to find that a document's number is none of the best by those of its block.
 const LOOK_AT_ALL: u64 = 150;
 
-/// To offer a hit to a top list.
+/// What it takes to offer a hit to a top list.
 const OFFER: u64 = 30_000;
 
 /// How many documents of a segment have a term.

@@ -10,8 +10,8 @@ changed And told set = told && set
 changed Or told set = told || set
 changed AndNot told set = told && not set
 
--- of the documents that words tell, the first word of which is that of an index, each is told afterwards as a change
--- says, by its number and whether it was told
+-- words, the first of them that of an index, tell each document afterwards as a change says, by its number and whether
+-- it was told
 pub record AreChanged (change : ℕ → Bool → Bool) (index : ℕ) (old new : List ℕ) : Type 0 where
   pub long : length new ≡ length old
   pub told : (k j : ℕ) → k < length old → j < 64 →

@@ -9,7 +9,7 @@ use Rattle.fts_model.specs.Limits.{most_merged}
 use Rattle.fts_model.specs.Operations.{kind_at}
 use Rattle.fts_segment.specs.FieldIndexes.{AreTerms}
 use Rattle.fts_segment.specs.Occurrences.{values_in}
-use Rattle.fts_segment.specs.Parts.{PartValue, IsJoined, IsSound, joined}
+use Rattle.fts_segment.specs.Parts.{TermStreamValue, IsJoined, IsSound, joined}
 use Rattle.fts_segment.specs.Postings.{documents}
 use Rattle.fts_segment.specs.Sources.{SourceValue, contents, live_count}
 use Rattle.fts_segment.proofs.SourceLemmas.{contents-append, length-contents, live_count-append, sound-parts, parts-rise, terms-joined}
@@ -18,19 +18,19 @@ use Rattle.fts_segment.proofs.dictionary_merge.+merge_dictionaries.Goals.{After-
 
 pub merge_terms-requires-clause-sound : goal.merge_terms-requires-clause-sound
 merge_terms-requires-clause-sound t c =
-    let P : List PartValue → Type 0 = AllByRecursion IsSound in
+    let P : List TermStreamValue → Type 0 = AllByRecursion IsSound in
     subst P (sym c.deref_mut.ensures.value) (sound-parts c.args.kind c.args.field 0 c.args.sources.now c.in_ok-parts.parts.items c.in_ok-parts.ensures.are)
 
 pub merge_terms-requires-clause-rise : goal.merge_terms-requires-clause-rise
 merge_terms-requires-clause-rise t c =
-    let P : List PartValue → Type 0 = λ ps. (q : List ℕ) → IsStrictlyIncreasing (documents (joined ps q)) in
+    let P : List TermStreamValue → Type 0 = λ ps. (q : List ℕ) → IsStrictlyIncreasing (documents (joined ps q)) in
     subst P (sym c.deref_mut.ensures.value) (parts-rise c.args.kind c.args.field c.args.sources.now c.in_ok-parts.parts.items c.in_ok-parts.ensures.bits
     c.in_ok-parts.ensures.are)
 
 pub returns-then-sources-le-MOST_AT_ONCE : goal.returns-then-sources-le-MOST_AT_ONCE
 returns-then-sources-le-MOST_AT_ONCE t c =
     let d = c.in_ok-dictionary.dictionary in
-    let P : List PartValue → Type 0 = λ ps. IsJoined ps d.names d.lists d.positions in
+    let P : List TermStreamValue → Type 0 = λ ps. IsJoined ps d.names d.lists d.positions in
     terms-joined c.args.kind c.args.field c.args.sources.now c.in_ok-parts.parts.items d c.requires.terms c.in_ok-parts.ensures.bits c.in_ok-parts.ensures.are
     c.in_ok-parts.ensures.few
     (subst P c.deref_mut.ensures.value c.in_ok-dictionary.ensures)

@@ -1,5 +1,5 @@
 use Rattle.std.proofs.Common.{◌≡◌, Some, None, List, flat_map, map, refl, ◌∙◌, sym, subst, ◌<◌}
-use Rattle.fts_segment.specs.Parts.{PartValue, given, passed, least_of}
+use Rattle.fts_segment.specs.Parts.{TermStreamValue, given, passed, least_of}
 use Rattle.fts_positions.specs.PositionListLogs.{logged_position_lists}
 use Rattle.fts_segment.proofs.PartLemmas.{left, fewer}
 use Rattle.fts_segment.proofs.JoiningLemmas.{IsJoining-start, IsJoining-next, IsJoined-end, all-given, postings-rise, least-from, met-of-least}
@@ -28,7 +28,7 @@ loop-term-smaller c =
     let term = c.in-Some.term in
     let least : least_of None rest ≡ Some term = sym c.least.ensures ∙ c.in-Some.is in
     let fewer_left : left (map (passed term) rest) < left rest = fewer term rest (met-of-least rest term least) in
-    subst (λ (ps : List PartValue). left ps < left rest) (sym c.in_ok-merge_term.ensures.parts) fewer_left
+    subst (λ (ps : List TermStreamValue). left ps < left rest) (sym c.in_ok-merge_term.ensures.parts) fewer_left
 
 pub loop-term-preserved : goal.loop-term-preserved
 loop-term-preserved c =

@@ -1,6 +1,6 @@
 use Rattle.std.proofs.Common.{◌≡◌, ◌+◌, ◌≤◌, ◌^◌, ◌<◌, ℕ, List, true, [], All, length, get_or, drop, ap, ap₂, sym, subst, ◌∙◌, arith}
 use Rattle.fts_pack.specs.ListRef.{listed}
-use Rattle.fts_segment.specs.Parts.{PartValue, begins, given, passed, moved}
+use Rattle.fts_segment.specs.Parts.{TermStreamValue, begins, given, passed, moved}
 use Rattle.fts_segment.specs.Postings.{postings_of}
 use Rattle.fts_positions.specs.PositionCopiers.{lists_in}
 use Rattle.fts_segment.proofs.PartLemmas.{begins-within, given-here, passed-here}
@@ -11,7 +11,7 @@ use Rattle.fts_segment.proofs.term_stream.TermStream.take_term.Goals.{After-star
 
 -- the term is the next name of the dictionary
 next_of : (c : After-start-start) → let p = c.self.inside in begins c.args.term.now (drop p.at p.dictionary.now.names) ≡ true
-next_of c = ap (λ (q : PartValue). begins c.args.term.now q.names) c.self.view_is ∙ sym c.is_next.ensures ∙ c.if-is_next.true
+next_of c = ap (λ (q : TermStreamValue). begins c.args.term.now q.names) c.self.view_is ∙ sym c.is_next.ensures ∙ c.if-is_next.true
 
 within_of : (c : After-start-start) → c.self.inside.at < length c.self.inside.dictionary.now.names
 within_of c = begins-within c.args.term.now c.self.inside.dictionary.now.names c.self.inside.at (next_of c)
