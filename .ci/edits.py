@@ -59,7 +59,7 @@ SECOND_LINE = re.compile(r"\n +(?=has no field\b)")
 MEMORY = 2_400_000_000
 
 # The most edits that are tried by one check.
-TOGETHER = 6
+TOGETHER = 12
 
 
 @dataclasses.dataclass(frozen=True)
