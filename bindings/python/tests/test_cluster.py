@@ -65,6 +65,7 @@ WORDS = [f"w{number}" for number in range(300)]
 # Texts that might be taken for a part of a reply.
 AWKWARD = [
     'a},"stamp":1,"value":2}', '{"doc":{', ',"top":[', '"\\', "é\u2028\U0001f600", "\x00\x1f\x7f\t", "plain", "}]}", 'a",1],["b', '],["', '[["',
+    "a],[", '",', "%d", "a\nb",
 ]
 
 

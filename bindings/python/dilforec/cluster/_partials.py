@@ -9,35 +9,40 @@ import collections
 import itertools
 import json
 import math
+import operator
 from collections.abc import Sequence
 from typing import Any, NamedTuple, Optional, Union
 
-from dilforec import joins
+from dilforec.index import ENCODE
 
 # What is between the members of a reply, and around the hits of its top list. A document has no object within, and a
 # quote within a text is escaped, so nothing else in a reply looks like these.
 _TOP, _FIRST, _NEXT, _LAST = b',"top":[', b'{"doc":{', b'},{"doc":{', b'}]}\n'
 _COUNT, _STAMP, _VALUE = b'{"count":', b'},"stamp":', b',"value"'
-# What is before, between and after the groups of a reply, if their values are keywords and if they are numbers. The
-# quote keeps a keyword from looking like what is between.
+# What is before, between and after the groups of a reply, if their values are keywords and if they are numbers. Since a
+# quote within a keyword is escaped, only one that ends with `],[` looks like what is between, and _ODD is in it then.
 _GROUPS = b',"groups":'
 _KEYWORDS, _NUMBERS = (b'[["', b'],["', b"]]"), (b"[[", b"],[", b"]]")
+_ODD = b'],[",'
 
 # A hit of a top list: its value, negated if values fall; the place of its partition among all; its stamp; its text
 # without what is around it. Sorted, hits are in the order of the list. Plain tuples are pickled in a fraction of the
 # time of named ones.
 Hit = tuple[int, int, int, bytes]
+# The values of groups in rising order, as lines of JSON, and their counts. If values are few, all partitions have the
+# same, which nobody reads then.
+Groups = tuple[bytes, Sequence[int]]
+_lines = json.JSONEncoder(ensure_ascii=False, check_circular=False, separators=("\n", ":")).encode
 
 
 class Partial(NamedTuple):
     """The answer to a search over some partitions; without arguments, over none of them.
 
-    `documents` are counted. `groups` has the values, in rising order, and their counts. `other` is a reply that is no
-    answer, as a refusal. `fault` is an exception, pickled.
+    `documents` are counted. `other` is a reply that is no answer, as a refusal. `fault` is an exception, pickled.
     """
 
     documents: int = 0
-    groups: Optional[tuple[Sequence[Union[int, str]], Sequence[int]]] = None
+    groups: Optional[Groups] = None
     hits: Optional[Sequence[Hit]] = None
     other: Optional[bytes] = None
     fault: Optional[bytes] = None
@@ -86,9 +91,11 @@ class Joining:
 
     def _count_groups(self, counts: collections.Counter[bytes], groups: bytes) -> None:
         if groups != b"[]":
-            self._around = _KEYWORDS if groups.startswith(_KEYWORDS[0]) else _NUMBERS
-            before, between, after = self._around
-            counts.update(groups[len(before):-len(after)].split(between))
+            self._around = before, between, after = _around(groups)
+            if _ODD in groups:
+                counts.update(ENCODE(pair).encode()[len(before) - 1:-1] for pair in json.loads(groups))
+            else:
+                counts.update(groups[len(before):-len(after)].split(between))
 
     def _add_hits(self, texts: Sequence[bytes], rank: int) -> None:
         """Adds those of a partition's hits, which come in order, that may be among the first k of all."""
@@ -111,12 +118,16 @@ class Joining:
         hits = None if self._hits is None else sorted(self._hits)[:self._k]
         return Partial(self._documents, groups, hits, self._other, self.fault)
 
-    def _all_groups(self, first: bytes) -> tuple[Sequence[Any], Sequence[int]]:
+    def _all_groups(self, first: bytes) -> Groups:
         if self._groups is not None:
-            return _groups(self._read_groups(self._groups))
-        # One partition has them in order.
-        pairs = json.loads(first)
-        return [value for value, _ in pairs], [count for _, count in pairs]
+            return _in_order(self._read_groups(self._groups))
+        # One partition has them in order. To read one list takes less than to read pairs.
+        before, between, _ = _around(first)
+        if first == b"[]" or _ODD in first:
+            read = list(itertools.chain.from_iterable(json.loads(first)))
+        else:
+            read = json.loads(first[1:-1].replace(between, b"," + before[2:]))
+        return _as_lines(read[::2]), read[1::2]
 
     def _read_groups(self, texts: collections.Counter[bytes]) -> dict[Any, int]:
         """The groups of all partitions, each value with its count."""
@@ -129,9 +140,17 @@ class Joining:
         return counts
 
 
-def _groups(counts: dict[Any, int]) -> tuple[Sequence[Any], Sequence[int]]:
+def _around(groups: bytes) -> tuple[bytes, bytes, bytes]:
+    return _KEYWORDS if groups.startswith(_KEYWORDS[0]) else _NUMBERS
+
+
+def _in_order(counts: dict[Any, int]) -> Groups:
     values = sorted(counts)
-    return values, [counts[value] for value in values]
+    return _as_lines(values), [counts[value] for value in values]
+
+
+def _as_lines(values: Sequence[Any]) -> bytes:
+    return _lines(values)[1:-1].encode()
 
 
 def _texts(reply: bytes, begin: int, mark: bytes) -> list[bytes]:
@@ -155,19 +174,18 @@ def joined(partials: Sequence[Partial], k: Optional[int]) -> Partial:
     return Partial(sum(each.documents for each in partials), _joined_groups(groups) if groups else None, hits)
 
 
-def _joined_groups(
-    lists: Sequence[tuple[Sequence[Union[int, str]], Sequence[int]]],
-) -> tuple[Sequence[Any], Sequence[int]]:
+def _joined_groups(lists: Sequence[Groups]) -> Groups:
     """The groups of all, value by value, as `joins.groups` has them."""
-    first, *others = lists
-    if all(values == first[0] for values, _ in others):
-        # With few values, each partition has all of them.
-        return first[0], list(map(sum, zip(*(of_values for _, of_values in lists))))
-    counts: dict[Any, int] = collections.defaultdict(int)
-    for values, of_values in lists:
-        for value, count in zip(values, of_values):
-            counts[value] += count
-    return _groups(counts)
+    (values, counts), *others = lists
+    if any(theirs != values for theirs, _ in others):
+        every: dict[Any, int] = collections.defaultdict(int)
+        for values, counts in lists:
+            for value, count in zip(json.loads(b"[%b]" % values.replace(b"\n", b",")), counts):
+                every[value] += count
+        return _in_order(every)
+    for _, theirs in others:
+        counts = list(map(operator.add, counts, theirs))
+    return values, counts
 
 
 def replaced(first: Partial, ranks: Sequence[int], again: Partial, k: Optional[int]) -> Partial:
@@ -183,11 +201,19 @@ def encoded(answer: Partial) -> bytes:
     """The reply, as `joins.encoded` writes it."""
     if answer.other is not None:
         return answer.other
-    head: joins.Reply = {"count": answer.documents}
+    parts = [_COUNT, b"%d" % answer.documents]
     if answer.groups is not None:
-        head["groups"] = list(zip(*answer.groups))
-    if answer.hits is None:
-        return joins.encoded(head)
-    if not answer.hits:
-        return joins.encoded({**head, "top": []})
-    return b"".join([joins.encoded(head)[:-2], _TOP, _FIRST, _NEXT.join([hit[3] for hit in answer.hits]), _LAST])
+        parts += [_GROUPS, _printed(*answer.groups)]
+    if answer.hits:
+        parts += [_TOP, _FIRST, _NEXT.join([hit[3] for hit in answer.hits]), _LAST]
+    else:
+        parts.append(b"}\n" if answer.hits is None else _TOP + b"]}\n")
+    return b"".join(parts)
+
+
+def _printed(values: bytes, counts: Sequence[int]) -> bytes:
+    """Groups as a reply has them. Counts are filled in between the values, which takes less than to print pairs."""
+    if not counts:
+        return b"[]"
+    pairs = b"[[" + values.replace(b"%", b"%%").replace(b"\n", b",%d],[") + b",%d]]"
+    return pairs % tuple(counts)
