@@ -5,13 +5,14 @@ from __future__ import annotations
 
 import asyncio
 import contextlib
+import functools
 import ssl
-from typing import Any, Optional, Union
+from typing import Any, Optional
 
 from distributed.comm.addressing import parse_address, parse_host_port
 
 from dilforec.cluster._connection import Connection
-from dilforec.cluster._frames import LONGEST
+from dilforec.cluster._frames import LONGEST, Data
 from dilforec.cluster._requests import LISTENER, OPERATION
 
 # Seconds that a connection may take to be made, and that are between two tries of one.
@@ -32,17 +33,19 @@ class Connections:
         self._making: set[asyncio.Task[None]] = set()
         self._is_closed = False
 
-    async def ask(self, address: str, request: bytes) -> Optional[Union[bytes, memoryview]]:
+    def ask(self, address: str, request: bytes) -> asyncio.Future[Optional[Data]]:
         """A worker's reply to a request; None if it has no handler. OSError if it can't be reached, or is lost."""
         connection = self._connections.get(address)
         if connection is None or not connection.is_open:
             self._make_soon(address)
         elif len(request) <= LONGEST:
-            reply = await connection.ask(request)
-            if reply:
-                return reply
-        by_rpc: Optional[bytes] = await getattr(self._rpc(address), OPERATION)(request=request)
-        return by_rpc
+            # A task would take longer than all else that is done here.
+            return connection.ask(request)
+        return asyncio.ensure_future(self._ask_by_rpc(address, request))
+
+    async def _ask_by_rpc(self, address: str, request: bytes) -> Optional[Data]:
+        reply: Optional[bytes] = await getattr(self._rpc(address), OPERATION)(request=request)
+        return reply
 
     def _make_soon(self, address: str) -> None:
         now = self._loop.time()
@@ -60,7 +63,8 @@ class Connections:
             told = await getattr(self._rpc(address), LISTENER)()
             if told is not None:
                 port, token = told
-                connection = self._connections[address] = Connection(token)
+                connection = self._connections[address] = Connection(
+                    token, functools.partial(self._ask_by_rpc, address))
                 host, _ = parse_host_port(place)
                 made = self._loop.create_connection(lambda: connection, host, port, ssl=context)
                 try:

@@ -4,7 +4,9 @@ from __future__ import annotations
 import asyncio
 import socket
 import struct
-from typing import cast
+from typing import Union, cast
+
+Data = Union[bytes, memoryview]
 
 # What comes before the bytes of a frame: its number, and how many they are.
 HEAD = struct.Struct("<QI")

@@ -7,13 +7,14 @@ import asyncio
 import collections
 import pickle
 from collections.abc import Sequence
-from typing import Any, NoReturn, Optional, Union
+from typing import Any, NoReturn, Optional
 
 import distributed
 from distributed.protocol.pickle import loads
 from distributed.scheduler import KilledWorker
 
 from dilforec.cluster._connections import Connections
+from dilforec.cluster._frames import Data
 from dilforec.cluster._partitions import SourceChanged, SourceUnreadable
 from dilforec.cluster._places import Part
 from dilforec.cluster._plan import Plan
@@ -54,7 +55,7 @@ class Gathering:
         fault of its source.
         """
         pause = FIRST_PAUSE
-        sent = pickle.dumps(searches, protocol=5)
+        sent = pickle.dumps([tuple(each) for each in searches], protocol=5)
         if searches and all(search.only is not None for search in searches):
             self._left = sorted({rank for search in searches for rank in search.only or ()})
         while self._left:
@@ -105,7 +106,7 @@ class Gathering:
 
     async def _replies(self, nodes: Sequence[Node], task: str, searches: bytes) -> list[Optional[Reply]]:
         """What each worker, with those below it, replies; None if it is lost."""
-        sent = [asyncio.ensure_future(self._send(node, Request(task, node, searches))) for node in nodes]
+        sent = [self._send(node, Request(task, node, searches).pickled()) for node in nodes]
         try:
             while sent and (await asyncio.wait(sent, timeout=PATIENCE))[1]:
                 for node, reply in zip(nodes, sent):
@@ -114,24 +115,27 @@ class Gathering:
         finally:
             for reply in sent:
                 reply.cancel()
-        return [None if reply.cancelled() else reply.result() for reply in sent]
+        return [await self._read(node, reply) for node, reply in zip(nodes, sent)]
 
-    async def _send(self, node: Node, request: Request) -> Optional[Reply]:
+    def _send(self, node: Node, request: bytes) -> asyncio.Future[Optional[Data]]:
         send = self._send_through_scheduler if self._places.is_far(node.address) else self._send_directly
-        try:
-            reply = await send(node.address, request.pickled())
-        except OSError:
+        return asyncio.ensure_future(send(node.address, request))
+
+    async def _read(self, node: Node, sent: asyncio.Future[Optional[Data]]) -> Optional[Reply]:
+        """What a worker replied; None if it is lost."""
+        if sent.cancelled() or isinstance(sent.exception(), OSError):
             return None
+        reply = sent.result()
         if reply is None:
             raise RuntimeError(f"{node.address} can't answer searches: has it another version of dilforec?")
         if len(reply) < LONG:
-            return _read(reply)
-        return await asyncio.get_running_loop().run_in_executor(None, _read, reply)
+            return _unpickled(reply)
+        return await asyncio.get_running_loop().run_in_executor(None, _unpickled, reply)
 
-    async def _send_directly(self, address: str, request: bytes) -> Optional[Union[bytes, memoryview]]:
-        return await self._connections.ask(address, request)
+    def _send_directly(self, address: str, request: bytes) -> asyncio.Future[Optional[Data]]:
+        return self._connections.ask(address, request)
 
-    async def _send_through_scheduler(self, address: str, request: bytes) -> Optional[Union[bytes, memoryview]]:
+    async def _send_through_scheduler(self, address: str, request: bytes) -> Optional[Data]:
         sent = {"op": OPERATION, "request": request}
         reply: Optional[bytes] = await self._client.scheduler.proxy(msg=sent, worker=address)
         return reply
@@ -173,6 +177,6 @@ class Gathering:
             self._places.forget([wanted.key])
 
 
-def _read(reply: Union[bytes, memoryview]) -> Reply:
+def _unpickled(reply: Data) -> Reply:
     read: Reply = pickle.loads(reply)
     return read

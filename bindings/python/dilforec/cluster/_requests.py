@@ -7,6 +7,8 @@ import pickle
 from collections.abc import Iterator, Mapping, Sequence
 from typing import Any, NamedTuple, Optional
 
+from dilforec.cluster._frames import Data
+
 # The names of the handlers that each worker has: one answers, one tells where else it may be asked.
 OPERATION, LISTENER = "dilforec_answer", "dilforec_listener"
 # How many workers one asks: up to that many the client asks itself, more than that are asked by a tree of workers.
@@ -93,7 +95,13 @@ class Request(NamedTuple):
     searches: bytes
 
     def pickled(self) -> bytes:
-        return pickle.dumps(self, protocol=5)
+        # Plain tuples are pickled in a fraction of the time of named ones.
+        return pickle.dumps((self.task, tuple(self.node), self.searches), protocol=5)
+
+    @classmethod
+    def unpickled(cls, data: Data) -> Request:
+        task, node, searches = pickle.loads(data)
+        return cls(task, Node._make(node), searches)
 
 
 @functools.lru_cache(KEPT)

@@ -8,7 +8,7 @@ import math
 import pickle
 from collections.abc import Sequence
 from concurrent.futures import ThreadPoolExecutor
-from typing import Any, Callable, NamedTuple, TypeVar, Union
+from typing import Any, Callable, NamedTuple, TypeVar
 
 from distributed import WorkerPlugin
 from distributed.core import Status
@@ -16,6 +16,7 @@ from distributed.protocol.pickle import dumps
 from distributed.worker_state_machine import FreeKeysEvent
 
 from dilforec.cluster._connections import Connections
+from dilforec.cluster._frames import Data
 from dilforec.cluster._listener import Listener
 from dilforec.cluster._partials import Joining, Partial, joined
 from dilforec.cluster._partitions import Built, Partition
@@ -70,10 +71,10 @@ class Responder:
         """A handler of Dask's, for what doesn't come through the listener."""
         return await self.reply_to(request)
 
-    async def reply_to(self, request: Union[bytes, memoryview]) -> bytes:
+    async def reply_to(self, request: Data) -> bytes:
         """A Reply to a Request, both pickled."""
-        task, node, pickled_searches = pickle.loads(request)
-        searches = pickle.loads(pickled_searches)
+        task, node, pickled_searches = Request.unpickled(request)
+        searches = [Asked._make(each) for each in pickle.loads(pickled_searches)]
         others = [asyncio.ensure_future(self._others(Request(task, each, pickled_searches))) for each in node.below]
         found, missing = await self._found(read_wanted(node.wanted))
         chunks, slices = self._cut(found, searches)
@@ -146,7 +147,28 @@ class Responder:
             self._worker.handle_stimulus(FreeKeysEvent(keys=[key], stimulus_id="dilforec-partition-absent"))
 
     async def _in_thread(self, function: Callable[..., T], *given: Any) -> T:
-        return await asyncio.get_running_loop().run_in_executor(self._searching, function, *given)
+        # The loop's run_in_executor takes longer than a short search.
+        loop = asyncio.get_running_loop()
+        result: asyncio.Future[T] = loop.create_future()
+        self._searching.submit(_run, loop, result, function, given)
+        return await result
+
+
+def _run(loop: asyncio.AbstractEventLoop, result: asyncio.Future[T], function: Callable[..., T], given: Any) -> None:
+    """Has a future of a loop get what a function gives or raises, unless nobody waits for it any more."""
+    if result.cancelled():
+        return
+    try:
+        value = function(*given)
+    except BaseException as error:
+        loop.call_soon_threadsafe(_settle, result, result.set_exception, error)
+    else:
+        loop.call_soon_threadsafe(_settle, result, result.set_result, value)
+
+
+def _settle(result: asyncio.Future[T], settle: Callable[[Any], None], value: Any) -> None:
+    if not result.cancelled():
+        settle(value)
 
 
 def results(task: str, found: Sequence[Found], searches: Sequence[Asked]) -> list[Any]:
@@ -194,7 +216,7 @@ def _joined_replies(task: str, searches: Sequence[Asked], replies: Sequence[Repl
     return Reply(answers, [each for reply in replies for each in reply.missing]).pickled()
 
 
-def _unpickled(reply: Union[bytes, memoryview]) -> Reply:
+def _unpickled(reply: Data) -> Reply:
     read: Reply = pickle.loads(reply)
     return read
 

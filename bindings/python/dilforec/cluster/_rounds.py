@@ -61,7 +61,7 @@ class Rounds:
         deadline = _deadline(timeout)
         together = [_Waiting(searches[first:first + SEARCHES]) for first in range(0, len(searches), SEARCHES)]
         self._waiting.extend(together)
-        self._client.loop.add_callback(self._begin)
+        self._client.loop.asyncio_loop.call_soon_threadsafe(self._begin)
         return [answer for waiting in together for answer in self._result(waiting.future, deadline)]
 
     def summaries(self) -> list[Summary]:
