@@ -613,11 +613,13 @@ class Paths(unittest.TestCase):
 
     def test_through_the_scheduler(self) -> None:
         """Workers that the client can't reach by itself."""
-        async def fails(*_: object) -> None:
-            raise OSError("no way")
+        def fails(*_: object) -> asyncio.Future[None]:
+            failed = asyncio.get_running_loop().create_future()
+            failed.set_exception(OSError("no way"))
+            return failed
 
         with cluster([source(0, 10), source(10, 20), source(20, 30)]) as many, self.same(many):
-            patch = mock.patch.object(_gathering.Gathering, "_send_directly", fails)
+            patch = mock.patch.object(many._connections, "ask", fails)
             patch.start()
             self.addCleanup(patch.stop)
 

@@ -106,20 +106,28 @@ class Gathering:
 
     async def _replies(self, nodes: Sequence[Node], task: str, searches: bytes) -> list[Optional[Reply]]:
         """What each worker, with those below it, replies; None if it is lost."""
-        sent = [self._send(node, Request(task, node, searches).pickled()) for node in nodes]
+        sent = {self._send(node, Request(task, node, searches).pickled()): node for node in nodes}
+        replies: dict[asyncio.Future[Optional[Data]], Optional[Reply]] = {}
         try:
-            while sent and (await asyncio.wait(sent, timeout=PATIENCE))[1]:
-                for node, reply in zip(nodes, sent):
-                    if not reply.done() and not await self._is_there(node):
+            # A loop may send at the end of its turn. The workers search during what comes then.
+            await asyncio.sleep(0)
+            waiting = set(sent)
+            while waiting:
+                done, waiting = await asyncio.wait(waiting, timeout=PATIENCE, return_when=asyncio.FIRST_COMPLETED)
+                for reply in done:
+                    replies[reply] = await self._read(sent[reply], reply)
+                for reply in () if done else waiting:
+                    if not reply.done() and not await self._is_there(sent[reply]):
                         reply.cancel()
         finally:
             for reply in sent:
                 reply.cancel()
-        return [await self._read(node, reply) for node, reply in zip(nodes, sent)]
+        return [replies[reply] for reply in sent]
 
     def _send(self, node: Node, request: bytes) -> asyncio.Future[Optional[Data]]:
-        send = self._send_through_scheduler if self._places.is_far(node.address) else self._send_directly
-        return asyncio.ensure_future(send(node.address, request))
+        if self._places.is_far(node.address):
+            return asyncio.ensure_future(self._send_through_scheduler(node.address, request))
+        return self._connections.ask(node.address, request)
 
     async def _read(self, node: Node, sent: asyncio.Future[Optional[Data]]) -> Optional[Reply]:
         """What a worker replied; None if it is lost."""
@@ -131,9 +139,6 @@ class Gathering:
         if len(reply) < LONG:
             return _unpickled(reply)
         return await asyncio.get_running_loop().run_in_executor(None, _unpickled, reply)
-
-    def _send_directly(self, address: str, request: bytes) -> asyncio.Future[Optional[Data]]:
-        return self._connections.ask(address, request)
 
     async def _send_through_scheduler(self, address: str, request: bytes) -> Optional[Data]:
         sent = {"op": OPERATION, "request": request}
