@@ -9,9 +9,8 @@ import collections
 import itertools
 import json
 import math
-import operator
 from collections.abc import Sequence
-from typing import Any, NamedTuple, Optional, Union
+from typing import Any, NamedTuple, Optional
 
 from dilforec.index import ENCODE
 
@@ -176,16 +175,14 @@ def joined(partials: Sequence[Partial], k: Optional[int]) -> Partial:
 
 def _joined_groups(lists: Sequence[Groups]) -> Groups:
     """The groups of all, value by value, as `joins.groups` has them."""
-    (values, counts), *others = lists
-    if any(theirs != values for theirs, _ in others):
-        every: dict[Any, int] = collections.defaultdict(int)
-        for values, counts in lists:
-            for value, count in zip(json.loads(b"[%b]" % values.replace(b"\n", b",")), counts):
-                every[value] += count
-        return _in_order(every)
-    for _, theirs in others:
-        counts = list(map(operator.add, counts, theirs))
-    return values, counts
+    (first, _), *others = lists
+    if all(values == first for values, _ in others):
+        return first, list(map(sum, zip(*(of_values for _, of_values in lists))))
+    counts: dict[Any, int] = collections.defaultdict(int)
+    for values, of_values in lists:
+        for value, count in zip(json.loads(b"[%b]" % values.replace(b"\n", b",")), of_values):
+            counts[value] += count
+    return _in_order(counts)
 
 
 def replaced(first: Partial, ranks: Sequence[int], again: Partial, k: Optional[int]) -> Partial:
