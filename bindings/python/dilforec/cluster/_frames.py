@@ -62,21 +62,21 @@ class Frames(asyncio.Protocol):
         self._chunks.append(data)
         self._size += len(data)
         if self._size >= self._wanted:
-            rest = self._take(memoryview(b"".join(self._chunks)))
-            self._chunks, self._size = [bytes(rest)] if rest else [], len(rest)
+            self._take(memoryview(b"".join(self._chunks)))
 
-    def _take(self, data: memoryview) -> memoryview:
-        """Takes the frames that are whole, and returns what comes after them."""
-        self._wanted = HEAD.size
-        while len(data) >= HEAD.size and self.is_open:
-            number, length = HEAD.unpack_from(data)
-            end = HEAD.size + length
+    def _take(self, data: memoryview) -> None:
+        """Takes the frames that are whole, and keeps what comes after them."""
+        begin, self._wanted = 0, HEAD.size
+        while self._size - begin >= HEAD.size and self._is_open:
+            number, length = HEAD.unpack_from(data, begin)
+            end = begin + HEAD.size + length
             if length > self.limit:
                 self.close()
-            elif end > len(data):
-                self._wanted = end
+            elif end > self._size:
+                self._wanted = end - begin
                 break
             else:
-                self.received(number, data[HEAD.size:end])
-                data = data[end:]
-        return data
+                self.received(number, data[begin + HEAD.size:end])
+                begin = end
+        self._size -= begin
+        self._chunks = [bytes(data[begin:])] if self._size else []

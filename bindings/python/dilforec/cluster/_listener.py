@@ -84,7 +84,7 @@ class _Accepted(Frames):
 
     def received(self, number: int, data: memoryview) -> None:
         if self._is_known:
-            replying = asyncio.ensure_future(self._reply(number, data))
+            replying = asyncio.get_running_loop().create_task(self._reply(number, data))
             self._replying.add(replying)
             replying.add_done_callback(self._replying.discard)
         elif hmac.compare_digest(data, self._token):

@@ -74,12 +74,12 @@ class Places:
 
     def reached(self, address: str) -> None:
         """Forgets the failures of a worker, unless it is reached through the scheduler alone."""
-        if not self.is_far(address):
-            self._failures.pop(address, None)
+        if address in self._failures and not self.is_far(address):
+            del self._failures[address]
 
     def is_far(self, address: str) -> bool:
         """Whether the client reaches a worker through the scheduler alone, as from outside of the cluster's network."""
-        return self._failures[address] >= FAILURES
+        return self._failures.get(address, 0) >= FAILURES
 
     async def retry(self, future: Any) -> None:
         """Has a partition made again that failed. Searches that need it at the same time share that."""

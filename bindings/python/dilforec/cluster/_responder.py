@@ -87,6 +87,8 @@ class Responder:
         self, found: Sequence[Found], searches: Sequence[Asked],
     ) -> tuple[list[Sequence[Found]], list[Sequence[Asked]]]:
         """Partitions and searches, cut so that each thread has some of both."""
+        if self._threads == 1:
+            return [found], [searches]
         count = min(self._threads, len(found)) or 1
         size = math.ceil(len(searches) * count / self._threads) or 1
         chunks = [found[place::count] for place in range(count)]

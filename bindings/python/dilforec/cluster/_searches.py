@@ -152,7 +152,10 @@ def _first_of(top: dict[str, Any]) -> tuple[Optional[int], bool]:
 
 
 def _search_of(line: bytes) -> dict[str, Any]:
-    """The value of a line's search; nothing if it has none, and the partitions refuse it."""
+    """The value of a line's search, which is read for its top list alone; nothing if it has none, or is refused."""
+    # Letters may be there by their numbers.
+    if b'"top"' not in line and b"\\u" not in line:
+        return {}
     try:
         command = json.loads(line.decode())
     except (RecursionError, ValueError):
