@@ -178,9 +178,10 @@ def _joined_groups(lists: Sequence[Groups]) -> Groups:
     (first, _), *others = lists
     if all(values == first for values, _ in others):
         return first, list(map(sum, zip(*(of_values for _, of_values in lists))))
-    counts: dict[Any, int] = collections.defaultdict(int)
-    for values, of_values in lists:
-        for value, count in zip(json.loads(b"[%b]" % values.replace(b"\n", b",")), of_values):
+    read = [zip(json.loads(b"[%b]" % values.replace(b"\n", b",")), of_values) for values, of_values in lists]
+    counts: dict[Any, int] = collections.defaultdict(int, read[0])
+    for pairs in read[1:]:
+        for value, count in pairs:
             counts[value] += count
     return _in_order(counts)
 
