@@ -111,14 +111,18 @@ class Gathering:
         try:
             # A loop may send at the end of its turn. The workers search during what comes then.
             await asyncio.sleep(0)
-            waiting = set(sent)
+            loop, waiting = asyncio.get_running_loop(), set(sent)
+            patient_until = loop.time() + PATIENCE
             while waiting:
                 done, waiting = await asyncio.wait(waiting, timeout=PATIENCE, return_when=asyncio.FIRST_COMPLETED)
                 for reply in done:
                     replies[reply] = await self._read(sent[reply], reply)
-                for reply in () if done else waiting:
+                if loop.time() < patient_until:
+                    continue
+                for reply in waiting:
                     if not reply.done() and not await self._is_there(sent[reply]):
                         reply.cancel()
+                patient_until = loop.time() + PATIENCE
         finally:
             for reply in sent:
                 reply.cancel()
