@@ -46,8 +46,8 @@ pub mod text;
 
 pub use fts_index::{
     Batch, CommitSeen, Committed, Cut, Entry, EntryIter, EntryList, Found, Lane, LaneEnd, MergeJob,
-    MergePolicy, MergedSegment, Reader, Round, RoundLimits, SearchPool, Searcher, SegmentInfo,
-    SharedSearchJob, Snapshot, Writer,
+    MergePolicy, MergedSegment, Reader, Round, RoundLimits, SearchJob, SearchPool, Searcher,
+    SegmentInfo, Snapshot, Writer,
 };
 pub use fts_model::{
     Answer, Document, Field, FieldValue, GroupValue, Hit, Kind, MOST_BUILT, MOST_MERGED, Number,

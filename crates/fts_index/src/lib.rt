@@ -48,5 +48,5 @@ pub use fts_snapshots::{
     Snapshot,
 };
 pub use publications::{CommitSeen, Publisher, Reader, Searcher};
-pub use searches::{Found, SearchPool, SharedSearchJob};
+pub use searches::{Found, SearchJob, SearchPool};
 pub use writer::{Committed, Writer};

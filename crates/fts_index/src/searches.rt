@@ -1,75 +1,51 @@
 // What a search asks each segment, by a job of its own, and what it makes of their parts.
-ghost use Rattle.std.specs.Prelude.{◌≡◌, ◌<◌, ◌≤◌, ◌-◌, ◌^◌, ◌⊎◌, true, Ok, Err, All, Contains};
-ghost use Rattle.std.specs.Prelude.{IfOk, IfErr, IsOkUnless, length, map, min, sum_by};
+ghost use Rattle.std.specs.Prelude.{◌≡◌, ◌≤◌, ◌-◌, ◌^◌, ◌⊎◌, true, Ok, Err, All, Contains};
+ghost use Rattle.std.specs.Prelude.{IfOk, IfErr, IsOkUnless, map, min, sum_by};
 ghost use Rattle.std.specs.Arc.{arc_value};
 ghost use Rattle.std.specs.List.{AllZip};
 ghost use Rattle.fts_model.specs.Queries.{query_fits, request_fits};
-ghost use Rattle.fts_model.specs.QueryValues.{QueryValue, query_value};
-ghost use Rattle.fts_snapshots.specs.Snapshots.{IsSnapshot, content_of};
+ghost use Rattle.fts_model.specs.QueryValues.{query_value};
 ghost use Rattle.fts_collect.specs.Searches.{IsPartOf};
-ghost use Rattle.fts_index.specs.SearchJobs.{IsFound, asks, asked_of, asked_of_shared};
+ghost use Rattle.fts_index.specs.SearchJobs.{asks, asked_of};
 
 mod findings;
 mod found;
 mod query_copy;
 mod search_cost;
 mod search_job;
-mod shared_search_job;
 
 pub use found::Found;
-use fts_collect::Part;
+use fts_collect::{Part, parts_in_turn};
 use fts_model::{Query, Refusal, Request};
 use fts_pool::{Gate, Pool, run_all};
-use fts_snapshots::{EntryList, Snapshot};
+use fts_snapshots::EntryList;
 use query_copy::shared_query_copy;
 pub(crate) use search_cost::search_cost;
-use search_job::SearchJob;
-pub use shared_search_job::SharedSearchJob;
+pub use search_job::SearchJob;
 use std::alloc::{AllocError, Global};
 use std::sync::{Arc, Wait};
 use std::thread::Threads;
 
 /// Threads that stay between searches. They are started by the first that takes them, and end when the pool is closed.
-pub type SearchPool = Pool<SharedSearchJob>;
+pub type SearchPool = Pool<SearchJob>;
 
 /// The jobs of a search, one for each segment, in their order.
-fn search_jobs<'a>(
-    alloc: Global,
-    entries: &'a EntryList,
-    query: &'a Query,
-    request: &'a Request,
-) -> Result<Vec<SearchJob<'a>>, AllocError>
-    requires query { All (λ entry.
-        query_fits entry.segment.schema (query_value query.now) ≡ true) entries.now }
-    requires request { All (λ entry.
-        request_fits entry.segment.schema request.now ≡ true) entries.now }
-    ensures { IfOk result (λ jobs.
-        map asked_of jobs.items ≡ map (asks (query_value query.now) request.now) entries.now) }
-{
-    let mut jobs = Vec::with_capacity(alloc, entries.len())?;
-    for entry in entries.iter() {
-        jobs.push(SearchJob::new(alloc, entry, query, request))?;
-    }
-    Ok(jobs)
-}
-
-/// The jobs of a search that own what they need, one for each segment, in their order.
-fn shared_search_jobs(
+fn search_jobs(
     alloc: Global,
     entries: &EntryList,
     query: &Arc<Query>,
     request: &Request,
-) -> Result<Vec<SharedSearchJob>, AllocError>
+) -> Result<Vec<SearchJob>, AllocError>
     requires query { All (λ entry.
         query_fits entry.segment.schema (query_value (arc_value query.now)) ≡ true) entries.now }
     requires request { All (λ entry.
         request_fits entry.segment.schema request.now ≡ true) entries.now }
-    ensures { IfOk result (λ jobs. map asked_of_shared jobs.items
+    ensures { IfOk result (λ jobs. map asked_of jobs.items
         ≡ map (asks (query_value (arc_value query.now)) request.now) entries.now) }
 {
     let mut jobs = Vec::with_capacity(alloc, entries.len())?;
     for entry in entries.iter() {
-        jobs.push(SharedSearchJob::new(alloc, entry, query, request)?)?;
+        jobs.push(SearchJob::new(alloc, entry, query, request)?)?;
     }
     Ok(jobs)
 }
@@ -90,7 +66,7 @@ fn parts_of(alloc: Global, answers: Vec<Result<Part, Refusal>>) -> Result<Vec<Pa
 }
 
 /// How many blocks were opened for all parts.
-fn openings_of(parts: &[Part]) -> u64
+pub(crate) fn openings_of(parts: &[Part]) -> u64
     ensures { result ≡ min (2 ^ 64 - 1) (sum_by (λ part. part.openings) parts.now) }
 {
     let mut openings = 0u64;
@@ -100,28 +76,7 @@ fn openings_of(parts: &[Part]) -> u64
     openings
 }
 
-/// What a search found by the parts of all segments.
-pub(crate) fn found_in(
-    alloc: Global,
-    snapshot: &Snapshot,
-    parts: Vec<Part>,
-    request: &Request,
-) -> Result<Found, Refusal>
-    requires whole { IsSnapshot snapshot.now }
-    requires few { length (content_of snapshot.now) < 2 ^ 64 }
-    ensures found { IfOk result (λ found. (query : QueryValue) →
-        AllZip (IsPartOf query request.now) snapshot.now.entries parts.items →
-        IsFound query request.now snapshot.now found) }
-    ensures memory { IsOkUnless result Refusal.Memory }
-{
-    let openings = openings_of(&parts);
-    match Part::join(alloc, parts, request) {
-        Ok(answer) => Ok(Found { answer, openings }),
-        Err((_, refusal)) => Err(refusal),
-    }
-}
-
-/// The part of each segment, in the order of the segments. Up to this many threads search them.
+/// The part of each segment, in the order of the segments. Up to this many threads search them; one needs no jobs.
 pub(crate) fn segment_parts<R: Threads + Wait + Sync, G: Gate>(
     rt: &R,
     alloc: Global,
@@ -140,7 +95,11 @@ pub(crate) fn segment_parts<R: Threads + Wait + Sync, G: Gate>(
         AllZip (IsPartOf (query_value query.now) request.now) entries.now parts.items) }
     ensures memory { IsOkUnless result Refusal.Memory }
 {
-    let jobs = search_jobs(alloc, entries, query, request)?;
+    if workers == 1 {
+        return parts_in_turn(alloc, entries, query, request, gate);
+    }
+    let query = shared_query_copy(alloc, query)?;
+    let jobs = search_jobs(alloc, entries, &query, request)?;
     let answers = run_all(rt, alloc, &jobs, workers, gate)?;
     parts_of(alloc, answers)
 }
@@ -166,7 +125,7 @@ pub(crate) fn segment_parts_by<R: Threads + Wait + Copy + Send + 'static>(
     ensures memory { IsOkUnless result Refusal.Memory }
 {
     let query = shared_query_copy(alloc, query)?;
-    let jobs = shared_search_jobs(alloc, entries, &query, request)?;
+    let jobs = search_jobs(alloc, entries, &query, request)?;
     let answers = pool.run_all(rt, jobs, workers)?;
     parts_of(alloc, answers)
 }

@@ -1,5 +1,7 @@
 // If one of two jobs of a commit or of a search is held back, another worker runs the other, and each is run once. The
-// writer may be closed by then.
+// writer may be closed by then. One worker alone searches the segments in turn.
+ghost use Rattle.std.specs.Prelude.{◌≤◌};
+
 use dilforec::{Cut, Refusal, Request, Searcher, Writer};
 use fts_model::Query;
 use std::alloc::Global;
@@ -26,10 +28,13 @@ fn count<R: Threads + Wait + Sync>(
     rt: &R,
     alloc: Global,
     searcher: &Searcher,
+    workers: usize,
     gate: &Holder,
-) -> Result<u64, Refusal> {
+) -> Result<u64, Refusal>
+    requires { (1 ≤ workers) × (workers ≤ 64) }
+{
     let request = Request::new(searcher.snapshot().schema(), None, None)?;
-    let found = searcher.search(rt, alloc, &Query::All, &request, 2, gate)?;
+    let found = searcher.search(rt, alloc, &Query::All, &request, workers, gate)?;
     Ok(found.answer.count)
 }
 
@@ -46,15 +51,18 @@ fn commit_held<R: Threads + Wait + Sync + Abort>(
     searcher
 }
 
-/// Holds one job of a search of two documents.
+/// Holds one of the two segments of a search of two documents.
 fn search_held<R: Threads + Wait + Sync + Abort>(
     rt: &R,
     alloc: Global,
     searcher: &Searcher,
+    workers: usize,
     held: usize,
-) {
+)
+    requires { (1 ≤ workers) × (workers ≤ 64) }
+{
     let gate = Holder::new(held, 2);
-    let found = count(rt, alloc, searcher, &gate);
+    let found = count(rt, alloc, searcher, workers, &gate);
     assert_eq!(rt; (found, gate.was_held()), (Ok(2), true));
 }
 
@@ -64,6 +72,14 @@ fn one_of_two_jobs_is_held(rt: HostRuntime) {
         let mut writer = writer(&rt, rt.alloc()).expect(&rt, "a writer");
         let searcher = commit_held(&rt, rt.alloc(), &mut writer, held);
         writer.close(&rt);
-        search_held(&rt, rt.alloc(), &searcher, held);
+        search_held(&rt, rt.alloc(), &searcher, 2, held);
     }
+}
+
+#[test]
+fn one_worker_searches_the_last_segment_last(rt: HostRuntime) {
+    let mut writer = writer(&rt, rt.alloc()).expect(&rt, "a writer");
+    let searcher = commit_held(&rt, rt.alloc(), &mut writer, 0);
+    writer.close(&rt);
+    search_held(&rt, rt.alloc(), &searcher, 1, 1);
 }

@@ -71,17 +71,28 @@ fn kind_of(segment: &Segment, field: usize) -> Option<Kind>
     Some(segment.schema().fields().get(field)?.kind)
 }
 
-/// Lists the stamp and the price of each document.
-fn stamps_and_prices(alloc: Global, segment: &Segment) -> Result<String, AllocError> {
-    let mut list = String::new(alloc);
-    match kind_of(segment, 2) {
+/// Appends what the column of a field has of each document, if the field has a column.
+fn put_column(list: &mut String, segment: &Segment, field: usize) -> Result<(), AllocError> {
+    match kind_of(segment, field) {
         Some(kind) if kind.is_ordered() => {}
-        _ => return Ok(list),
+        _ => return Ok(()),
     }
-    let prices = segment.column(2);
+    let column = segment.column(field);
+    write!(list, " {field}:")?;
     for document in 0..segment.docs() {
-        let stamp = segment.stamp(document);
-        write!(list, " {stamp} {:?}", prices.get(document))?;
+        write!(list, " {:?}", column.get(document))?;
+    }
+    Ok(())
+}
+
+/// Lists the stamp of each document, and then what each column has of it.
+fn stamps_and_columns(alloc: Global, segment: &Segment) -> Result<String, AllocError> {
+    let mut list = String::new(alloc);
+    for document in 0..segment.docs() {
+        write!(list, " {}", segment.stamp(document))?;
+    }
+    for field in 0..segment.schema().fields().len() {
+        put_column(&mut list, segment, field)?;
     }
     Ok(list)
 }
@@ -95,6 +106,9 @@ fn a_refused_growth_of_a_segment_can_be_tried_again(rt: HostRuntime) {
     }
     let value = FieldValue::Number(Number::U64(4));
     lists(&rt, rt.alloc(), &segment, &Term { field: 2, value }, " 0:");
-    let rest = stamps_and_prices(rt.alloc(), &segment).expect(&rt, "a list");
-    assert_eq!(rt; rest.as_str(), " 3 Some(4) 5 None 9 None");
+    let rest = stamps_and_columns(rt.alloc(), &segment).expect(&rt, "a list");
+    assert_eq!(rt;
+        rest.as_str(),
+        " 3 5 9 1: None None Some(0) 2: Some(4) None None 3: None None None"
+    );
 }

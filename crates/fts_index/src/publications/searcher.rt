@@ -1,16 +1,20 @@
 // What publishers and readers hand out: a snapshot to search, and what a commit published.
 ghost use Rattle.std.specs.Prelude.{◌≡◌, ◌≤◌, ◌↔◌, true, List, IsTrue, IfOk, IsOkUnless};
+ghost use Rattle.std.specs.List.{AllZip};
 ghost use mathlib.Core.List.{IsPrefix};
 ghost use Rattle.fts_model.specs.Queries.{query_fits, request_fits};
 ghost use Rattle.fts_model.specs.QueryValues.{query_value};
 ghost use Rattle.fts_model.specs.Answers.{answer};
 ghost use Rattle.fts_snapshots.specs.Snapshots.{content_of};
-ghost use Rattle.fts_collect.specs.Searches.{AreOfParts, OpensInAll};
+ghost use Rattle.fts_collect.specs.Searches.{AreOfParts, IsPartOf, OpensInAll};
 ghost use Rattle.fts_index.specs.declared.publications.publication.Publication.{Publication};
 ghost use Rattle.fts_index.specs.Publications.{IsFront, IsOneCommit};
 
 use crate::publications::front::Front;
-use crate::searches::{Found, SearchPool, found_in, search_cost, segment_parts, segment_parts_by};
+use crate::searches::{
+    Found, SearchPool, openings_of, search_cost, segment_parts, segment_parts_by,
+};
+use fts_collect::Part;
 use fts_model::{Query, Refusal, Request, Stamp};
 use fts_pool::Gate;
 use fts_snapshots::Snapshot;
@@ -68,8 +72,37 @@ impl Searcher {
         search_cost(self.snapshot().entries(), query, request)
     }
 
+    /// What a search found by the parts of all segments, which are those of this query and request. The only refusal is
+    /// `Memory`.
+    fn found(
+        &self,
+        alloc: Global,
+        parts: Vec<Part>,
+        _query: &Query,
+        request: &Request,
+    ) -> Result<Found, Refusal>
+        requires { AllZip (IsPartOf (query_value _query.now) request.now)
+            self.now.snapshot.entries parts.items }
+        ensures answer { IfOk result (λ found. found.answer ≡ answer self.now.snapshot.schema
+            (query_value _query.now) request.now (content_of self.now.snapshot)) }
+        ensures openings { IfOk result (λ found.
+            OpensInAll self.now.snapshot (query_value _query.now) found.openings) }
+        ensures parts { IfOk result (λ found.
+            AreOfParts (query_value _query.now) request.now self.now.snapshot found.openings) }
+        ensures memory { IsOkUnless result Refusal.Memory }
+    {
+        // This says that the segments have the snapshot's schema, and that their stamps rise.
+        let _entries = self.snapshot().entries();
+        let openings = openings_of(&parts);
+        match Part::join(alloc, parts, request) {
+            Ok(answer) => Ok(Found { answer, openings }),
+            Err((_, refusal)) => Err(refusal),
+        }
+    }
+
     /// What a query finds among all documents of the commit. The segments are searched by up to this many threads, 1 to
-    /// 64, the calling one among them: one job for each segment, in their order. The gate is called around each.
+    /// 64, the calling one among them: one job for each segment, in their order. The gate is called around each. With
+    /// one thread, no segment is searched after one for which memory was refused.
     ///
     /// The result also has the number of blocks of lists that were opened: the sum over the parts, of which there is
     /// one for each segment. For a query of one term that is each block of its lists, once; for several terms that all
@@ -95,9 +128,9 @@ impl Searcher {
             AreOfParts (query_value query.now) request.now self.now.snapshot found.openings) }
         ensures memory { IsOkUnless result Refusal.Memory }
     {
-        let snapshot = self.snapshot();
-        let parts = segment_parts(rt, alloc, snapshot.entries(), query, request, workers, gate)?;
-        found_in(alloc, snapshot, parts, request)
+        let entries = self.snapshot().entries();
+        let parts = segment_parts(rt, alloc, entries, query, request, workers, gate)?;
+        self.found(alloc, parts, query, request)
     }
 
     /// What a query finds among all documents of the commit, as by [`Searcher::search`]. The segments are searched by
@@ -123,9 +156,9 @@ impl Searcher {
             AreOfParts (query_value query.now) request.now self.now.snapshot found.openings) }
         ensures memory { IsOkUnless result Refusal.Memory }
     {
-        let snapshot = self.snapshot();
-        let parts = segment_parts_by(rt, alloc, pool, snapshot.entries(), query, request, workers)?;
-        found_in(alloc, snapshot, parts, request)
+        let entries = self.snapshot().entries();
+        let parts = segment_parts_by(rt, alloc, pool, entries, query, request, workers)?;
+        self.found(alloc, parts, query, request)
     }
 }
 

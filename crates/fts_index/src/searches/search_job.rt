@@ -1,5 +1,6 @@
-// The job of a search: what it asks of one segment.
-ghost use Rattle.std.specs.Prelude.{◌≡◌, true};
+// The job of a search: it owns what it asks of one segment, so that threads may have it that stay.
+ghost use Rattle.std.specs.Prelude.{◌≡◌, true, IfOk};
+ghost use Rattle.std.specs.Arc.{arc_value};
 ghost use Rattle.fts_model.specs.Queries.{query_fits, request_fits};
 ghost use Rattle.fts_model.specs.QueryValues.{query_value};
 
@@ -7,42 +8,46 @@ use fts_collect::{Part, search_segment};
 use fts_model::{Query, Refusal, Request};
 use fts_pool::Job;
 use fts_snapshots::Entry;
-use std::alloc::Global;
+use std::alloc::{AllocError, Global};
+use std::sync::Arc;
 
-/// A query and a request, for the live documents of one segment.
+/// A query and a request, for the live documents of one segment. It shares the segment and the query with others.
 #[derive(Drop)]
-pub struct SearchJob<'a> {
+pub struct SearchJob {
     alloc: Global,
-    entry: &'a Entry,
-    query: &'a Query,
-    request: &'a Request,
-    ghost query_fits: { query_fits entry.now.segment.schema (query_value query.now) ≡ true },
-    ghost request_fits: { request_fits entry.now.segment.schema request.now ≡ true },
+    entry: Entry,
+    query: Arc<Query>,
+    request: Request,
+    ghost query_fits: { query_fits entry.segment.schema (query_value (arc_value query)) ≡ true },
+    ghost request_fits: { request_fits entry.segment.schema request ≡ true },
 }
 
-impl<'a> SearchJob<'a> {
+impl SearchJob {
     pub(crate) fn new(
         alloc: Global,
-        entry: &'a Entry,
-        query: &'a Query,
-        request: &'a Request,
-    ) -> SearchJob<'a>
-        requires query { query_fits entry.now.segment.schema (query_value query.now) ≡ true }
+        entry: &Entry,
+        query: &Arc<Query>,
+        request: &Request,
+    ) -> Result<SearchJob, AllocError>
+        requires query { query_fits entry.now.segment.schema (query_value (arc_value query.now)) ≡ true }
         requires request { request_fits entry.now.segment.schema request.now ≡ true }
-        ensures entry { result.entry.now ≡ entry.now }
-        ensures query { query_value result.query.now ≡ query_value query.now }
-        ensures request { result.request.now ≡ request.now }
+        ensures entry { IfOk result (λ job. job.entry ≡ entry.now) }
+        ensures query { IfOk result (λ job.
+            query_value (arc_value job.query) ≡ query_value (arc_value query.now)) }
+        ensures request { IfOk result (λ job. job.request ≡ request.now) }
     {
-        SearchJob {
+        let entry = entry.clone()?;
+        let query = Arc::try_clone(query)?;
+        Ok(SearchJob {
             alloc,
             entry,
             query,
-            request,
-        }
+            request: *request,
+        })
     }
 }
 
-impl Job for SearchJob<'_> {
+impl Job for SearchJob {
     ghost use Rattle.fts_index.specs.SearchJobs.{AnswersSearch};
 
     type Out = Result<Part, Refusal>;
@@ -56,6 +61,6 @@ impl Job for SearchJob<'_> {
     }
 
     fn run(&self) -> Result<Part, Refusal> {
-        search_segment(self.alloc, self.entry, self.query, self.request)
+        search_segment(self.alloc, &self.entry, &self.query, &self.request)
     }
 }

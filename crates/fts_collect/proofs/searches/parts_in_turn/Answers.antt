@@ -9,20 +9,20 @@ use Rattle.fts_snapshots.proofs.EntryListLemmas.{next_has, passed, passed_more}
 use Rattle.fts_collect.proofs.SearchLemmas.{zip_more}
 use Rattle.fts_collect.proofs.searches.parts_in_turn.Goals as goal
 
-pub search_segment-requires-clause-query : goal.search_segment-requires-clause-query
-search_segment-requires-clause-query c =
+pub part_by_gate-requires-clause-query : goal.part_by_gate-requires-clause-query
+part_by_gate-requires-clause-query g c = λ κs lives.
     next_has (λ (e : EntryValue). query_fits e.segment.schema (query_value c.args.query.now) ≡ true) (passed c.loop-entry.yielded)
     (entries_ahead c.next.new.self) c.args.entries.now c.in-Some.entry.now
     (ap (λ es. passed c.loop-entry.yielded ++ es) (sym c.in-Some.ensures.steps) ∙ c.loop-entry.invariant.2) c.requires.query
 
-pub search_segment-requires-clause-request : goal.search_segment-requires-clause-request
-search_segment-requires-clause-request c =
+pub part_by_gate-requires-clause-request : goal.part_by_gate-requires-clause-request
+part_by_gate-requires-clause-request g c = λ κs lives.
     next_has (λ (e : EntryValue). request_fits e.segment.schema c.args.request.now ≡ true) (passed c.loop-entry.yielded)
     (entries_ahead c.next.new.self) c.args.entries.now c.in-Some.entry.now
     (ap (λ es. passed c.loop-entry.yielded ++ es) (sym c.in-Some.ensures.steps) ∙ c.loop-entry.invariant.2) c.requires.request
 
 pub loop-entry-preserved : goal.loop-entry-preserved
-loop-entry-preserved c =
+loop-entry-preserved g c =
     let P = IsPartOf (query_value c.args.query.now) c.args.request.now in
     let more = passed_more c.loop-entry.yielded c.in-Some.entry (entries_ahead c.loop-entry.entry-iterator) (entries_ahead c.next.new.self)
     c.args.entries.now c.loop-entry.invariant.2 c.in-Some.ensures.steps in (

@@ -8,7 +8,7 @@ use Rattle.fts_snapshots.proofs.EntryListLemmas.{passed}
 use Rattle.fts_collect.proofs.searches.parts_in_turn.Given as goal
 
 abbrev pub invariant-loop-entry : goal.invariant-loop-entry
-invariant-loop-entry l =
-    (goal.iterator-loop-entry).can_next l.entry-iterator × (goal.iterator-loop-entry).is_finite l.entry-iterator
+invariant-loop-entry g l =
+    (goal.iterator-loop-entry g).can_next l.entry-iterator × (goal.iterator-loop-entry g).is_finite l.entry-iterator
     × (passed l.yielded ++ entries_ahead l.entry-iterator ≡ l.entries)
     × AllZip (IsPartOf (query_value l.fn.query) l.fn.request) (passed l.yielded) l.parts.items

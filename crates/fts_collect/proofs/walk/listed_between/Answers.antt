@@ -1,4 +1,4 @@
-use Rattle.std.proofs.Common.{[], ◌++◌, ◌+◌, ◌<◌, ◌∙◌, ap, sym, subst, filter, length, All, List, ℕ, arith}
+use Rattle.std.proofs.Common.{◌++◌, ◌+◌, ◌<◌, ◌∙◌, ap, sym, subst, filter, length, All, List, ℕ, arith}
 use Rattle.std.proofs.lemmas.List.Elements.{All-nil}
 use Rattle.fts_pack.specs.ListRange.{lists_in_range}
 use Rattle.fts_postings.specs.Sets.{has}
