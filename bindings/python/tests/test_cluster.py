@@ -589,6 +589,7 @@ class Paths(unittest.TestCase):
             with killing(1, "has_what"):
                 for _ in range(20):
                     self.assertEqual(many.search("*").count, 600)
+            self.assertEqual(far(many), [], "those below the one that died were never asked")
 
     def test_trees(self) -> None:
         """Each worker is in a tree once, and none asks more than 16 others."""
@@ -651,13 +652,28 @@ class Paths(unittest.TestCase):
             )
             for breaking in breaks:
                 with_connections(many)
-                with slow_answers(1.5), ThreadPoolExecutor(1) as thread:
-                    answer = thread.submit(many.search, "*", groups="price")
-                    time.sleep(0.5)
+                with slow_answers(1.5), ThreadPoolExecutor(_rounds.ROUNDS) as threads:
+                    answers = []
+                    for _ in range(_rounds.ROUNDS):
+                        answers.append(threads.submit(many.search, "*", groups="price"))
+                        time.sleep(0.1)
                     breaking()
                     MACHINES.four()
-                    self.assertEqual(answer.result(), expected)
+                    self.assertEqual([answer.result() for answer in answers], [expected] * len(answers))
                 self.assertEqual(many.search("*", groups="price"), expected)
+                self.assertEqual(far(many), [], "one that broke counts once, however many searches it took with it")
+
+    def test_reached_again(self) -> None:
+        """A worker that couldn't be reached is asked through the scheduler, and by itself again once it can be."""
+        with cluster([source(0, 10)]) as many, self.same(many):
+            (address,) = MACHINES.with_partitions("has_what")
+            for _ in range(2):
+                many._places.failed(address, 0)
+            self.assertEqual(far(many), [])
+            many._places.failed(address, time.monotonic())
+            self.assertEqual(far(many), [address])
+            with_connections(many)
+            self.assertEqual(far(many), [])
 
     def test_shared_rounds(self) -> None:
         """Searches that wait while a round is under way go together in the next."""
@@ -749,6 +765,11 @@ def with_connections(many: Cluster) -> None:
             return all(many._connections._connections[address].is_open for (address, *_) in places)
 
         wait_until(are_open)
+
+
+def far(many: Cluster) -> list[str]:
+    """The workers that are asked through the scheduler alone."""
+    return [address for address in CLIENT.scheduler_info()["workers"] if many._places.is_far(address)]
 
 
 def wait_until(good: Callable[[], bool]) -> None:

@@ -96,6 +96,7 @@ class Rpc:
     def __init__(self, worker: Worker) -> None:
         self.worker, self.connection_args = worker, worker.security.get_connection_args("client")
         self.requests, self.listeners = 0, 0
+        self.reached: list[str] = []
 
     def __call__(self, address: str) -> Rpc:
         assert address == self.worker.address
@@ -120,7 +121,7 @@ async def connected(worker: Worker | None = None) -> AsyncIterator[tuple[Worker,
     """A worker, its rpc, and connections of which the one to the worker is there if it can be."""
     worker = worker or Worker()
     rpc = Rpc(worker)
-    connections = Connections(rpc, asyncio.get_running_loop())
+    connections = Connections(rpc, asyncio.get_running_loop(), rpc.reached.append)
     assert await connections.ask(worker.address, b"first") == b"tsrif"
     await asyncio.gather(*connections._making, return_exceptions=True)
     try:
@@ -242,7 +243,7 @@ class ConnectionsTest(unittest.TestCase):
         self.addCleanup(patch.stop)
         async with connected(worker) as (_, rpc, connections):
             self.assertEqual(await connections.ask(worker.address, b"ab"), b"ba")
-            self.assertEqual((rpc.requests, rpc.listeners), (2, 1))
+            self.assertEqual((rpc.requests, rpc.listeners, rpc.reached), (2, 1, [worker.address]))
 
     @in_each_loop
     async def test_unreachable(self) -> None:

@@ -90,7 +90,7 @@ class Cluster(Searching):
         self._client, self._schema = client, tuple(schema)
         self._strict, self._progress = strict, progress
         self._places = Places(client)
-        self._connections = Connections(client.rpc, client.loop.asyncio_loop)
+        self._connections = Connections(client.rpc, client.loop.asyncio_loop, self._places.reached)
         endings = _endings_of(client)
         endings.open.add(self._connections)
         self._end_connections = weakref.finalize(self, endings.end, self._connections)

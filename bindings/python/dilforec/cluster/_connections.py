@@ -7,6 +7,7 @@ import asyncio
 import contextlib
 import functools
 import ssl
+from collections.abc import Callable
 from typing import Any, Optional
 
 from distributed.comm.addressing import parse_address, parse_host_port
@@ -22,11 +23,14 @@ MAKING, BETWEEN = 10.0, 30.0
 class Connections:
     """Asks workers, each over a connection of its own as soon as it has one. Until then, and if it has none, by rpc.
 
-    `rpc` is the pool of a Dask client or worker. All methods but `end` run in its event loop.
+    `rpc` is the pool of a Dask client or worker. All methods but `end` run in its event loop. `reached` is called with
+    the address of a worker that answered as a connection to it was to be made.
     """
 
-    def __init__(self, rpc: Any, loop: asyncio.AbstractEventLoop) -> None:
-        self._rpc, self._loop = rpc, loop
+    def __init__(
+        self, rpc: Any, loop: asyncio.AbstractEventLoop, reached: Callable[[str], object] = lambda address: None,
+    ) -> None:
+        self._rpc, self._loop, self._reached = rpc, loop, reached
         self._connections: dict[str, Connection] = {}
         # By address: when the next connection may be made.
         self._next_try: dict[str, float] = {}
@@ -35,13 +39,19 @@ class Connections:
 
     def ask(self, address: str, request: bytes) -> asyncio.Future[Optional[Data]]:
         """A worker's reply to a request; None if it has no handler. OSError if it can't be reached, or is lost."""
-        connection = self._connections.get(address)
-        if connection is None or not connection.is_open:
-            self._make_soon(address)
-        elif len(request) <= LONGEST:
+        connection = self.find(address)
+        if connection is not None and len(request) <= LONGEST:
             # A task would take longer than all else that is done here.
             return connection.ask(request)
         return asyncio.ensure_future(self._ask_by_rpc(address, request))
+
+    def find(self, address: str) -> Optional[Connection]:
+        """The connection to a worker. If there is none, one is made soon, as far as it can be."""
+        connection = self._connections.get(address)
+        if connection is not None and connection.is_open:
+            return connection
+        self._make_soon(address)
+        return None
 
     async def _ask_by_rpc(self, address: str, request: bytes) -> Optional[Data]:
         reply: Optional[bytes] = await getattr(self._rpc(address), OPERATION)(request=request)
@@ -61,6 +71,7 @@ class Connections:
             scheme, place = parse_address(address)
             context = tls(scheme, self._rpc.connection_args)
             told = await getattr(self._rpc(address), LISTENER)()
+            self._reached(address)
             if told is not None:
                 port, token = told
                 connection = self._connections[address] = Connection(

@@ -6,7 +6,8 @@ from __future__ import annotations
 import asyncio
 import collections
 import pickle
-from collections.abc import Sequence
+import time
+from collections.abc import Mapping, Sequence
 from typing import Any, NoReturn, Optional
 
 import distributed
@@ -19,7 +20,7 @@ from dilforec.cluster._partitions import SourceChanged, SourceUnreadable
 from dilforec.cluster._places import Part
 from dilforec.cluster._plan import Plan
 from dilforec.cluster._requests import (
-    CHANGED, FAILED, LOST, OPERATION, UNMADE, Asked, Missing, Node, Reply, Request, Wanted, trees,
+    ABSENT, CHANGED, FAILED, LOST, OPERATION, UNASKED, UNMADE, Asked, Missing, Node, Reply, Request, Wanted, trees,
 )
 
 # A worker that hasn't answered for so many seconds is looked up again: it may be lost.
@@ -78,7 +79,7 @@ class Gathering:
         if not wanted:
             await asyncio.gather(*(self._await_made(rank, self._parts[rank]) for rank in homeless))
         self._turn += 1
-        far = {address: each for address, each in wanted.items() if self._places.is_far(address)}
+        far = {address: each for address, each in wanted.items() if self._is_far(address)}
         near = {address: each for address, each in wanted.items() if address not in far}
         return trees(near, self._turn) + trees(far, self._turn), homeless
 
@@ -104,10 +105,11 @@ class Gathering:
             raise error
         raise SourceChanged(part.source) from error
 
-    async def _replies(self, nodes: Sequence[Node], task: str, searches: bytes) -> list[Optional[Reply]]:
-        """What each worker, with those below it, replies; None if it is lost."""
+    async def _replies(self, nodes: Sequence[Node], task: str, searches: bytes) -> list[Reply]:
+        """What each worker, with those below it, replies."""
+        self._sent = time.monotonic()
         sent = {self._send(node, Request(task, node, searches).pickled()): node for node in nodes}
-        replies: dict[asyncio.Future[Optional[Data]], Optional[Reply]] = {}
+        replies: dict[asyncio.Future[Optional[Data]], Reply] = {}
         try:
             # A loop may send at the end of its turn. The workers search during what comes then.
             await asyncio.sleep(0)
@@ -120,8 +122,10 @@ class Gathering:
                 if loop.time() < patient_until:
                     continue
                 for reply in waiting:
-                    if not reply.done() and not await self._is_there(sent[reply]):
-                        reply.cancel()
+                    missing = await self._moved(sent[reply])
+                    if missing and not reply.done():
+                        replies[reply] = Reply([], missing)
+                waiting.difference_update(replies)
                 patient_until = loop.time() + PATIENCE
         finally:
             for reply in sent:
@@ -129,14 +133,18 @@ class Gathering:
         return [replies[reply] for reply in sent]
 
     def _send(self, node: Node, request: bytes) -> asyncio.Future[Optional[Data]]:
-        if self._places.is_far(node.address):
+        if self._is_far(node.address):
             return asyncio.ensure_future(self._send_through_scheduler(node.address, request))
         return self._connections.ask(node.address, request)
 
-    async def _read(self, node: Node, sent: asyncio.Future[Optional[Data]]) -> Optional[Reply]:
-        """What a worker replied; None if it is lost."""
+    def _is_far(self, address: str) -> bool:
+        """Whether a worker is asked through the scheduler. If so, it is also looked whether it can be reached again."""
+        return self._places.is_far(address) and self._connections.find(address) is None
+
+    async def _read(self, node: Node, sent: asyncio.Future[Optional[Data]]) -> Reply:
+        """What a worker replied."""
         if sent.cancelled() or isinstance(sent.exception(), OSError):
-            return None
+            return Reply([], node.unanswered())
         reply = sent.result()
         if reply is None:
             raise RuntimeError(f"{node.address} can't answer searches: has it another version of dilforec?")
@@ -149,25 +157,27 @@ class Gathering:
         reply: Optional[bytes] = await self._client.scheduler.proxy(msg=sent, worker=address)
         return reply
 
-    async def _is_there(self, node: Node) -> bool:
-        """Whether the scheduler still has the partitions that a worker, with those below it, is asked for."""
-        holders = [(wanted.key, address) for wanted, address in node.holders()]
-        return await self._places.are_right(holders, [self._parts[wanted.rank] for wanted, _ in node.holders()])
+    async def _moved(self, node: Node) -> list[Missing]:
+        """What is missing if a worker, with those below it, isn't waited for: nothing, if the scheduler has all there."""
+        held = list(node.holders())
+        now = await self._places.looked_up([self._parts[wanted.rank] for wanted, _ in held])
+        absent = {wanted.rank for wanted, address in held if address not in now.get(wanted.key, ())}
+        return [Missing(wanted.rank, ABSENT if wanted.rank in absent else UNASKED) for wanted, _ in held if absent]
 
-    async def _take(self, node: Node, reply: Optional[Reply]) -> list[int]:
+    async def _take(self, node: Node, reply: Reply) -> list[int]:
         """Takes a worker's reply in, and returns the partitions that it lacks."""
-        if reply is None:
-            self._places.failed(node.address)
-            lost = [wanted for wanted, _ in node.holders()]
-            self._places.forget(wanted.key for wanted in lost)
-            return [wanted.rank for wanted in lost]
-        self._places.reached(node.address)
         self._results.append(reply.results)
-        if reply.missing:
-            holders = {wanted.rank: (wanted, address) for wanted, address in node.holders()}
-            for missing in reply.missing:
-                await self._take_missing(missing, *holders[missing.rank])
+        if reply.missing or self._places.have_failed:
+            await self._take_lacking(node, {missing.rank: missing for missing in reply.missing})
         return [missing.rank for missing in reply.missing]
+
+    async def _take_lacking(self, node: Node, missing: Mapping[int, Missing]) -> None:
+        for wanted, address in node.holders():
+            lacking = missing.get(wanted.rank)
+            if lacking is not None:
+                await self._take_missing(lacking, wanted, address)
+            elif not self._is_far(address):
+                self._places.reached(address)
 
     async def _take_missing(self, missing: Missing, wanted: Wanted, address: str) -> None:
         part = self._parts[missing.rank]
@@ -180,9 +190,9 @@ class Gathering:
             if not isinstance(error, OSError):
                 self._fail(part, error)
             await self._try_again(missing.rank, error)
-        else:
+        elif missing.why != UNASKED:
             if missing.why == LOST:
-                self._places.failed(address)
+                self._places.failed(address, self._sent)
             self._places.forget([wanted.key])
 
 

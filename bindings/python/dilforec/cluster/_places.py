@@ -4,7 +4,9 @@
 from __future__ import annotations
 
 import asyncio
-import collections
+import itertools
+import math
+import time
 from collections.abc import Iterable, Sequence
 from typing import Any, NamedTuple, Optional
 
@@ -13,7 +15,8 @@ import distributed
 from dilforec.cluster._partitions import Summary
 from dilforec.library import Closed
 
-# A worker that couldn't be reached so many times in a row, and that the scheduler has, is asked through the scheduler.
+# A worker that couldn't be reached so many times in a row, and that the scheduler has, is asked through the scheduler,
+# until it is reached otherwise.
 FAILURES = 2
 
 
@@ -36,7 +39,8 @@ class Places:
         self.changes = 0
         self._client = client
         self._known: dict[str, Sequence[str]] = {}
-        self._failures: collections.Counter[str] = collections.Counter()
+        # By address: how often in a row a worker couldn't be reached, and when that was counted.
+        self._failures: dict[str, tuple[int, float]] = {}
         self._retrying: dict[str, asyncio.Future[Any]] = {}
 
     async def find(self, parts: Iterable[Part]) -> dict[str, Sequence[str]]:
@@ -44,19 +48,18 @@ class Places:
 
         Closed if the partitions were cancelled, as by a restart of the cluster.
         """
-        keys = {part.future.key: part.future for part in parts}
-        unknown = [future for key, future in keys.items() if key not in self._known]
+        keys = {part.future.key: part for part in parts}
+        unknown = [part for key, part in keys.items() if key not in self._known]
         if unknown:
-            self._known.update(await self._asked(unknown))
+            self._known.update(await self.looked_up(unknown))
             self.changes += 1
+            here = set(itertools.chain.from_iterable(self._known.values()))
+            self._failures = {address: each for address, each in self._failures.items() if address in here}
         return {key: self._known.get(key, ()) for key in keys}
 
-    async def are_right(self, places: Iterable[tuple[str, str]], parts: Iterable[Part]) -> bool:
-        """Whether partitions, by their keys, are still at these addresses. The scheduler is asked."""
-        now = await self._asked([part.future for part in parts])
-        return all(address in now.get(key, ()) for key, address in places)
-
-    async def _asked(self, futures: Sequence[Any]) -> dict[str, Sequence[str]]:
+    async def looked_up(self, parts: Iterable[Part]) -> dict[str, Sequence[str]]:
+        """The workers that have partitions, by their keys, as the scheduler knows; Closed as in `find`."""
+        futures = [part.future for part in parts]
         if any(future.cancelled() for future in futures):
             raise Closed("the client cancelled the partitions, as a restart does")
         answer = await self._client.who_has(futures)
@@ -68,18 +71,24 @@ class Places:
             self._known.pop(key, None)
         self.changes += 1
 
-    def failed(self, address: str) -> None:
-        """Counts a worker that couldn't be reached."""
-        self._failures[address] += 1
+    def failed(self, address: str, sent: float) -> None:
+        """Counts that a worker couldn't be reached, once for all that had been sent by then."""
+        count, counted = self._failures.get(address, (0, -math.inf))
+        if sent > counted:
+            self._failures[address] = count + 1, time.monotonic()
 
     def reached(self, address: str) -> None:
-        """Forgets the failures of a worker, unless it is reached through the scheduler alone."""
-        if address in self._failures and not self.is_far(address):
-            del self._failures[address]
+        """Forgets the failures of a worker."""
+        self._failures.pop(address, None)
+
+    @property
+    def have_failed(self) -> bool:
+        """Whether there are failures."""
+        return bool(self._failures)
 
     def is_far(self, address: str) -> bool:
-        """Whether the client reaches a worker through the scheduler alone, as from outside of the cluster's network."""
-        return self._failures.get(address, 0) >= FAILURES
+        """Whether the client couldn't reach a worker, as from outside of the cluster's network."""
+        return address in self._failures and self._failures[address][0] >= FAILURES
 
     async def retry(self, future: Any) -> None:
         """Has a partition made again that failed. Searches that need it at the same time share that."""

@@ -17,8 +17,8 @@ FAN_OUT = 16
 KEPT = 32
 
 # Why a reply lacks a partition. The worker hasn't it; has its source alone; made it of other lines; failed to make it;
-# or a worker that was to be asked for it didn't answer.
-ABSENT, UNMADE, CHANGED, FAILED, LOST = "absent", "unmade", "changed", "failed", "lost"
+# didn't answer; or was to be asked by one that didn't.
+ABSENT, UNMADE, CHANGED, FAILED, LOST, UNASKED = "absent", "unmade", "changed", "failed", "lost", "unasked"
 
 
 class Wanted(NamedTuple):
@@ -82,6 +82,11 @@ class Node(NamedTuple):
             yield each, self.address
         for node in self.below:
             yield from node.holders()
+
+    def unanswered(self) -> list[Missing]:
+        """What is missing if this worker didn't answer. It says nothing of the workers below."""
+        own = [Missing(wanted.rank, LOST) for wanted in read_wanted(self.wanted)]
+        return own + [Missing(wanted.rank, UNASKED) for node in self.below for wanted, _ in node.holders()]
 
 
 class Request(NamedTuple):

@@ -21,7 +21,7 @@ from dilforec.cluster._listener import Listener
 from dilforec.cluster._partials import Joining, Partial, joined
 from dilforec.cluster._partitions import Built, Partition
 from dilforec.cluster._requests import (
-    ABSENT, CHANGED, FAILED, LISTENER, LOST, OPERATION, UNMADE, Asked, Missing, Reply, Request, Wanted, read_wanted,
+    ABSENT, CHANGED, FAILED, LISTENER, OPERATION, UNMADE, Asked, Missing, Reply, Request, Wanted, read_wanted,
 )
 from dilforec.index import channel_of
 from dilforec.library import Asking
@@ -107,7 +107,7 @@ class Responder:
             reply = None
         if reply is None:
             # It is gone, or has no handler.
-            return Reply([], [Missing(wanted.rank, LOST) for wanted, _ in request.node.holders()])
+            return Reply([], request.node.unanswered())
         return await self._in_thread(_unpickled, reply)
 
     async def _found(self, wanted: Sequence[Wanted]) -> tuple[list[Found], list[Missing]]:
