@@ -36,10 +36,9 @@ import dilforec
 import machines
 from dilforec import joins
 from dilforec.cluster import (
-    Cluster, Documents, JsonLines, Refusal, Script, Search, Source, SourceChanged, SourceRefused, SourceUnreadable,
-    _connections, _gathering, _requests, _responder, _rounds, _sources,
+    Cluster, Documents, JsonLines, PartitionLost, Refusal, Script, Search, Source, SourceChanged, SourceRefused,
+    SourceUnreadable, _connections, _gathering, _partials, _requests, _responder, _rounds, _sources,
 )
-from dilforec.cluster._listener import Listener
 
 ROOT = pathlib.Path(__file__).resolve().parents[3]
 sys.path[:0] = [str(ROOT / "tests")]
@@ -544,6 +543,53 @@ class Lost(unittest.TestCase):
             (FOLDER / "long.builds").write_text("x" * 100)
             self.assertEqual(many.search("*").count, 20)
 
+    def test_deadly_search(self) -> None:
+        """A search that ends each worker that it goes to is given up; others are answered."""
+        with cluster([Documents("mined", _mined), source(0, 10)]) as many, mock.patch.object(_gathering, "LOSSES", 3):
+            with self.assertRaises(PartitionLost) as raised:
+                many.search("deadly")
+            self.assertEqual(raised.exception.source, "mined")
+            MACHINES.four()
+            self.assertEqual(many.search("*").count, 20)
+
+    def test_never_reached(self) -> None:
+        """A worker that the scheduler has, but that nobody reaches, isn't asked for ever."""
+        lost = mock.AsyncMock(side_effect=OSError("no way"))
+        with cluster([source(0, 10)]) as many, contextlib.ExitStack() as stack:
+            for of, name in (many._connections, "_ask_by_rpc"), (_gathering.Gathering, "_send_through_scheduler"):
+                stack.enter_context(mock.patch.object(of, name, lost))
+            stack.enter_context(mock.patch.object(_gathering, "SAME_LOSS", 0.5))
+            stack.enter_context(mock.patch.object(many._connections, "find", lambda address: None))
+            self.assertRaises(PartitionLost, many.search, "*")
+            self.assertGreater(lost.call_count, _gathering.LOSSES, "what is met again at once is the same loss")
+
+    def test_own_errors(self) -> None:
+        """An OSError of a worker's own isn't that of the way to it: it is raised, and nobody is asked twice."""
+        with cluster([source(first, first + 10) for first in range(0, 80, 10)]) as many:
+            with_connections(many)
+            for fan_out in _requests.FAN_OUT, 1:
+                CLIENT.run(_spoil, OSError(5, "the disk"))
+                with mock.patch.object(_requests, "FAN_OUT", fan_out), self.assertRaises(OSError) as raised:
+                    many.search("*")
+                self.assertEqual(raised.exception.errno, 5)
+                self.assertLessEqual(max(CLIENT.run(_mend).values()), 1)
+                self.assertEqual(many.search("*").count, 80)
+
+    def test_one_fault(self) -> None:
+        """What fails for one search is raised for it alone, on each of the ways to an answer."""
+        def fails(given: Any, k: int | None = None) -> _partials.Partial:
+            if 7 in (k, getattr(given, "_k", None)):
+                raise MemoryError
+            return _partials.Partial(1)
+
+        asked = [_requests.Asked(b"", k=k) for k in (6, 7, 8)]
+        with mock.patch.object(_partials.Joining, "answer", fails), mock.patch.object(_responder, "joined", fails):
+            replies = [_requests.Reply([_partials.Partial(1)] * 3, ())] * 2
+            joined = _requests.Reply.unpickled(_responder._joined_replies("search", asked, replies)).results
+            for answers in _responder.search([], asked), joined:
+                self.assertEqual([answer.fault is not None for answer in answers], [False, True, False])
+                self.assertIsInstance(pickle.loads(answers[1].fault or b""), MemoryError)
+
     def test_cancelled(self) -> None:
         """What cancels the partitions, as a restart of the cluster does, takes them away for good."""
         with cluster([source(0, 10), source(10, 20)]) as many:
@@ -814,6 +860,31 @@ def builds(name: str) -> int:
     return os.path.getsize(FOLDER / f"{name}.builds")
 
 
+def _mined() -> list[Document]:
+    """Ten documents. The process that has them ends at a search for a word."""
+    before = _responder.search
+
+    def search(found: Any, asked: Any) -> Any:
+        if any(b"deadly" in each.line for each in asked):
+            _die()
+        return before(found, asked)
+
+    vars(_responder).update(search=search)
+    return [{"title": "x", "price": number} for number in range(100, 110)]
+
+
+def _spoil(error: OSError, dask_worker: Any) -> None:
+    """A worker that can't look up a partition. It counts the requests for which it tries that."""
+    responder, fails = _responder_of(dask_worker), mock.Mock(side_effect=error)
+    responder._looked_up = fails
+
+
+def _mend(dask_worker: Any) -> int:
+    responder = _responder_of(dask_worker)
+    asked: int = vars(responder).pop("_looked_up").call_count
+    return asked
+
+
 def _give_up(key: str, dask_worker: Any) -> None:
     if key in dask_worker.data:
         dask_worker.handle_stimulus(FreeKeysEvent(keys=[key], stimulus_id="test"))
@@ -823,18 +894,17 @@ def _lose(key: str, dask_worker: Any) -> None:
     dask_worker.data.pop(key, None)
 
 
-def _listener(dask_worker: Any) -> Listener:
-    listener: Listener = dask_worker.handlers[_requests.OPERATION].__self__.listener
-    return listener
+def _responder_of(dask_worker: Any) -> Any:
+    return dask_worker.handlers[_requests.OPERATION].__self__
 
 
 def _accepted(dask_worker: Any) -> int:
-    return len(_listener(dask_worker)._accepted)
+    return len(_responder_of(dask_worker).listener._accepted)
 
 
 def _break(dask_worker: Any) -> None:
     def close() -> None:
-        for each in _listener(dask_worker)._accepted:
+        for each in _responder_of(dask_worker).listener._accepted:
             each.close()
 
     dask_worker.loop.add_callback(close)

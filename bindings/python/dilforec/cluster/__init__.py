@@ -18,10 +18,10 @@ of `_frames` to a `_listener`, or Dask's rpc; `_requests` is what goes there; `_
 `_partials` joins; `_partitions` makes the index of a source, and `_sources` reads it.
 """
 from dilforec.cluster._cluster import Cluster, Counts, Search
-from dilforec.cluster._partitions import Refusal, SourceChanged, SourceRefused, SourceUnreadable
+from dilforec.cluster._partitions import PartitionLost, Refusal, SourceChanged, SourceRefused, SourceUnreadable
 from dilforec.cluster._sources import Documents, JsonLines, Script, Source
 
 __all__ = [
-    "Cluster", "Counts", "Documents", "JsonLines", "Refusal", "Script", "Search", "Source", "SourceChanged",
-    "SourceRefused", "SourceUnreadable",
+    "Cluster", "Counts", "Documents", "JsonLines", "PartitionLost", "Refusal", "Script", "Search", "Source",
+    "SourceChanged", "SourceRefused", "SourceUnreadable",
 ]

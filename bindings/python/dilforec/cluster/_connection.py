@@ -8,7 +8,7 @@ from typing import Optional
 from dilforec.cluster._frames import Data, Frames
 
 # What rpc replies to a request.
-ByRpc = Callable[[bytes], Awaitable[Optional[Data]]]
+ByRpc = Callable[[bytes], Awaitable[Data]]
 
 
 class Connection(Frames):
@@ -21,17 +21,17 @@ class Connection(Frames):
         super().__init__()
         self._token, self._by_rpc = token, by_rpc
         self._last = 0
-        self._waiting: dict[int, tuple[bytes, asyncio.Future[Optional[Data]]]] = {}
+        self._waiting: dict[int, tuple[bytes, asyncio.Future[Data]]] = {}
         self._again: set[asyncio.Task[None]] = set()
 
     def connection_made(self, transport: asyncio.BaseTransport) -> None:
         super().connection_made(transport)
         self.send(self._last, self._token)
 
-    def ask(self, request: bytes) -> asyncio.Future[Optional[Data]]:
+    def ask(self, request: bytes) -> asyncio.Future[Data]:
         """The reply to a request; ConnectionResetError if the connection ends before it comes."""
         self._last += 1
-        reply: asyncio.Future[Optional[Data]] = asyncio.get_running_loop().create_future()
+        reply: asyncio.Future[Data] = asyncio.get_running_loop().create_future()
         self._waiting[self._last] = request, reply
         self.send(self._last, request)
         return reply
@@ -47,7 +47,7 @@ class Connection(Frames):
                 self._again.add(again)
                 again.add_done_callback(self._again.discard)
 
-    async def _ask_again(self, request: bytes, reply: asyncio.Future[Optional[Data]]) -> None:
+    async def _ask_again(self, request: bytes, reply: asyncio.Future[Data]) -> None:
         try:
             by_rpc = await self._by_rpc(request)
         except Exception as error:

@@ -37,8 +37,8 @@ class Connections:
         self._making: set[asyncio.Task[None]] = set()
         self._is_closed = False
 
-    def ask(self, address: str, request: bytes) -> asyncio.Future[Optional[Data]]:
-        """A worker's reply to a request; None if it has no handler. OSError if it can't be reached, or is lost."""
+    def ask(self, address: str, request: bytes) -> asyncio.Future[Data]:
+        """A worker's reply to a request. OSError if it can't be reached, or is lost."""
         connection = self.find(address)
         if connection is not None and len(request) <= LONGEST:
             # A task would take longer than all else that is done here.
@@ -53,9 +53,8 @@ class Connections:
         self._make_soon(address)
         return None
 
-    async def _ask_by_rpc(self, address: str, request: bytes) -> Optional[Data]:
-        reply: Optional[bytes] = await getattr(self._rpc(address), OPERATION)(request=request)
-        return reply
+    async def _ask_by_rpc(self, address: str, request: bytes) -> Data:
+        return replied(address, await getattr(self._rpc(address), OPERATION)(request=request))
 
     def _make_soon(self, address: str) -> None:
         now = self._loop.time()
@@ -96,6 +95,13 @@ class Connections:
             making.cancel()
         for connection in self._connections.values():
             connection.close()
+
+
+def replied(address: str, reply: Optional[bytes]) -> bytes:
+    """What a worker replied, if it has a handler."""
+    if reply is None:
+        raise RuntimeError(f"{address} can't answer searches: has it another version of dilforec?")
+    return reply
 
 
 def tls(scheme: str, arguments: dict[str, Any]) -> Optional[ssl.SSLContext]:

@@ -8,15 +8,14 @@ import collections
 import pickle
 import time
 from collections.abc import Mapping, Sequence
-from typing import Any, NoReturn, Optional
+from typing import Any, NoReturn
 
 import distributed
-from distributed.protocol.pickle import loads
 from distributed.scheduler import KilledWorker
 
-from dilforec.cluster._connections import Connections
+from dilforec.cluster._connections import Connections, replied
 from dilforec.cluster._frames import Data
-from dilforec.cluster._partitions import SourceChanged, SourceUnreadable
+from dilforec.cluster._partitions import PartitionLost, SourceChanged, SourceUnreadable
 from dilforec.cluster._places import Part
 from dilforec.cluster._plan import Plan
 from dilforec.cluster._requests import (
@@ -29,6 +28,9 @@ PATIENCE = 1.0
 FIRST_PAUSE, LONGEST_PAUSE = 0.02, 0.5
 # How often a source that can't be read is tried, and the seconds between.
 TRIES, BETWEEN_TRIES = 3, 0.3
+# How often a partition may be lost while it is asked. What is met again at one worker within so many seconds is the
+# same loss: the scheduler may not know of it yet.
+LOSSES, SAME_LOSS = 5, 10.0
 # Bytes of a reply that is read in a thread, since others wait for the event loop.
 LONG = 65_536
 
@@ -47,13 +49,15 @@ class Gathering:
         # The workers that have the source of a partition alone.
         self._unmade: dict[int, set[str]] = collections.defaultdict(set)
         self._tries: collections.Counter[int] = collections.Counter()
+        # Of each partition that was lost: how often, on which worker, and when.
+        self._losses: dict[int, tuple[int, str, float]] = {}
         self._results: list[Sequence[Any]] = []
 
     async def results(self, task: str, searches: Sequence[Asked] = ()) -> list[Sequence[Any]]:
         """What workers replied. Each partition is in one of these results, if searches go to it.
 
         SourceChanged or SourceUnreadable if a partition can't be made again, or the exception of making it that is no
-        fault of its source.
+        fault of its source; PartitionLost if it is lost again and again; what keeps a worker from answering.
         """
         pause = FIRST_PAUSE
         sent = pickle.dumps([tuple(each) for each in searches], protocol=5)
@@ -109,7 +113,7 @@ class Gathering:
         """What each worker, with those below it, replies."""
         self._sent = time.monotonic()
         sent = {self._send(node, Request(task, node, searches).pickled()): node for node in nodes}
-        replies: dict[asyncio.Future[Optional[Data]], Reply] = {}
+        replies: dict[asyncio.Future[Data], Reply] = {}
         try:
             # A loop may send at the end of its turn. The workers search during what comes then.
             await asyncio.sleep(0)
@@ -132,7 +136,7 @@ class Gathering:
                 reply.cancel()
         return [replies[reply] for reply in sent]
 
-    def _send(self, node: Node, request: bytes) -> asyncio.Future[Optional[Data]]:
+    def _send(self, node: Node, request: bytes) -> asyncio.Future[Data]:
         if self._is_far(node.address):
             return asyncio.ensure_future(self._send_through_scheduler(node.address, request))
         return self._connections.ask(node.address, request)
@@ -141,21 +145,18 @@ class Gathering:
         """Whether a worker is asked through the scheduler. If so, it is also looked whether it can be reached again."""
         return self._places.is_far(address) and self._connections.find(address) is None
 
-    async def _read(self, node: Node, sent: asyncio.Future[Optional[Data]]) -> Reply:
+    async def _read(self, node: Node, sent: asyncio.Future[Data]) -> Reply:
         """What a worker replied."""
         if sent.cancelled() or isinstance(sent.exception(), OSError):
             return Reply([], node.unanswered())
         reply = sent.result()
-        if reply is None:
-            raise RuntimeError(f"{node.address} can't answer searches: has it another version of dilforec?")
         if len(reply) < LONG:
-            return _unpickled(reply)
-        return await asyncio.get_running_loop().run_in_executor(None, _unpickled, reply)
+            return Reply.unpickled(reply)
+        return await asyncio.get_running_loop().run_in_executor(None, Reply.unpickled, reply)
 
-    async def _send_through_scheduler(self, address: str, request: bytes) -> Optional[Data]:
+    async def _send_through_scheduler(self, address: str, request: bytes) -> Data:
         sent = {"op": OPERATION, "request": request}
-        reply: Optional[bytes] = await self._client.scheduler.proxy(msg=sent, worker=address)
-        return reply
+        return replied(address, await self._client.scheduler.proxy(msg=sent, worker=address))
 
     async def _moved(self, node: Node) -> list[Missing]:
         """What is missing if a worker, with those below it, isn't waited for: nothing, if the scheduler has all there."""
@@ -186,7 +187,7 @@ class Gathering:
         if missing.why == UNMADE:
             self._unmade[missing.rank].add(address)
         elif missing.why == FAILED:
-            error = loads(missing.error)
+            error = pickle.loads(missing.error)
             if not isinstance(error, OSError):
                 self._fail(part, error)
             await self._try_again(missing.rank, error)
@@ -194,8 +195,11 @@ class Gathering:
             if missing.why == LOST:
                 self._places.failed(address, self._sent)
             self._places.forget([wanted.key])
+            self._count_loss(missing.rank, address)
 
-
-def _unpickled(reply: Data) -> Reply:
-    read: Reply = pickle.loads(reply)
-    return read
+    def _count_loss(self, rank: int, address: str) -> None:
+        count, at, counted = self._losses.get(rank, (0, "", 0.0))
+        if address != at or time.monotonic() - counted >= SAME_LOSS:
+            if count + 1 == LOSSES:
+                raise PartitionLost(self._parts[rank].source)
+            self._losses[rank] = count + 1, address, time.monotonic()

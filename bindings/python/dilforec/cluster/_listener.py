@@ -23,8 +23,8 @@ Answer = Callable[[Union[bytes, memoryview]], Awaitable[bytes]]
 class Listener:
     """A socket beside a worker's own, opened when a client first asks for it. It answers who sends the token first.
 
-    The token is told by rpc alone. The reply to a request that has to be sent by rpc is an empty frame: to one that
-    failed, whose exception rpc raises, and to one whose reply is too long.
+    The token is told by rpc alone. A request whose reply is too long gets an empty frame, and is sent again by rpc. So
+    is one whose answer raised, if that couldn't be told in a reply; rpc tells it.
     """
 
     def __init__(self, worker: Any, answer: Answer) -> None:

@@ -77,6 +77,20 @@ class SourceUnreadable(Exception):
         return f"{self.source} couldn't be read{why}"
 
 
+class PartitionLost(Exception):
+    """A partition was made again some times, and lost each time, while one search asked for it.
+
+    So the search may be what ends its workers, as by their limit of memory.
+    """
+
+    def __init__(self, source: str) -> None:
+        super().__init__(source)
+        self.source = source
+
+    def __str__(self) -> str:
+        return f"the partition of {self.source} was lost again and again while a search asked for it"
+
+
 class Summary(NamedTuple):
     """How many documents a partition has, what it refused, and the digest of the lines that it was made of."""
 

@@ -51,14 +51,18 @@ class Missing(NamedTuple):
 
     rank: int
     why: str
-    error: Optional[bytes] = None
+    error: bytes = b""
 
 
 class Reply(NamedTuple):
-    """What a worker replies: the results of the partitions that it asked, and the partitions that are missing."""
+    """What a worker replies: the results of the partitions that it asked, and the partitions that are missing.
+
+    `fault` is the pickled exception that kept it from answering.
+    """
 
     results: Sequence[Any]
     missing: Sequence[Missing]
+    fault: Optional[bytes] = None
 
     def pickled(self) -> bytes:
         # Nothing in it is there twice, and without looking for that it takes a quarter of the time.
@@ -67,6 +71,14 @@ class Reply(NamedTuple):
         pickler.fast = True
         pickler.dump(self)
         return file.getvalue()
+
+    @classmethod
+    def unpickled(cls, data: Data) -> Reply:
+        """A worker's reply. What kept it from answering is raised."""
+        reply: Reply = pickle.loads(data)
+        if reply.fault is not None:
+            raise pickle.loads(reply.fault)
+        return reply
 
 
 class Node(NamedTuple):

@@ -72,11 +72,24 @@ class Responder:
         return await self.reply_to(request)
 
     async def reply_to(self, request: Data) -> bytes:
-        """A Reply to a Request, both pickled."""
-        task, node, pickled_searches = Request.unpickled(request)
-        searches = [Asked._make(each) for each in pickle.loads(pickled_searches)]
-        others = [asyncio.ensure_future(self._others(Request(task, each, pickled_searches))) for each in node.below]
-        found, missing = await self._found(read_wanted(node.wanted))
+        """A Reply to a Request, both pickled. It raises nothing: an OSError is that of who couldn't ask."""
+        try:
+            task, node, pickled_searches = Request.unpickled(request)
+            others = [asyncio.ensure_future(self._others(Request(task, each, pickled_searches))) for each in node.below]
+            try:
+                searches = [Asked._make(each) for each in pickle.loads(pickled_searches)]
+                return await self._joined(task, searches, read_wanted(node.wanted), others)
+            finally:
+                for other in others:
+                    other.cancel()
+        except Exception as error:
+            return Reply([], (), pickled(error)).pickled()
+
+    async def _joined(
+        self, task: str, searches: Sequence[Asked], wanted: Sequence[Wanted], others: Sequence[asyncio.Future[Reply]],
+    ) -> bytes:
+        """The Reply of partitions on this worker and of others, pickled."""
+        found, missing = await self._found(wanted)
         chunks, slices = self._cut(found, searches)
         if len(chunks) == len(slices) == 1 and not others:
             return await self._in_thread(_pickled_reply, task, found, searches, missing)
@@ -104,11 +117,8 @@ class Responder:
         try:
             reply = await self._connections.ask(request.node.address, request.pickled())
         except OSError:
-            reply = None
-        if reply is None:
-            # It is gone, or has no handler.
             return Reply([], request.node.unanswered())
-        return await self._in_thread(_unpickled, reply)
+        return await self._in_thread(Reply.unpickled, reply)
 
     async def _found(self, wanted: Sequence[Wanted]) -> tuple[list[Found], list[Missing]]:
         """The partitions that are here, made now if that is asked for, and why the others aren't."""
@@ -192,7 +202,15 @@ def search(found: Sequence[Found], searches: Sequence[Asked]) -> list[Partial]:
                         joining.add(_reply(channel, asked), each.rank, each.built.source)
                     except Exception as error:
                         joining.fault = pickled(error)
-    return [joining.answer() for joining in joinings]
+    return [_or_fault(joining.answer) for joining in joinings]
+
+
+def _or_fault(function: Callable[..., Partial], *given: Any) -> Partial:
+    """What a function gives for a search. What it raises is the fault of that one, and not of those beside it."""
+    try:
+        return function(*given)
+    except Exception as error:
+        return Partial(fault=pickled(error))
 
 
 def _reply(channel: Asking, asked: Asked) -> bytes:
@@ -214,13 +232,8 @@ def _joined_replies(task: str, searches: Sequence[Asked], replies: Sequence[Repl
     lists = [reply.results for reply in replies if reply.results]
     answers = [each for some in lists for each in some]
     if task == "search":
-        answers = [joined(each, asked.k) for each, asked in zip(zip(*lists), searches)]
+        answers = [_or_fault(joined, each, asked.k) for each, asked in zip(zip(*lists), searches)]
     return Reply(answers, [each for reply in replies for each in reply.missing]).pickled()
-
-
-def _unpickled(reply: Data) -> Reply:
-    read: Reply = pickle.loads(reply)
-    return read
 
 
 def pickled(error: BaseException) -> bytes:
