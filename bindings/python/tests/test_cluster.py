@@ -175,16 +175,20 @@ class Exact(unittest.TestCase):
     def compare_bytes(
         self, names: list[str], parts: list[list[Document]], many: Cluster, asked: list[dict[str, Any]],
     ) -> None:
-        """Replies are the bytes that joins makes of each partition's own."""
+        """Replies are the bytes that joins makes of each partition's own. A refused line gets its refusal."""
+        top = {"by": "price", "k": 1_000, "order": "rising"}
+        refused: list[dict[str, Any]] = [
+            {"search": {"query": "*", "top": top}, "x": 1}, {"search": {"query": "*", "top": {**top, "x": 1}}},
+        ]
         with contextlib.ExitStack() as stack:
             searchers = [stack.enter_context(index_of(part)).searcher() for part in parts]
-            for search in asked:
-                own = [searcher.execute(line({"search": search})) for searcher in searchers]
+            for command in [{"search": search} for search in asked] + refused:
+                own = [searcher.execute(line(command)) for searcher in searchers]
                 expected = own[0]
                 if own[0].startswith(b'{"count"'):
                     marks = [{"source": name} for name in names]
-                    expected = joins.encoded(joins.answer(search, list(map(json.loads, own)), marks))
-                self.assertEqual(many.execute(line({"search": search})), expected)
+                    expected = joins.encoded(joins.answer(command["search"], list(map(json.loads, own)), marks))
+                self.assertEqual(many.execute(line(command)), expected)
 
     def test_bytes(self) -> None:
         """Long top lists, of which partitions are asked for a few hits first: dealt out, by rising values, with ties."""

@@ -160,5 +160,5 @@ def _search_of(line: bytes) -> dict[str, Any]:
         command = json.loads(line.decode())
     except (RecursionError, ValueError):
         return {}
-    search = command.get("search") if isinstance(command, dict) else None
+    search = command.get("search") if isinstance(command, dict) and len(command) == 1 else None
     return search if isinstance(search, dict) else {}
