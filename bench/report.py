@@ -56,22 +56,28 @@ class Part(NamedTuple):
     """What `measure` gives is kept; `shown` makes Markdown of it, and `draw` the picture of that name beside the appendix, if it has one."""
     name: str
     title: str
-    measure: Callable[[], Any]
+    measure: Callable[[float], Any]
     shown: Callable[[Any], str]
     picture: str = ""
     draw: Callable[[Any, pathlib.Path], object] | None = None
     asks_program: bool = True
 
 
-def module(name: str, title: str, of: str, picture: str = "", asks_program: bool = True, **settings: Any) -> Part:
-    """A part whose module has `measure(**settings)`, `shown(raw)` and, for a picture, `draw(raw, path)`. It is imported when it is needed."""
-    return Part(name, title, lambda: importlib.import_module(of).measure(**settings), lambda raw: str(importlib.import_module(of).shown(raw)),
+def module(name: str, title: str, of: str, picture: str = "", asks_program: bool = True, waits: bool = False, **settings: Any) -> Part:
+    """A part whose module has `measure(**settings)`, `shown(raw)` and, for a picture, `draw(raw, path)`. It is imported when it is needed.
+
+    With `waits`, `measure` is also given the minutes to wait for a quiet machine, at most.
+    """
+    def measure(minutes: float) -> Any:
+        return importlib.import_module(of).measure(**settings, **({"minutes": minutes} if waits else {}))
+
+    return Part(name, title, measure, lambda raw: str(importlib.import_module(of).shown(raw)),
                 picture, (lambda raw, path: importlib.import_module(of).draw(raw, path)) if picture else None, asks_program)
 
 
 def printed(name: str, title: str, *command: str, asks_program: bool = True, shown: Callable[[str], str] = str.strip) -> Part:
     """A part whose raw result is what a program prints, in Markdown."""
-    def measure() -> Any:
+    def measure(minutes: float) -> Any:
         return run(sys.executable, ROOT / command[0], *command[1:])
 
     return Part(name, title, measure, lambda raw: shown(str(raw)), asks_program=asks_program)
@@ -103,7 +109,7 @@ PARTS = (
     module("packing", "Packed numbers", "pack", asks_program=False),
     printed("embedding", "Inside another program", "bench/embed.py"),
     printed("package", "Calls of the Python package", "bench/embed.py", "package", asks_program=False),
-    module("scale", "Partitions", "scale", asks_program=False),
+    module("scale", "Partitions", "scale", asks_program=False, waits=True),
     printed("service", "The service", "bench/services.py", asks_program=False),
     printed("hostile", "Scripts that were made to be slow", "tests/hostile.py", shown=slow),
 )
@@ -152,7 +158,7 @@ def measured(part: Part, note: str, minutes: float) -> dict[str, Any]:
         "program": program() if part.asks_program else None, "load": [round(load, 2) for load in os.getloadavg()], "note": note,
     }
     began = time.monotonic()
-    raw = part.measure()
+    raw = part.measure(minutes)
     return {**conditions, "seconds": round(time.monotonic() - began), "raw": raw}
 
 

@@ -6,7 +6,8 @@
 It needs `distributed` (tests/cluster.py says how to get it) and the shared object of bindings/python/link.py. Without an argument there are
 100,000, 1,000,000 and 10,000,000 documents, which take 16 GB of memory and 2 GB of disk. Each way runs in a process of its own. Those that are
 compared are there at the same time and take turns, TURNS rounds each, of which the quickest counts (SMALL_TURNS of the small clusters); the quickest
-of BUILDS builds counts too. All ways read the same files of JSON lines, and must give the same counts, groups and values of top lists.
+of BUILDS builds counts too. Over the most documents they have LAST_TURNS rounds, and how many times as long a search takes on Dask as by threads is
+the median of the ratios of each turn. All ways read the same files of JSON lines, and must give the same counts, groups and values of top lists.
 
 `many` has the documents cut into many small partitions: long top lists beside one index, and searches from many threads. `model` takes its
 constants from some of the points, which `FITTED` names, and is judged by the others.
@@ -45,8 +46,12 @@ WORKERS = 4
 # Fewer than other timings have, so that ten million documents fit into a small machine.
 WORDS_EACH = 10
 TURNS, BUILDS = 4, 2
+# Rounds over the most documents.
+LAST_TURNS = 20
 # Rounds of the small clusters, whose searches are short.
 SMALL_TURNS = 12
+# A machine on which fewer others run is quiet.
+QUIET = 0.5
 # How near the model has to come: within a third.
 NEAR = 1 / 3
 # Documents of the small partitions, so few that their searches take next to nothing.
@@ -255,24 +260,51 @@ def built(name: str, paths: list[str]) -> dict[str, Any]:
     return {key: min(run[key] for run in runs) for key in runs[0]} if runs else {}
 
 
-def in_turns(ways: dict[str, Way], asked: str) -> dict[str, dict[str, Any]]:
-    """The quickest round of searches of each way. They take turns, and must agree."""
+def others() -> float:
+    """How many others run or wait to run, on average over a second. The machine's load would also be of what ran before."""
+    looks = []
+    for _ in range(20):
+        time.sleep(0.05)
+        looks.append(int(pathlib.Path("/proc/loadavg").read_text().split()[3].partition("/")[0]) - 1)
+    return statistics.fmean(looks)
+
+
+def wait_for_quiet(minutes: float) -> None:
+    """Waits until nearly nothing else runs, for so long at most."""
+    end = time.monotonic() + 60 * minutes
+    while time.monotonic() < end and others() >= QUIET:
+        pass
+
+
+def in_turns(ways: dict[str, Way], asked: str, turns: int = TURNS) -> dict[str, list[dict[str, Any]]]:
+    """Rounds of searches of each way. They take turns, every other time the other way around, and must agree."""
     rounds: dict[str, list[dict[str, Any]]] = {name: [] for name in ways}
-    for _, name in itertools.product(range(TURNS), ways):
-        rounds[name].append(ways[name].ask(asked))
+    for turn in range(turns):
+        for name in list(ways)[::-1 if turn % 2 else 1]:
+            rounds[name].append(ways[name].ask(asked))
     if len({found["digest"] for each in rounds.values() for found in each}) != 1:
         raise AssertionError(f"the ways {', '.join(ways)} differ")
+    return rounds
+
+
+def quickest(rounds: dict[str, list[dict[str, Any]]]) -> dict[str, dict[str, Any]]:
+    """The quickest round of each way."""
     return {name: min(each, key=lambda found: float(found["mean"])) for name, each in rounds.items()}
 
 
-def point(count: int) -> dict[str, Any]:
-    """All three ways over `count` documents."""
+def point(count: int, turns: int, minutes: float) -> dict[str, Any]:
+    """All three ways over `count` documents. A quiet machine is waited for before, for so many minutes at most."""
+    wait_for_quiet(minutes)
     with written(count, WORKERS) as paths:
         found: dict[str, Any] = {"documents": count, "load": os.getloadavg()[0], "json": sum(map(os.path.getsize, paths))}
         before = {name: built(name, paths) for name in WAYS}
         with Way("one", paths) as index, Way("threads", paths) as of_threads, Way("dask", paths) as cluster:
             ways = {"one": index, "threads": of_threads, "dask": cluster}
-            times = in_turns(ways, "mixed")
+            wait_for_quiet(minutes)
+            rounds = in_turns(ways, "mixed", turns)
+        times = quickest(rounds)
+        ratios = [mine["mean"] / theirs["mean"] for mine, theirs in zip(rounds["dask"], rounds["threads"])]
+        found |= {"turns": turns, "times": statistics.median(ratios)}
         for name, way in ways.items():
             found[name] = {**times[name], **{key: min(value, before[name].get(key, value)) for key, value in way.ready.items()}}
     return found
@@ -282,7 +314,7 @@ def many() -> dict[str, Any]:
     """Many small partitions on four workers, beside one index of all their documents."""
     with written(PARTITIONS * FEW, PARTITIONS) as paths, Way("one", paths) as index, Way("dask", paths) as cluster:
         ways = {"one": index, "dask": cluster}
-        top, search = in_turns(ways, "long"), in_turns(ways, "mixed")
+        top, search = quickest(in_turns(ways, "long")), quickest(in_turns(ways, "mixed"))
         second = max(cluster.ask("mixed together")["second"] for _ in range(TURNS))
         return {"top": {name: found["mean"] for name, found in top.items()}, "search": {name: found["mean"] for name, found in search.items()},
                 "second": second, "build": cluster.ready["build"]}
@@ -363,11 +395,13 @@ def joining() -> dict[str, Join]:
     return took
 
 
-def measure(counts: tuple[int, ...] = COUNTS) -> dict[str, Any]:
+def measure(counts: tuple[int, ...] = COUNTS, minutes: float = 0) -> dict[str, Any]:
+    """All that `shown` shows. `minutes` are how long to wait for a quiet machine before a point, at most."""
     with written(100_000, 1) as (path,):
         reading = min(read_alone(path) for _ in range(TURNS)) / 100_000 * 1e6
     return {
-        "few": in_few(), "small": small(), "many": many(), "points": [point(count) for count in counts],
+        "few": in_few(), "small": small(), "many": many(),
+        "points": [point(count, LAST_TURNS if count == counts[-1] else TURNS, minutes) for count in counts],
         "reading": reading, "joining": {name: list(took) for name, took in joining().items()},
         "processors": os.cpu_count(), "words each": WORDS_EACH, "event loop": "uvloop" if EVENT_LOOP else "asyncio",
     }
@@ -533,9 +567,10 @@ def shown(raw: dict[str, Any]) -> str:
     clusters, more = clusters_shown(raw, constants)
     judged = [ratio.value for ratio in ratios + more if not ratio.is_fitted]
     near = sum(abs(value - 1) < NEAR for value in judged)
+    turns = " to ".join(map(str, sorted({found.get("turns", TURNS) for found in raw["points"]})))
     return "\n\n".join([
         f"Documents of {raw['words each']} words; {SEARCHES} searches in turn of a word, two words (AND), a tenth of the `i64`s with groups by the "
-        f"keyword, and a word with a top ten. The quickest of {BUILDS} builds and {TURNS} rounds counts. Dask's event loops are "
+        f"keyword, and a word with a top ten. The quickest of {BUILDS} builds and {turns} rounds counts. Dask's event loops are "
         f"{raw.get('event loop', 'asyncio')}'s. Ratios are to the model, in parentheses where it takes a constant from the number; `bench/scale.py` "
         "prints these.",
         points, clusters, many_shown(raw),
@@ -557,8 +592,12 @@ def points_shown(raw: dict[str, Any], constants: dict[str, float]) -> tuple[str,
         cells += [figure(found[way]["median"]), figure(found[way]["most"])]
         rows.append(f"| {found['documents']:,} | {NAMES[way]} | " + " | ".join(cells) + " |")
     last = raw["points"][-1]
-    times = last["dask"]["mean"] / last["threads"]["mean"]
-    return "\n".join(rows) + f"\n\nOver {last['documents']:,} documents a search takes {times:.2f} times as long on Dask as by threads.", ratios
+    times, how = last["dask"]["mean"] / last["threads"]["mean"], "the ratio of the quickest rounds"
+    # What was measured earlier has no ratios of turns.
+    if "times" in last:
+        times, how = last["times"], f"the median of the ratios of {last['turns']} turns, in each of which both had a round, in either order by turns"
+    told = f"Over {last['documents']:,} documents a search takes {times:.2f} times as long on Dask as by threads: {how}."
+    return "\n".join(rows) + f"\n\n{told}", ratios
 
 
 def clusters_shown(raw: dict[str, Any], constants: dict[str, float]) -> tuple[str, list[Ratio]]:
