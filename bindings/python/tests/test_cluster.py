@@ -594,6 +594,22 @@ class Lost(unittest.TestCase):
                 self.assertEqual([answer.fault is not None for answer in answers], [False, True, False])
                 self.assertIsInstance(pickle.loads(answers[1].fault or b""), MemoryError)
 
+    def test_retried_once(self) -> None:
+        """Searches that meet one failure have the partition made again once, and leave alone what another one began."""
+        with cluster([counted("retried", fail_at=(2,), slow_at=3)]) as many, ThreadPoolExecutor(3) as threads:
+            (part,) = many._channel.parts.values()
+            self.kill_all()
+            wait_until(lambda: str(part.future.status) == "error")
+            error, answers = part.future.exception(), []
+            for _ in range(3):
+                answers.append(threads.submit(many.search, "*"))
+                time.sleep(0.08)
+            self.assertEqual([answer.result().count for answer in answers], [10] * 3)
+            retrying = asyncio.run_coroutine_threadsafe(
+                many._places.retry(part.future, error), CLIENT.loop.asyncio_loop)
+            retrying.result()
+            self.assertEqual((many.search("*").count, builds("retried")), (10, 3))
+
     def test_cancelled(self) -> None:
         """What cancels the partitions, as a restart of the cluster does, takes them away for good."""
         with cluster([source(0, 10), source(10, 20)]) as many:

@@ -93,7 +93,7 @@ class Gathering:
             return
         if isinstance(error, OSError):
             await self._try_again(rank, error)
-            await self._places.retry(part.future)
+            await self._places.retry(part.future, error)
         else:
             self._fail(part, error)
 

@@ -18,6 +18,8 @@ from dilforec.library import Closed
 # A worker that couldn't be reached so many times in a row, and that the scheduler has, is asked through the scheduler,
 # until it is reached otherwise.
 FAILURES = 2
+# Seconds between the looks whether the client was told something.
+LOOK = 0.01
 
 
 class Part(NamedTuple):
@@ -90,11 +92,23 @@ class Places:
         """Whether the client couldn't reach a worker, as from outside of the cluster's network."""
         return address in self._failures and self._failures[address][0] >= FAILURES
 
-    async def retry(self, future: Any) -> None:
-        """Has a partition made again that failed. Searches that need it at the same time share that."""
+    async def retry(self, future: Any, error: BaseException) -> None:
+        """Has a partition made again whose making raised this error. Searches that met the same one share that."""
         if future.key not in self._retrying:
-            self._retrying[future.key] = asyncio.ensure_future(future.retry())
-        try:
-            await asyncio.shield(self._retrying[future.key])
-        finally:
-            self._retrying.pop(future.key, None)
+            retrying = self._retrying[future.key] = asyncio.ensure_future(self._retried(future, error))
+            retrying.add_done_callback(lambda _: self._retrying.pop(future.key))
+        await asyncio.shield(self._retrying[future.key])
+
+    async def _retried(self, future: Any, error: BaseException) -> None:
+        # The scheduler would begin anew what is being made, or is there.
+        if await _has_failed(future, error):
+            await self._client.scheduler.retry(keys=[future.key], client=self._client.id)
+            # The scheduler tells the client of this and of how the task ends, in order. `Future.retry` doesn't wait for
+            # that, and might mark a task that has ended as one that goes on.
+            while await _has_failed(future, error):
+                await asyncio.sleep(LOOK)
+
+
+async def _has_failed(future: Any, error: BaseException) -> bool:
+    """Whether this error is the last that the client was told of a task, and the task wasn't begun since."""
+    return future.status == "error" and await future.exception() is error
