@@ -37,8 +37,9 @@ import machines
 from dilforec import joins
 from dilforec.cluster import (
     Cluster, Documents, JsonLines, PartitionLost, Refusal, Script, Search, Source, SourceChanged, SourceRefused,
-    SourceUnreadable, _connections, _gathering, _partials, _requests, _responder, _rounds, _sources,
+    SourceUnreadable, _connections, _gathering, _partials, _plan, _requests, _responder, _rounds, _sources,
 )
+from dilforec.index import channel_of
 
 ROOT = pathlib.Path(__file__).resolve().parents[3]
 sys.path[:0] = [str(ROOT / "tests")]
@@ -176,19 +177,18 @@ class Exact(unittest.TestCase):
         self, names: list[str], parts: list[list[Document]], many: Cluster, asked: list[dict[str, Any]],
     ) -> None:
         """Replies are the bytes that joins makes of each partition's own. A refused line gets its refusal."""
-        top = {"by": "price", "k": 1_000, "order": "rising"}
-        refused: list[dict[str, Any]] = [
-            {"search": {"query": "*", "top": top}, "x": 1}, {"search": {"query": "*", "top": {**top, "x": 1}}},
-        ]
+        search = {"query": "*", "top": {"by": "temp", "k": 1_000, "order": "rising"}}
+        commands: list[tuple[dict[str, Any], bytes | None]] = [({"search": search}, None) for search in asked]
+        commands += [({"search": search}, b'["title"]'), ({"search": search, "x": 1}, None)]
         with contextlib.ExitStack() as stack:
             searchers = [stack.enter_context(index_of(part)).searcher() for part in parts]
-            for command in [{"search": search} for search in asked] + refused:
-                own = [searcher.execute(line(command)) for searcher in searchers]
+            for command, fields in commands:
+                own = [channel_of(searcher).ask_each([line(command)], fields)[0] for searcher in searchers]
                 expected = own[0]
                 if own[0].startswith(b'{"count"'):
                     marks = [{"source": name} for name in names]
                     expected = joins.encoded(joins.answer(command["search"], list(map(json.loads, own)), marks))
-                self.assertEqual(many.execute(line(command)), expected)
+                self.assertEqual(many._channel.ask_each([line(command)], fields), [expected])
 
     def test_bytes(self) -> None:
         """Long top lists, of which partitions are asked for a few hits first: dealt out, by rising values, with ties."""
@@ -235,7 +235,10 @@ class Exact(unittest.TestCase):
             return Documents(name, listed(documents))
         if kind == 1:
             return JsonLines(written(name, map(line, documents)))
-        return Script(written(name, [line({"add": document}) for document in documents]))
+        # Its commits are where segments end.
+        lines = [line({"add": document}) + (b'\n{"commit":true}' if place % 5 == 4 else b"")
+                 for place, document in enumerate(documents)]
+        return Script(written(name, lines))
 
     def test_many_documents(self) -> None:
         """Many documents over 8 partitions; workers are killed while they are searched, and then two at once."""
@@ -423,6 +426,7 @@ class Sources(unittest.TestCase):
             self.assertEqual(many.search("*").count, 0)
         self.assertRaises(dilforec.Closed, many.search, "*")
         self.assertRaises(dilforec.Closed, many.stats)
+        self.assertRaises(dilforec.Closed, many.drop_source, "a")
         self.assertRaises(ValueError, cluster, [Documents("a", list), Documents("a", list)])
         self.assertRaises(ValueError, cluster, [b"/tmp/\xff".decode("utf-8", "surrogateescape")])
         with cluster([]) as none:
@@ -491,6 +495,24 @@ class Lost(unittest.TestCase):
             many.drop_source(path)
             self.assertEqual(many.search("*").count, 10)
 
+    def test_compressed(self) -> None:
+        """A file in .gz or .xz is read again; cut off by then, it can't be read, and can once it is whole."""
+        lines = b"".join(line(document) + b"\n" for document in made(0, 50))
+        whole = {str(FOLDER / "lost.gz"): gzip.compress(lines), str(FOLDER / "lost.xz"): lzma.compress(lines)}
+        for path, data in whole.items():
+            pathlib.Path(path).write_bytes(data)
+        with cluster([*whole, source(0, 10)]) as many:
+            self.kill_all()
+            self.assertEqual(many.search("*").count, 110)
+            for path, data in whole.items():
+                pathlib.Path(path).write_bytes(data[:-20])
+                self.kill_all()
+                with self.assertRaises(SourceUnreadable) as raised:
+                    many.search("*")
+                self.assertEqual((raised.exception.source, type(raised.exception.__cause__)), (path, EOFError))
+                pathlib.Path(path).write_bytes(data)
+                self.assertEqual(many.search("*").count, 110)
+
     def test_unfaithful_function(self) -> None:
         """A function that gives other documents the second time."""
         with cluster([Documents("clock", lambda: [{"price": time.monotonic_ns()}])]) as many:
@@ -504,13 +526,19 @@ class Lost(unittest.TestCase):
             (part,) = many._channel.parts.values()
             size = CLIENT.run_on_scheduler(_size_known, part.future.key)
             self.assertGreater(size, 20_000 * 50)
+            made_by = MACHINES.with_partitions("has_what")
             CLIENT.replicate([part.future], n=4)
             self.assertEqual(len(CLIENT.who_has([part.future])[part.future.key]), 4)
             lengths = CLIENT.run(_pickled_length, part.future.key)
             self.assertTrue(all(length < 2_000 for length in lengths.values()), lengths)
-            for _ in range(8):
-                self.assertEqual(many.search("*", groups="tag").count, 20_000)
-
+            places = CLIENT.who_has([part.future])[part.future.key]
+            many._places._known[part.future.key] = sorted(places, key=lambda address: address in made_by)
+            many._places.changes += 1
+            self.assertEqual(many.search("*", groups="tag").count, 20_000)
+            with mock.patch.object(_plan.Plan, "wanted", autospec=True, side_effect=_plan.Plan.wanted) as wanted:
+                for _ in range(8):
+                    self.assertEqual(many.search("*", groups="tag").count, 20_000)
+            self.assertEqual(wanted.call_count, 8, "those that have the source alone are asked once")
 
     def test_source_alone(self) -> None:
         """A partition whose source alone is left is made on the worker that has it, also if that fails at first."""
@@ -630,6 +658,13 @@ class Lost(unittest.TestCase):
                 self.assertRaises(TimeoutError, call)
             self.assertEqual(many.search("*", timeout=300).count, 10)
             self.assertRaises(ValueError, many.search, "*", timeout=0)
+            with slow_answers(1):
+                self.assertRaises(TimeoutError, many.search, "*", timeout=0.3)
+                self.assertRaises(TimeoutError, many.search_many, ["*"] * 3_000, timeout=0.3)
+                rounds = many._channel._rounds
+                assert rounds
+                self.assertTrue(all(each.future.cancelled() for each in list(rounds._waiting)), "nobody waits for these")
+            self.assertEqual(many.search("*").count, 10)
 
 
 class Paths(unittest.TestCase):
@@ -668,6 +703,24 @@ class Paths(unittest.TestCase):
             while nodes:
                 self.assertTrue(all(len(node.below) <= 16 for node in nodes))
                 nodes = [each for node in nodes for each in node.below]
+
+    def test_wide_tree(self) -> None:
+        """A tree whose first joins what two others join, each with two below."""
+        sources = [source(first, first + 10) for first in range(0, 280, 10)]
+        asked = [line({"search": search}) for seed in range(5) for search in searches(seed)]
+        with Client(processes=False, n_workers=7, threads_per_worker=1, dashboard_address=None, set_as_default=False) as client:
+            with Cluster(client, SCHEMA, sources, progress=False) as many:
+                expected, nodes = many._channel.ask_each(asked, None), []
+
+                def trees(*given: Any) -> list[_requests.Node]:
+                    made = _requests.trees(*given)
+                    nodes.extend(made)
+                    return made
+
+                with mock.patch.object(_requests, "FAN_OUT", 2), mock.patch.object(_gathering, "trees", trees):
+                    self.assertEqual(many._channel.ask_each(asked, None), expected)
+                shapes = [[len(below.below) for below in node.below] for node in nodes]
+                self.assertIn([2, 2], shapes)
 
     def test_threads(self) -> None:
         """Workers of several threads, with more partitions than threads and with fewer, in one process with the client."""

@@ -72,8 +72,8 @@ class Cluster(Searching):
     `timeout`, in seconds, a search raises TimeoutError if it isn't answered in time; the cluster stays as it is.
 
     A partition that is lost with its worker is made again from its source; searches wait for it. If the source has
-    other lines by then, they raise SourceChanged until it is added again or dropped. If an OSError keeps it from being
-    read, that is tried again, and then SourceUnreadable is raised; the next search tries again. PartitionLost is raised
+    other lines by then, they raise SourceChanged until it is added again or dropped. If an exception keeps it from
+    being read, that is tried again, and then SourceUnreadable is raised; the next search tries again. PartitionLost is raised
     if a partition is lost again and again while a search asks for it. No search leaves a partition out: it answers over
     all of them, or raises, also what Dask raises when the cluster can't go on.
 
@@ -115,6 +115,7 @@ class Cluster(Searching):
     def drop_source(self, name: Union[str, os.PathLike[str]]) -> None:
         """Drops the partition of a source; the others stay as they are. KeyError if there is none of this name."""
         with self._lock:
+            self._check_open()
             parts = self._channel.parts
             del parts[os.fspath(name)]
             self._take(parts)
@@ -133,7 +134,8 @@ class Cluster(Searching):
         self._check_open()
         before, self._channel = self._channel.parts, self._joined(parts)
         here = {part.future.key for part in parts.values()}
-        self._places.forget(part.future.key for part in before.values() if part.future.key not in here)
+        gone = [part.future.key for part in before.values() if part.future.key not in here]
+        self._client.loop.add_callback(self._places.forget, gone)
 
     def _joined(self, parts: dict[str, Part]) -> Joined:
         return Joined(self._rounds(list(parts.values())))

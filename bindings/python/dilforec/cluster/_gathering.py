@@ -8,14 +8,14 @@ import collections
 import pickle
 import time
 from collections.abc import Mapping, Sequence
-from typing import Any, NoReturn
+from typing import Any
 
 import distributed
 from distributed.scheduler import KilledWorker
 
 from dilforec.cluster._connections import Connections, replied
 from dilforec.cluster._frames import Data
-from dilforec.cluster._partitions import PartitionLost, SourceChanged, SourceUnreadable
+from dilforec.cluster._partitions import PartitionLost, SourceChanged, SourceRefused, SourceUnreadable
 from dilforec.cluster._places import Part
 from dilforec.cluster._plan import Plan
 from dilforec.cluster._requests import (
@@ -89,25 +89,21 @@ class Gathering:
 
     async def _await_made(self, rank: int, part: Part) -> None:
         error = await part.future.exception()
-        if error is None:
-            return
-        if isinstance(error, OSError):
+        if error is not None:
             await self._try_again(rank, error)
             await self._places.retry(part.future, error)
-        else:
-            self._fail(part, error)
 
-    async def _try_again(self, rank: int, error: OSError) -> None:
-        """Waits before a source is read again, unless it was tried often enough."""
-        self._tries[rank] += 1
-        if self._tries[rank] >= TRIES:
-            raise SourceUnreadable(self._parts[rank].source) from error
-        await asyncio.sleep(BETWEEN_TRIES * self._tries[rank])
-
-    def _fail(self, part: Part, error: BaseException) -> NoReturn:
+    async def _try_again(self, rank: int, error: BaseException) -> None:
+        """Waits before a source is read again, unless it was tried often enough, or that would be of no use."""
+        part = self._parts[rank]
         if part.summary is None or isinstance(error, (MemoryError, KilledWorker)):
             raise error
-        raise SourceChanged(part.source) from error
+        if isinstance(error, SourceRefused):
+            raise SourceChanged(part.source) from error
+        self._tries[rank] += 1
+        if self._tries[rank] >= TRIES:
+            raise SourceUnreadable(part.source) from error
+        await asyncio.sleep(BETWEEN_TRIES * self._tries[rank])
 
     async def _replies(self, nodes: Sequence[Node], task: str, searches: bytes) -> list[Reply]:
         """What each worker, with those below it, replies."""
@@ -186,11 +182,9 @@ class Gathering:
             raise SourceChanged(part.source)
         if missing.why == UNMADE:
             self._unmade[missing.rank].add(address)
+            self._places.put_last(wanted.key, address)
         elif missing.why == FAILED:
-            error = pickle.loads(missing.error)
-            if not isinstance(error, OSError):
-                self._fail(part, error)
-            await self._try_again(missing.rank, error)
+            await self._try_again(missing.rank, pickle.loads(missing.error))
         elif missing.why != UNASKED:
             if missing.why == LOST:
                 self._places.failed(address, self._sent)

@@ -63,7 +63,7 @@ class SourceChanged(Exception):
 
 
 class SourceUnreadable(Exception):
-    """A lost partition can't be made again now: an OSError, which is the cause, keeps its source from being read.
+    """A lost partition can't be made again now: an exception, which is the cause, keeps its source from being read.
 
     It was tried several times. The next search tries again.
     """

@@ -67,6 +67,13 @@ class Places:
         answer = await self._client.who_has(futures)
         return {key: addresses for key, addresses in answer.items() if addresses}
 
+    def put_last(self, key: str, address: str) -> None:
+        """Puts a worker that has the source of a partition alone after the others."""
+        known = self._known.get(key, ())
+        if address in known:
+            self._known[key] = [*(each for each in known if each != address), address]
+            self.changes += 1
+
     def forget(self, keys: Iterable[str]) -> None:
         """Has the scheduler asked for these again."""
         for key in keys:

@@ -62,7 +62,12 @@ class Rounds:
         together = [_Waiting(searches[first:first + SEARCHES]) for first in range(0, len(searches), SEARCHES)]
         self._waiting.extend(together)
         self._client.loop.asyncio_loop.call_soon_threadsafe(self._begin)
-        return [answer for waiting in together for answer in self._result(waiting.future, deadline)]
+        try:
+            return [answer for waiting in together for answer in self._result(waiting.future, deadline)]
+        finally:
+            # Nobody waits for the others if one failed, or came too late.
+            for waiting in together:
+                waiting.future.cancel()
 
     def summaries(self) -> list[Summary]:
         """What each partition says of itself."""
