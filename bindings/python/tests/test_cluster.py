@@ -299,6 +299,20 @@ class Exact(unittest.TestCase):
 
 
 @contextlib.contextmanager
+def trees_of(fan_out: int) -> Iterator[list[_requests.Node]]:
+    """Workers ask so few others, from now on. The workers that the client asked itself, and those below."""
+    nodes: list[_requests.Node] = []
+
+    def trees(*given: Any) -> list[_requests.Node]:
+        made = _requests.trees(*given)
+        nodes.extend(made)
+        return made
+
+    with mock.patch.object(_requests, "FAN_OUT", fan_out), mock.patch.object(_gathering, "trees", trees):
+        yield nodes
+
+
+@contextlib.contextmanager
 def slow_answers(seconds: float) -> Iterator[None]:
     """The workers of now take their time for each search."""
     CLIENT.run(_slow_down, seconds)
@@ -681,16 +695,24 @@ class Paths(unittest.TestCase):
 
     def test_tree(self) -> None:
         """Workers that ask others, also if one of them dies and its own have to be asked again."""
-        with cluster(source(first, first + 50) for first in range(0, 600, 50)) as many, self.same(many):
-            patch = mock.patch.object(_requests, "FAN_OUT", 1)
-            patch.start()
-            self.addCleanup(patch.stop)
+        sources = [source(first, first + 50) for first in range(0, 600, 50)]
+        with contextlib.ExitStack() as stack, cluster(sources) as many, self.same(many):
+            nodes = stack.enter_context(trees_of(1))
             for _ in range(4):
                 self.assertEqual(many.search("*", groups="price").count, 600)
             with killing(1, "has_what"):
                 for _ in range(20):
                     self.assertEqual(many.search("*").count, 600)
-            self.assertEqual(far(many), [], "those below the one that died were never asked")
+            # The worker above tells who died, before the client looks by itself.
+            stack.enter_context(mock.patch.object(_gathering, "PATIENCE", 60))
+            with slow_answers(1.5), ThreadPoolExecutor(1) as thread:
+                answer = thread.submit(many.search, "*")
+                time.sleep(0.5)
+                (relay,) = nodes[-1].below
+                MACHINES.kill([relay.address])
+                MACHINES.four()
+                self.assertEqual(answer.result().count, 600)
+            self.assertEqual(far(many), [], "those below the one that died weren't asked")
 
     def test_trees(self) -> None:
         """Each worker is in a tree once, and none asks more than 16 others."""
@@ -710,17 +732,10 @@ class Paths(unittest.TestCase):
         asked = [line({"search": search}) for seed in range(5) for search in searches(seed)]
         with Client(processes=False, n_workers=7, threads_per_worker=1, dashboard_address=None, set_as_default=False) as client:
             with Cluster(client, SCHEMA, sources, progress=False) as many:
-                expected, nodes = many._channel.ask_each(asked, None), []
-
-                def trees(*given: Any) -> list[_requests.Node]:
-                    made = _requests.trees(*given)
-                    nodes.extend(made)
-                    return made
-
-                with mock.patch.object(_requests, "FAN_OUT", 2), mock.patch.object(_gathering, "trees", trees):
+                expected = many._channel.ask_each(asked, None)
+                with trees_of(2) as nodes:
                     self.assertEqual(many._channel.ask_each(asked, None), expected)
-                shapes = [[len(below.below) for below in node.below] for node in nodes]
-                self.assertIn([2, 2], shapes)
+                self.assertIn([2, 2], [[len(below.below) for below in node.below] for node in nodes])
 
     def test_threads(self) -> None:
         """Workers of several threads, with more partitions than threads and with fewer, in one process with the client."""
@@ -739,9 +754,10 @@ class Paths(unittest.TestCase):
             return failed
 
         with cluster([source(0, 10), source(10, 20), source(20, 30)]) as many, self.same(many):
-            patch = mock.patch.object(many._connections, "ask", fails)
-            patch.start()
-            self.addCleanup(patch.stop)
+            for name, stand_in in ("ask", fails), ("find", lambda address: None):
+                patch = mock.patch.object(many._connections, name, stand_in)
+                patch.start()
+                self.addCleanup(patch.stop)
 
     def test_connections(self) -> None:
         """Once there are connections nothing goes by rpc, until they end with the cluster, or with its client."""
@@ -785,7 +801,10 @@ class Paths(unittest.TestCase):
     def test_reached_again(self) -> None:
         """A worker that couldn't be reached is asked through the scheduler, and by itself again once it can be."""
         with cluster([source(0, 10)]) as many, self.same(many):
-            (address,) = MACHINES.with_partitions("has_what")
+            with_connections(many)
+            (address, connection), *_ = many._connections._connections.items()
+            CLIENT.run(_break)
+            wait_until(lambda: not connection.is_open)
             for _ in range(2):
                 many._places.failed(address, 0)
             self.assertEqual(far(many), [])
