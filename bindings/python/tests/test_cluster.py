@@ -677,7 +677,8 @@ class Lost(unittest.TestCase):
                 self.assertRaises(TimeoutError, many.search_many, ["*"] * 3_000, timeout=0.3)
                 rounds = many._channel._rounds
                 assert rounds
-                self.assertTrue(all(each.future.cancelled() for each in list(rounds._waiting)), "nobody waits for these")
+                left = [each.future.cancelled() for each in list(rounds._waiting)]
+                self.assertTrue(all(left), "nobody waits for these")
             self.assertEqual(many.search("*").count, 10)
 
 

@@ -73,9 +73,9 @@ class Cluster(Searching):
 
     A partition that is lost with its worker is made again from its source; searches wait for it. If the source has
     other lines by then, they raise SourceChanged until it is added again or dropped. If an exception keeps it from
-    being read, that is tried again, and then SourceUnreadable is raised; the next search tries again. PartitionLost is raised
-    if a partition is lost again and again while a search asks for it. No search leaves a partition out: it answers over
-    all of them, or raises, also what Dask raises when the cluster can't go on.
+    being read, that is tried again, and then SourceUnreadable is raised; the next search tries again. A search that
+    loses a partition again and again raises PartitionLost. No search leaves a partition out: it answers over all of
+    them, or raises, also what Dask raises when the cluster can't go on.
 
     It may be used from several threads. `close`, or the end of a `with`, drops the partitions; the client stays open.
     """

@@ -155,7 +155,7 @@ class Gathering:
         return replied(address, await self._client.scheduler.proxy(msg=sent, worker=address))
 
     async def _moved(self, node: Node) -> list[Missing]:
-        """What is missing if a worker, with those below it, isn't waited for: nothing, if the scheduler has all there."""
+        """What is missing if a worker, with those below it, isn't waited for; nothing, if all is where it was."""
         held = list(node.holders())
         now = await self._places.looked_up([self._parts[wanted.rank] for wanted, _ in held])
         absent = {wanted.rank for wanted, address in held if address not in now.get(wanted.key, ())}
