@@ -61,6 +61,8 @@ SCHEMA = (
 )
 CUTTINGS = int(os.environ.get("DILFOREC_CUTTINGS", 120))
 DOCUMENTS = int(os.environ.get("DILFOREC_DOCUMENTS", 400_000))
+# Of the kinds of sources of random documents, the one that has commits of its own, after so many of them.
+SCRIPT, COMMIT = 2, 5
 WORDS = [f"w{number}" for number in range(300)]
 # Texts that might be taken for a part of a reply.
 AWKWARD = [
@@ -117,11 +119,12 @@ def listed(documents: list[Document]) -> Callable[[], list[Document]]:
     return given
 
 
-def index_of(documents: Iterable[Document]) -> dilforec.Index:
-    """An index of its own, as a partition of these documents is."""
-    index = dilforec.Index(*SCHEMA)
-    index.add_many(documents)
-    index.commit()
+def index_of(documents: Sequence[Document], kind: int = 0) -> dilforec.Index:
+    """An index of its own, as the partition of a source of these documents is."""
+    index, step = dilforec.Index(*SCHEMA), COMMIT if kind == SCRIPT else len(documents) + 1
+    for first in range(0, len(documents) + 1, step):
+        index.add_many(documents[first:first + step])
+        index.commit()
     return index
 
 
@@ -174,14 +177,14 @@ class Exact(unittest.TestCase):
                 self.assertEqual(documents[0], documents[1])
 
     def compare_bytes(
-        self, names: list[str], parts: list[list[Document]], many: Cluster, asked: list[dict[str, Any]],
+        self, names: list[str], indexes: list[dilforec.Index], many: Cluster, asked: list[dict[str, Any]],
     ) -> None:
         """Replies are the bytes that joins makes of each partition's own. A refused line gets its refusal."""
         search = {"query": "*", "top": {"by": "temp", "k": 1_000, "order": "rising"}}
         commands: list[tuple[dict[str, Any], bytes | None]] = [({"search": search}, None) for search in asked]
         commands += [({"search": search}, b'["title"]'), ({"search": search, "x": 1}, None)]
         with contextlib.ExitStack() as stack:
-            searchers = [stack.enter_context(index_of(part)).searcher() for part in parts]
+            searchers = [stack.enter_context(index).searcher() for index in indexes]
             for command, fields in commands:
                 own = [channel_of(searcher).ask_each([line(command)], fields)[0] for searcher in searchers]
                 expected = own[0]
@@ -203,7 +206,7 @@ class Exact(unittest.TestCase):
                 with cluster(Documents(*each) for each in zip(names, map(listed, parts))) as many:
                     asked = [{"query": "*", "top": {"by": "temp", "k": k, "order": order}, "groups": "tag"}
                              for k in (1, 100, 700, 10_000) for order in ("rising", "falling")]
-                    self.compare_bytes(names, parts, many, asked)
+                    self.compare_bytes(names, list(map(index_of, parts)), many, asked)
 
     def test_random_cuttings(self) -> None:
         """The documents of random scripts, cut anyhow into files and functions; every other time, workers ask workers."""
@@ -215,7 +218,8 @@ class Exact(unittest.TestCase):
             parts: list[list[Document]] = [[] for _ in range(chance.randint(1, 5))]
             for document in commands:
                 chance.choice(parts).append(document)
-            sources = [self.source(f"{seed}.{place}", part, chance.randrange(3)) for place, part in enumerate(parts)]
+            kinds = [chance.randrange(3) for _ in parts]
+            sources = [self.source(f"{seed}.{place}", part, kinds[place]) for place, part in enumerate(parts)]
             between: contextlib.AbstractContextManager[Any] = contextlib.nullcontext()
             if seed % 2:
                 between = fan_out
@@ -225,7 +229,7 @@ class Exact(unittest.TestCase):
                 one.commit()
                 asked = searches(seed)
                 self.compare(one, many, asked)
-                self.compare_bytes([each.name for each in sources], parts, many, asked)
+                self.compare_bytes([each.name for each in sources], list(map(index_of, parts, kinds)), many, asked)
                 self.assertEqual(sum(count.documents for count in many.counts().values()), len(commands))
             compared += 1
         print(f"cluster: {compared} random cuttings compared")
@@ -235,9 +239,9 @@ class Exact(unittest.TestCase):
             return Documents(name, listed(documents))
         if kind == 1:
             return JsonLines(written(name, map(line, documents)))
-        # Its commits are where segments end.
-        lines = [line({"add": document}) + (b'\n{"commit":true}' if place % 5 == 4 else b"")
-                 for place, document in enumerate(documents)]
+        lines = [line({"add": document}) for document in documents]
+        for place in range(len(lines) // COMMIT * COMMIT, 0, -COMMIT):
+            lines.insert(place, b'{"commit":true}')
         return Script(written(name, lines))
 
     def test_many_documents(self) -> None:
@@ -678,7 +682,8 @@ class Lost(unittest.TestCase):
                 rounds = many._channel._rounds
                 assert rounds
                 left = [each.future.cancelled() for each in list(rounds._waiting)]
-                self.assertTrue(all(left), "nobody waits for these")
+                self.assertTrue(left and all(left), "nobody waits for these")
+            wait_until(lambda: not rounds._running)
             self.assertEqual(many.search("*").count, 10)
 
 
