@@ -269,9 +269,8 @@ def others() -> float:
     return statistics.fmean(looks)
 
 
-def wait_for_quiet(minutes: float) -> None:
-    """Waits until nearly nothing else runs, for so long at most."""
-    end = time.monotonic() + 60 * minutes
+def wait_for_quiet(end: float) -> None:
+    """Waits until nearly nothing else runs, or that time comes."""
     while time.monotonic() < end and others() >= QUIET:
         pass
 
@@ -292,15 +291,15 @@ def quickest(rounds: dict[str, list[dict[str, Any]]]) -> dict[str, dict[str, Any
     return {name: min(each, key=lambda found: float(found["mean"])) for name, each in rounds.items()}
 
 
-def point(count: int, turns: int, minutes: float) -> dict[str, Any]:
-    """All three ways over `count` documents. A quiet machine is waited for before, for so many minutes at most."""
-    wait_for_quiet(minutes)
+def point(count: int, turns: int, patient_until: float) -> dict[str, Any]:
+    """All three ways over `count` documents, on a quiet machine if there is one by then."""
+    wait_for_quiet(patient_until)
     with written(count, WORKERS) as paths:
         found: dict[str, Any] = {"documents": count, "load": os.getloadavg()[0], "json": sum(map(os.path.getsize, paths))}
         before = {name: built(name, paths) for name in WAYS}
         with Way("one", paths) as index, Way("threads", paths) as of_threads, Way("dask", paths) as cluster:
             ways = {"one": index, "threads": of_threads, "dask": cluster}
-            wait_for_quiet(minutes)
+            wait_for_quiet(patient_until)
             rounds = in_turns(ways, "mixed", turns)
         times = quickest(rounds)
         ratios = [mine["mean"] / theirs["mean"] for mine, theirs in zip(rounds["dask"], rounds["threads"])]
@@ -396,12 +395,13 @@ def joining() -> dict[str, Join]:
 
 
 def measure(counts: tuple[int, ...] = COUNTS, minutes: float = 0) -> dict[str, Any]:
-    """All that `shown` shows. `minutes` are how long to wait for a quiet machine before a point, at most."""
+    """All that `shown` shows. Points wait for a quiet machine, until so many minutes have passed since the first began."""
     with written(100_000, 1) as (path,):
         reading = min(read_alone(path) for _ in range(TURNS)) / 100_000 * 1e6
+    before = {"few": in_few(), "small": small(), "many": many()}
+    patient_until = time.monotonic() + 60 * minutes
     return {
-        "few": in_few(), "small": small(), "many": many(),
-        "points": [point(count, LAST_TURNS if count == counts[-1] else TURNS, minutes) for count in counts],
+        **before, "points": [point(count, LAST_TURNS if count == counts[-1] else TURNS, patient_until) for count in counts],
         "reading": reading, "joining": {name: list(took) for name, took in joining().items()},
         "processors": os.cpu_count(), "words each": WORDS_EACH, "event loop": "uvloop" if EVENT_LOOP else "asyncio",
     }
