@@ -681,9 +681,9 @@ class Lost(unittest.TestCase):
                 self.assertRaises(TimeoutError, many.search_many, ["*"] * 3_000, timeout=0.3)
                 rounds = many._channel._rounds
                 assert rounds
-                left = [each.future.cancelled() for each in list(rounds._waiting)]
+                left, running = [each.future.cancelled() for each in list(rounds._waiting)], rounds._running
                 self.assertTrue(left and all(left), "nobody waits for these")
-            wait_until(lambda: not rounds._running)
+            wait_until(lambda: not running)
             self.assertEqual(many.search("*").count, 10)
 
 
