@@ -83,6 +83,8 @@ class Gathering:
         if not wanted:
             await asyncio.gather(*(self._await_made(rank, self._parts[rank]) for rank in homeless))
         self._turn += 1
+        if not self._places.failures:
+            return trees(wanted, self._turn), homeless
         far = {address: each for address, each in wanted.items() if self._is_far(address)}
         near = {address: each for address, each in wanted.items() if address not in far}
         return trees(near, self._turn) + trees(far, self._turn), homeless
@@ -133,7 +135,7 @@ class Gathering:
         return [replies[reply] for reply in sent]
 
     def _send(self, node: Node, request: bytes) -> asyncio.Future[Data]:
-        if self._is_far(node.address):
+        if self._places.failures and self._is_far(node.address):
             return asyncio.ensure_future(self._send_through_scheduler(node.address, request))
         return self._connections.ask(node.address, request)
 
@@ -164,7 +166,7 @@ class Gathering:
     async def _take(self, node: Node, reply: Reply) -> list[int]:
         """Takes a worker's reply in, and returns the partitions that it lacks."""
         self._results.append(reply.results)
-        if reply.missing or self._places.have_failed:
+        if reply.missing or self._places.failures:
             await self._take_lacking(node, {missing.rank: missing for missing in reply.missing})
         return [missing.rank for missing in reply.missing]
 

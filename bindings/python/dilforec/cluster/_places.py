@@ -39,10 +39,10 @@ class Places:
     def __init__(self, client: distributed.Client) -> None:
         # How often something of this changed.
         self.changes = 0
+        # By address: how often in a row a worker couldn't be reached, and when that was counted. Usually it is empty.
+        self.failures: dict[str, tuple[int, float]] = {}
         self._client = client
         self._known: dict[str, Sequence[str]] = {}
-        # By address: how often in a row a worker couldn't be reached, and when that was counted.
-        self._failures: dict[str, tuple[int, float]] = {}
         self._retrying: dict[str, asyncio.Future[Any]] = {}
 
     async def find(self, parts: Iterable[Part]) -> dict[str, Sequence[str]]:
@@ -56,7 +56,7 @@ class Places:
             self._known.update(await self.looked_up(unknown))
             self.changes += 1
             here = set(itertools.chain.from_iterable(self._known.values()))
-            self._failures = {address: each for address, each in self._failures.items() if address in here}
+            self.failures = {address: each for address, each in self.failures.items() if address in here}
         return {key: self._known.get(key, ()) for key in keys}
 
     async def looked_up(self, parts: Iterable[Part]) -> dict[str, Sequence[str]]:
@@ -82,22 +82,17 @@ class Places:
 
     def failed(self, address: str, sent: float) -> None:
         """Counts that a worker couldn't be reached, once for all that had been sent by then."""
-        count, counted = self._failures.get(address, (0, -math.inf))
+        count, counted = self.failures.get(address, (0, -math.inf))
         if sent > counted:
-            self._failures[address] = count + 1, time.monotonic()
+            self.failures[address] = count + 1, time.monotonic()
 
     def reached(self, address: str) -> None:
         """Forgets the failures of a worker."""
-        self._failures.pop(address, None)
-
-    @property
-    def have_failed(self) -> bool:
-        """Whether there are failures."""
-        return bool(self._failures)
+        self.failures.pop(address, None)
 
     def is_far(self, address: str) -> bool:
         """Whether the client couldn't reach a worker, as from outside of the cluster's network."""
-        return address in self._failures and self._failures[address][0] >= FAILURES
+        return address in self.failures and self.failures[address][0] >= FAILURES
 
     async def retry(self, future: Any, error: BaseException) -> None:
         """Has a partition made again whose making raised this error. Searches that met the same one share that."""
