@@ -598,7 +598,8 @@ class Lost(unittest.TestCase):
         with cluster([Documents("mined", _mined), source(0, 10)]) as many, mock.patch.object(_gathering, "LOSSES", 3):
             with self.assertRaises(PartitionLost) as raised:
                 many.search("deadly")
-            self.assertEqual(raised.exception.source, "mined")
+            told = "the partition of mined was lost 3 times while one search asked for it"
+            self.assertEqual((raised.exception.source, str(raised.exception)), ("mined", told))
             MACHINES.four()
             self.assertEqual(many.search("*").count, 20)
 

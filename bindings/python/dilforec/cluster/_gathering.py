@@ -197,5 +197,5 @@ class Gathering:
         count, at, counted = self._losses.get(rank, (0, "", 0.0))
         if address != at or time.monotonic() - counted >= SAME_LOSS:
             if count + 1 == LOSSES:
-                raise PartitionLost(self._parts[rank].source)
+                raise PartitionLost(self._parts[rank].source, LOSSES)
             self._losses[rank] = count + 1, address, time.monotonic()

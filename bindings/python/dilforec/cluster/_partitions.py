@@ -78,17 +78,17 @@ class SourceUnreadable(Exception):
 
 
 class PartitionLost(Exception):
-    """A partition was made again some times, and lost each time, while one search asked for it.
+    """A partition was lost several times while one search asked for it.
 
-    So the search may be what ends its workers, as by their limit of memory.
+    That search may be what ends the workers, as by their limit of memory.
     """
 
-    def __init__(self, source: str) -> None:
-        super().__init__(source)
-        self.source = source
+    def __init__(self, source: str, times: int) -> None:
+        super().__init__(source, times)
+        self.source, self.times = source, times
 
     def __str__(self) -> str:
-        return f"the partition of {self.source} was lost again and again while a search asked for it"
+        return f"the partition of {self.source} was lost {self.times} times while one search asked for it"
 
 
 class Summary(NamedTuple):
