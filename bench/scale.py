@@ -5,9 +5,9 @@
 
 It needs `distributed` (tests/cluster.py says how to get it) and the shared object of bindings/python/link.py. Without an argument there are
 100,000, 1,000,000 and 10,000,000 documents, which take 16 GB of memory and 2 GB of disk. Each way runs in a process of its own. Those that are
-compared are there at the same time and take turns, TURNS rounds each, of which the quickest counts (SMALL_TURNS of the small clusters); the quickest
-of BUILDS builds counts too. Over the most documents they have LAST_TURNS rounds, and how many times as long a search takes on Dask as by threads is
-the median of the ratios of each turn. All ways read the same files of JSON lines, and must give the same counts, groups and values of top lists.
+compared are there at the same time and take turns, POINT_TURNS rounds each, of which the quickest counts (SMALL_TURNS of the small clusters, TURNS of
+many partitions); the quickest of BUILDS builds counts too. How many times as long a search takes on Dask as by threads is the median of the ratios of
+each turn. All ways read the same files of JSON lines, and must give the same counts, groups and values of top lists.
 
 `many` has the documents cut into many small partitions: long top lists beside one index, and searches from many threads. `model` takes its
 constants from some of the points, which `FITTED` names, and is judged by the others.
@@ -46,8 +46,8 @@ WORKERS = 4
 # Fewer than other timings have, so that ten million documents fit into a small machine.
 WORDS_EACH = 10
 TURNS, BUILDS = 4, 2
-# Rounds over the most documents.
-LAST_TURNS = 20
+# Rounds of the three ways: so many that a few of them don't matter, since a shared machine may be slow for seconds.
+POINT_TURNS = 20
 # Rounds of the small clusters, whose searches are short.
 SMALL_TURNS = 12
 # A machine on which fewer others run is quiet.
@@ -291,7 +291,7 @@ def quickest(rounds: dict[str, list[dict[str, Any]]]) -> dict[str, dict[str, Any
     return {name: min(each, key=lambda found: float(found["mean"])) for name, each in rounds.items()}
 
 
-def point(count: int, turns: int, patient_until: float) -> dict[str, Any]:
+def point(count: int, patient_until: float) -> dict[str, Any]:
     """All three ways over `count` documents, on a quiet machine if there is one by then."""
     wait_for_quiet(patient_until)
     with written(count, WORKERS) as paths:
@@ -300,10 +300,10 @@ def point(count: int, turns: int, patient_until: float) -> dict[str, Any]:
         with Way("one", paths) as index, Way("threads", paths) as of_threads, Way("dask", paths) as cluster:
             ways = {"one": index, "threads": of_threads, "dask": cluster}
             wait_for_quiet(patient_until)
-            rounds = in_turns(ways, "mixed", turns)
+            rounds = in_turns(ways, "mixed", POINT_TURNS)
         times = quickest(rounds)
         ratios = [mine["mean"] / theirs["mean"] for mine, theirs in zip(rounds["dask"], rounds["threads"])]
-        found |= {"turns": turns, "times": statistics.median(ratios)}
+        found |= {"turns": POINT_TURNS, "times": statistics.median(ratios)}
         for name, way in ways.items():
             found[name] = {**times[name], **{key: min(value, before[name].get(key, value)) for key, value in way.ready.items()}}
     return found
@@ -401,7 +401,7 @@ def measure(counts: tuple[int, ...] = COUNTS, minutes: float = 0) -> dict[str, A
     before = {"few": in_few(), "small": small(), "many": many()}
     patient_until = time.monotonic() + 60 * minutes
     return {
-        **before, "points": [point(count, LAST_TURNS if count == counts[-1] else TURNS, patient_until) for count in counts],
+        **before, "points": [point(count, patient_until) for count in counts],
         "reading": reading, "joining": {name: list(took) for name, took in joining().items()},
         "processors": os.cpu_count(), "words each": WORDS_EACH, "event loop": "uvloop" if EVENT_LOOP else "asyncio",
     }
@@ -592,11 +592,11 @@ def points_shown(raw: dict[str, Any], constants: dict[str, float]) -> tuple[str,
         cells += [figure(found[way]["median"]), figure(found[way]["most"])]
         rows.append(f"| {found['documents']:,} | {NAMES[way]} | " + " | ".join(cells) + " |")
     last = raw["points"][-1]
-    times, how = last["dask"]["mean"] / last["threads"]["mean"], "the ratio of the quickest rounds"
+    times, how = last["dask"]["mean"] / last["threads"]["mean"], "It is the ratio of the quickest rounds."
     # What was measured earlier has no ratios of turns.
     if "times" in last:
-        times, how = last["times"], f"the median of the ratios of {last['turns']} turns, in each of which both had a round, in either order by turns"
-    told = f"Over {last['documents']:,} documents a search takes {times:.2f} times as long on Dask as by threads: {how}."
+        times, how = last["times"], f"It is the median of the ratios of {last['turns']} turns, in each of which both had a round."
+    told = f"Over {last['documents']:,} documents a search takes {times:.2f} times as long on Dask as by threads. {how}"
     return "\n".join(rows) + f"\n\n{told}", ratios
 
 
