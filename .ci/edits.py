@@ -6,8 +6,9 @@
 
 An edit of .ci/edits/CRATE/ is applied to a copy of its crate. The prover then checks one function, with what that
 calls, over the libraries below. The edit is refused if this function isn't proved and its first error is the goal of
-its row, which is false under the edit. Before that a control proves one function that the crate's rows name, without an
-edit; the edits are tried over what the control leaves. Crates go side by side, as many as the kit's lanes hold.
+its row, which is false under the edit. Before that a control proves all functions that the crate's rows name, without an
+edit; the edits are tried over what the control leaves, so that what they call is proved once. Crates go side by side, as
+many as the kit's lanes hold.
 
 A check costs more to begin than to end. So edits that each change the body of their row's own function alone are tried
 some at a time, in one copy: no function is checked against the body of another. An edit that isn't refused there as its
@@ -161,6 +162,11 @@ def together(edits: list[Edit], folder: str) -> list[list[Edit]]:
     return groups + shared
 
 
+def not_proved(lines: list[str]) -> list[str]:
+    """The functions that a check, which printed these lines, doesn't prove, but for those that only call such a one."""
+    return re.findall(r"^fn (\S+): (?:not proved|no proof)\b(?!: it calls)", "\n".join(lines), re.M)
+
+
 def judge(edit: Edit, status: int, lines: list[str], is_unread: Callable[[str], bool]) -> None:
     """Raises NotRefused unless a check of an edit's function says what the edit's row says."""
     if status == 0:
@@ -170,7 +176,7 @@ def judge(edit: Edit, status: int, lines: list[str], is_unread: Callable[[str], 
     unread = [line for line in lines if is_unread(line)]
     if unread:
         raise NotRefused("is bad, since the prover can't read it", *unread[:3])
-    failed = re.findall(r"^fn (\S+): (?:not proved|no proof)\b", "\n".join(lines), re.M)
+    failed = not_proved(lines)
     if not any(name.endswith(f"::{edit.function}") for name in failed):
         raise NotRefused(f"is refused by {', '.join(failed) or 'no function'}, and its row says {edit.function}")
     placed = [line for line in lines if PLACED.match(line)]
@@ -204,16 +210,16 @@ class Trials:
         return ran.returncode, SECOND_LINE.sub(" ", ran.stdout).splitlines()
 
     def control(self, jobs: int) -> bool:
-        """Whether a function is proved without an edit."""
+        """Whether the functions of the rows are proved without an edit."""
         self.proved.mkdir()
         if not self.functions:
             return True
-        function = self.functions[0]
-        status, lines = self.check({}, [function], self.proved, jobs)
+        status, lines = self.check({}, self.functions, self.proved, jobs)
         if status:
-            say(f"{self.crate.name}: without an edit {function} isn't proved (status {status})", *lines[:9])
+            failed = ", ".join(not_proved(lines)) or "what is tried"
+            say(f"{self.crate.name}: without an edit {failed} isn't proved (status {status})", *lines[:9])
         else:
-            say(f"{self.crate.name}: {function} is proved without an edit")
+            say(f"{self.crate.name}: without an edit {', '.join(self.functions)}: proved")
         return status == 0
 
     def attempt(self, edits: list[Edit], is_sound: bool) -> list[bool]:

@@ -96,14 +96,14 @@ def main() -> int:
     for name, (*_, wanted) in EDITS.items():
         check(name, text, f"edits: small/{name} {wanted}")
     check("a row alone", text, "edits: small/gone has a row")
-    check("the control", text, "edits: small: next is proved without an edit")
+    check("the control", text, "edits: small: without an edit next, second: proved")
     check("a group", text, "edits: 2 of small are tried together")
     # The control and the good edits; all others, and the row.
     check("the last line", text, f"\n{1 + len(GOOD)} passed, {len(EDITS) - len(GOOD) + 1} failed\n")
     check("the status", str(status), "1")
 
     text, status = said(SOURCE.replace(NEXT, "    n"))
-    check("a wrong crate", text, "edits: small: without an edit next isn't proved")
+    check("a wrong crate", text, "edits: small: without an edit small::next isn't proved")
     for name in sorted(GOOD):
         check("an edit of it", text, f"edits: small/{name} isn't tried")
     return counts.end()
