@@ -488,13 +488,20 @@ def of_cluster(constants: dict[str, float], documents: float, partitions: int, w
             + joined(constants, documents, partitions, workers))
 
 
+def middle(count: int) -> int:
+    """The place of the point in the middle of so many."""
+    return count // 2
+
+
 def model(raw: dict[str, Any]) -> dict[str, float]:
     """The constants, in microseconds, bytes and milliseconds.
 
     Searches and memory are taken from one process over the fewest and the most documents, searches in few documents from a partition of FEW, builds
-    from the most, what threads add from the fewest documents, and what Dask adds from the clusters of FITTED.
+    from the most, and what Dask adds from the clusters of FITTED. What threads add grows a little with the documents, as longer searches meet more
+    often, so it is taken from the number of documents in the middle.
     """
     least, most = raw["points"][0], raw["points"][-1]
+    between = raw["points"][middle(len(raw["points"]))]
     documents, more = most["documents"], max(most["documents"] - least["documents"], 1)
     resident = (most["one"]["resident"] - least["one"]["resident"]) / more or least["one"]["resident"] / least["documents"]
     million = max((most["one"]["mean"] - least["one"]["mean"]) / more * 1e6, 0)
@@ -516,8 +523,8 @@ def model(raw: dict[str, Any]) -> dict[str, float]:
     constants["partition"] = max((many_of_four - base_of_four) / (full / workers - share / workers), 0)
     constants["worker"] = max((base_of_four - few + (parts - share / workers) * constants["partition"]) / (workers - 1), 0)
     constants["round"] = max(base_of_four - workers * constants["worker"] - share / workers * constants["partition"], 0)
-    of_threads = predicted("threads", constants, least["documents"])["mean"]
-    constants["handing"] = max(least["threads"]["mean"] - of_threads, 0)
+    of_threads = predicted("threads", constants, between["documents"])["mean"]
+    constants["handing"] = max(between["threads"]["mean"] - of_threads, 0)
     return constants
 
 
@@ -555,7 +562,7 @@ def is_fitted(way: str, name: str, place: int, count: int) -> bool:
         return place == count - 1
     if way == "one":
         return place in (0, count - 1)
-    return way == "threads" and name == "mean" and place == 0
+    return way == "threads" and name == "mean" and place == middle(count)
 
 
 def shown(raw: dict[str, Any]) -> str:
