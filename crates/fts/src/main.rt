@@ -2,8 +2,10 @@
 #![tactic(auto)]
 
 ghost use Rattle.std.specs.Prelude.{◌≡◌, ◌≢◌, ◌⊎◌};
+ghost use Rattle.std.specs.Io.KnownBytes.{IsAtEnd};
 ghost use Rattle.std.specs.Process.{exit_status};
-ghost use Rattle.fts_script.specs.Runs.{FailsNever, FailsRead, FailsWrite, Flushes, FlushesAll, ReadsTooMuch};
+ghost use Rattle.fts_script.specs.Runs.{FailsNever, FailsRead, FailsWrite, Flushes, FlushesAll, GainsWritten};
+ghost use Rattle.fts_script.specs.Runs.{LosesRead, ReadsTooMuch};
 ghost use Rattle.fts_script.specs.Runs.{StopsInLastRead, TellsEnd, WritesBeginning, WritesEnded, WritesOutput};
 ghost use Rattle.fts_cli.specs.Arguments.{arg_status_of, run_status_of, status_of};
 
@@ -52,15 +54,25 @@ fn run_standard<R: AllocGlobal + Sync + Eprint, E: EngineOver<R>, I: ScriptIn, O
     ensures none_failed { exit_status result.0 ≡ 0 → FailsNever
         (I.calls reader.old, O.calls writer.old) (I.calls reader.new, O.calls writer.new) }
 
+    // If the bytes that the reader has left and those that the writer holds are known, they are what was read and
+    // written.
+    ensures left { LosesRead (I.calls reader.old) (I.calls reader.new) }
+    ensures held { GainsWritten (O.calls writer.old) (O.calls writer.new) }
+    ensures nothing_left { TellsEnd (I.calls reader.old) (I.calls reader.new) → IsAtEnd (I.calls reader.new).remaining }
+
     ensures stopped { exit_status result.0 ≢ 0 → WritesBeginning
         (I.calls reader.old, O.calls writer.old) (I.calls reader.new, O.calls writer.new) }
     ensures memory { exit_status result.0 ≡ 3 → StopsInLastRead
+        (I.calls reader.old, O.calls writer.old) (I.calls reader.new, O.calls writer.new) }
+    ensures memory_alone { exit_status result.0 ≡ 3 → FailsNever
         (I.calls reader.old, O.calls writer.old) (I.calls reader.new, O.calls writer.new) }
     ensures failed { exit_status result.0 ≡ 4 → FailsWrite
         (I.calls reader.old, O.calls writer.old) (I.calls reader.new, O.calls writer.new)
         ⊎ (FailsRead (I.calls reader.old, O.calls writer.old) (I.calls reader.new, O.calls writer.new)
         × WritesEnded (I.calls reader.old, O.calls writer.old) (I.calls reader.new, O.calls writer.new)) }
     ensures used_up { exit_status result.0 ≡ 5 → ReadsTooMuch
+        (I.calls reader.old, O.calls writer.old) (I.calls reader.new, O.calls writer.new) }
+    ensures used_up_alone { exit_status result.0 ≡ 5 → FailsNever
         (I.calls reader.old, O.calls writer.old) (I.calls reader.new, O.calls writer.new) }
 {
     let outcome = run_script::<_, E, _, _>(rt, reader, writer, options);

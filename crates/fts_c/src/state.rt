@@ -251,7 +251,7 @@ impl State {
 
     /// The size of the index.
     pub(crate) fn stats(&self) -> Stats
-        ensures { AreStatsOf self.now.session.script.index result }
+        ensures { AreStatsOf self.now.session.engine self.now.session.script.index result }
     {
         match self.session.index() {
             Some(engine) => engine.stats(),

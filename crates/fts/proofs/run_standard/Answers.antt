@@ -17,6 +17,9 @@ returns-clause-stopped g c = λ ne. of_stop c.run_script-outcome.result _ (λ e.
 pub returns-clause-memory : goal.returns-clause-memory
 returns-clause-memory g c = λ e. c.run_script-outcome.ensures.memory (of_memory c.run_script-outcome.result (cc))
 
+pub returns-clause-memory_alone : goal.returns-clause-memory_alone
+returns-clause-memory_alone g c = λ e. c.run_script-outcome.ensures.memory_alone (of_memory c.run_script-outcome.result (cc))
+
 pub returns-clause-failed : goal.returns-clause-failed
 returns-clause-failed g c = λ e. ⊎_elim
     (λ write. inl (c.run_script-outcome.ensures.write_failed write))
@@ -25,3 +28,6 @@ returns-clause-failed g c = λ e. ⊎_elim
 
 pub returns-clause-used_up : goal.returns-clause-used_up
 returns-clause-used_up g c = λ e. c.run_script-outcome.ensures.used_up (of_used_up c.run_script-outcome.result (cc))
+
+pub returns-clause-used_up_alone : goal.returns-clause-used_up_alone
+returns-clause-used_up_alone g c = λ e. c.run_script-outcome.ensures.used_up_alone (of_used_up c.run_script-outcome.result (cc))
